@@ -1,0 +1,58 @@
+-- An i32 as the machine holds it, read as a difference of two counts.
+-- Assumes nothing.
+use mathlib.Core.Path.{_≡_, refl, sym, ap, _∙_, subst}
+use mathlib.Core.Bool.{Bool, true, false}
+use Prim.Native.Nat.{ℕ, zero, suc, _+_, _-_, _≤_, _<_, _^_}
+use native.Mathlib.Omega.{arith}
+use borrow.Author.Tests.{ltb-true, ltb-false}
+use lib.IntN.{ℤ, pos, negsuc}
+use lib.Signed.{ltZ, nonNeg, mag}
+use lib.Dec.{T}
+use mir.Syntax.{w32}
+use mir.Val.{SFits, toZ, ofZ}
+use mir.Facts.{toZ-ofZ}
+use Rattle.laws.specs.Whole.{Is, count}
+
+pub fits : (z : ℤ) {a b : ℕ} → Is z a b → a ≤ b + 2147483647 → b ≤ a + 2147483647 → SFits w32 z
+fits (pos n) h p q = record { sfits = omega arith }
+fits (negsuc n) h p q = record { sfits = omega arith }
+
+-- a number that was stored and read back
+pub word : (z : ℤ) {a b : ℕ} → Is z a b → a ≤ b + 2147483647 → b ≤ a + 2147483647 → Is (toZ w32 (ofZ w32 z)) a b
+word z h p q = rw (toZ-ofZ (fits z h p q)) h
+
+-- what a call gave or was passed, by its range
+pub back : (z : ℤ) → mag z < 2147483648 → toZ w32 (ofZ w32 z) ≡ z
+back z h = toZ-ofZ (record { sfits = h })
+
+-- a u16 cast to an i32
+pub short : (n : ℕ) → n < 65536 → Is (toZ w32 n) n 0
+short n h = word (pos n) (count n) (omega arith) (omega arith)
+
+-- a u32 cast to an i32
+pub held : (n : ℕ) → n < 2147483648 → Is (toZ w32 n) n 0
+held n h = word (pos n) (count n) (omega arith) (omega arith)
+
+-- a test that passed, and one that failed
+pub lt-yes : (z w : ℤ) {a b c d : ℕ} → Is z a b → Is w c d → ltZ z w ≡ true → a + d < c + b
+lt-yes (pos m) (pos n) h k t = omega (arith, ltb-true m n t)
+lt-yes (pos m) (negsuc n) h k t = omega (arith, the t)
+  where
+    the : false ≡ true → _≡_ {A = ℕ} 0 1
+    the e = cc
+lt-yes (negsuc m) (pos n) h k t = omega arith
+lt-yes (negsuc m) (negsuc n) h k t = omega (arith, ltb-true n m t)
+
+pub lt-no : (z w : ℤ) {a b c d : ℕ} → Is z a b → Is w c d → ltZ z w ≡ false → c + b ≤ a + d
+lt-no (pos m) (pos n) h k t = omega (arith, ltb-false m n t)
+lt-no (pos m) (negsuc n) h k t = omega arith
+lt-no (negsuc m) (pos n) h k t = omega (arith, the t)
+  where
+    the : true ≡ false → _≡_ {A = ℕ} 0 1
+    the e = cc
+lt-no (negsuc m) (negsuc n) h k t = omega (arith, ltb-false n m t)
+
+-- not negative
+pub non-neg : (z : ℤ) {a b : ℕ} → Is z a b → b ≤ a → T (nonNeg z)
+non-neg (pos n) h l = tt
+non-neg (negsuc n) h l = absurd (omega arith)

@@ -1,0 +1,16 @@
+pub mod Numbers
+pub mod Refusals
+pub mod SideTable
+pub mod Thresholds
+pub mod Lengths
+pub mod Width
+pub mod Taps
+pub mod Ramp
+pub mod Segment
+pub mod Lone
+pub mod Plane
+pub mod TuGrid
+pub mod QindexGrid
+pub mod Frame
+pub mod Ccso
+pub mod CSide

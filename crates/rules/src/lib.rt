@@ -1,0 +1,13 @@
+// Document 01: the types that its rules speak of. The rules themselves stand in specs/, one file a section.
+
+// Depths 8, 10 and 12: top sample, highest qindex, side offset and shift.
+pub mod depth;
+
+// The refusals by name, and the answer of a check.
+pub mod refusals;
+
+// An edge, where it stands in a plane, and the samples of a line across it.
+pub mod edge;
+
+// What each entry is told: settings by value.
+pub mod settings;
