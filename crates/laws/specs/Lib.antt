@@ -1,6 +1,8 @@
-pub mod Whole
-pub mod Table
-pub mod Machine
 pub mod Choose
+pub mod Tests
+pub mod Whole
+pub mod Machine
+pub mod Table
 pub mod Loops
+pub mod Lists
 pub mod Stores

@@ -32,6 +32,19 @@ same (negsuc m) (negsuc n) h k e = ap negsuc (omega arith)
 pub self : (z : ℤ) → Is z (over z) (under z)
 self z = record { eq = refl }
 
+-- what `split` gives
+pub parted : (z : ℤ) {a b : ℕ} → (a ≡ over z) × (b ≡ under z) → Is z a b
+parted z e = record { eq = omega arith }
+
+-- a number is not both above 0 and below it
+pub none-over : (z : ℤ) → over z < under z → 0 ≡ over z
+none-over (pos n) h = absurd (omega arith)
+none-over (negsuc n) h = refl
+
+pub none-under : (z : ℤ) → under z ≤ over z → 0 ≡ under z
+none-under (pos n) h = refl
+none-under (negsuc n) h = absurd (omega arith)
+
 pub count : (n : ℕ) → Is (pos n) n 0
 count n = record { eq = refl }
 
