@@ -1,8 +1,8 @@
 // Byte lists as C lends them: steps of four bytes, samples of two, low byte first.
 ghost use mathlib.Core.Path.{_≡_};
-ghost use Prim.Native.Nat.{_+_, _*_, _≤_, _<_};
+ghost use Prim.Native.Nat.{_+_, _*_, _/_, _≤_, _<_};
 ghost use lib.ListN.{length};
-ghost use Rattle.rules.specs.CSide.{stepAt, stepsIn, sampleOf, samplesIn, bytesOf};
+ghost use Rattle.rules.specs.CSide.{stepAt, stepsIn, sampleOf, samplesIn, byteAt, bytesOf};
 
 // Step k of a byte list.
 fn step(bytes: &[u8], k: usize) -> u32
@@ -15,7 +15,7 @@ fn step(bytes: &[u8], k: usize) -> u32
 
 // A byte as a larger number.
 fn wide(b: u8) -> u32
-    ensures { λ r. ⌜ r ≡ b ⌝ }
+    ensures { λ r. ⌜ (r ≡ b) × (r ≤ 255) ⌝ }
 {
     b as u32
 }
@@ -57,16 +57,30 @@ pub fn samples(bytes: &[u8]) -> [u16; 72]
     l
 }
 
+// The high byte of a sample.
+fn high(v: u16) -> u8
+    ensures { λ r. ⌜ r ≡ v / 256 ⌝ }
+{
+    (v / 256) as u8
+}
+
+// Byte i of the window's samples.
+fn byte(l: &[u16; 72], i: usize) -> u8
+    requires { ⌜ i < 144 ⌝ }
+    ensures { λ r. ⌜ r ≡ byteAt (now (l .entry)) i ⌝ }
+{
+    let v = l[i / 2];
+    if i % 2 == 0 { (v % 256) as u8 } else { high(v) }
+}
+
 // The window's bytes from its samples.
 pub fn put_samples(bytes: &mut [u8], l: &[u16; 72])
     requires { ⌜ length (now bytes) ≡ 144 ⌝ }
     ensures { λ _. ⌜ now (bytes .exit) ≡ bytesOf (now (l .entry)) ⌝ }
 {
     let mut k: usize = 0;
-    while k < 72 {
-        let v = l[k];
-        bytes[2 * k] = (v % 256) as u8;
-        bytes[2 * k + 1] = (v / 256) as u8;
+    while k < 144 {
+        bytes[k] = byte(l, k);
         k += 1;
     }
 }
