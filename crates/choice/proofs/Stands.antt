@@ -5,6 +5,7 @@ use mathlib.Core.Bool.{Bool, true, false}
 use mathlib.Core.List.{List}
 use Prim.Native.Nat.{ℕ, suc, _+_, _-_, _*_, _/_, _≤_, _<_}
 use native.Mathlib.Omega.{arith}
+use native.Mathlib.Decide.{ℕ-discrete}
 use borrow.Author.Needs.{needs}
 use borrow.Author.Tests.{le-leb, lt-leb}
 use lib.Dec.{leb}
@@ -37,6 +38,21 @@ first-distance = search needs
 
 pub next-distance : {d p : ℕ} → Distance d → d < p → p ≤ 8 → Distance (d + 2)
 next-distance h l m = record { least = omega arith; most = omega arith; even = omega arith }
+
+-- what holds at 4, 6 and 8 holds at every distance
+by-distance : (P : ℕ → Type 0) {d : ℕ} → Distance d → P 4 → P 6 → P 8 → P d
+by-distance P {d} h x y z = elim (ℕ-discrete d 4) [
+  | yes e ↦ rw e x
+  | no f ↦ elim (ℕ-discrete d 6) [
+    | yes e ↦ rw e y
+    | no g ↦ let e : d ≡ 8 = omega arith in rw e z
+  ]
+]
+
+-- the ramp that is tested at a distance lies no further out
+pub ramp-near : {d : ℕ} → Distance d → (atDistance 4 6 7 d ≤ d) × (atDistance 4 6 7 d ≤ 7)
+unfolding atDistance
+ramp-near h = by-distance (λ k. (atDistance 4 6 7 k ≤ k) × (atDistance 4 6 7 k ≤ 7)) h (omega arith, omega arith) (omega arith, omega arith) (omega arith, omega arith)
 
 -- ---- one test more
 module _ (ls : List Line) (n p q side g : ℕ) where
