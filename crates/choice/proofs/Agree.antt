@@ -1,16 +1,17 @@
 -- Windows whose lines 0 and 3 agree within a pair's reach have the same width: what lies beyond is not looked at.
 -- Assumes nothing.
-use mathlib.Core.Path.{_≡_, refl, sym, ap, _∙_}
+use mathlib.Core.Path.{_≡_, refl, ap}
 use mathlib.Core.Bool.{Bool, true, false}
 use mathlib.Core.List.{List}
 use Prim.Native.Nat.{ℕ, zero, suc, _+_, _*_, _/_, _%_, _≤_, _<_}
 use native.Mathlib.Omega.{arith}
-use borrow.Author.Tests.{leb-true, leb-false, eqb-true, eqb-false}
+use borrow.Author.Tests.{leb-true, leb-false, eqb-false}
 use lib.Dec.{eqb, ltb, leb}
-use Rattle.laws.specs.Choose.{pick, either, both}
+use Rattle.laws.specs.Choose.{pick, both}
 use Rattle.rules.specs.declared.edge.Line.{Line}
 use Rattle.rules.specs.Lengths.{mostBefore, mostAfter, reachBefore, reachAfter}
-use Rattle.rules.specs.Width.{pOf, qOf, avg, bendOf, slopeOf, dm2Of, d1Of, dm1Of, d0Of, rampBeforeOf, rampAfterOf, steepOf, atDistance, failsOf, fromOf, farOf, wideOf, gradeOf, widthOf}
+use Rattle.rules.specs.Width.{pOf, qOf, dm2Of, d1Of, dm1Of, d0Of, rampBeforeOf, rampAfterOf}
+use Rattle.rules.specs.Width.{steepOf, atDistance, failsOf, fromOf, farOf, wideOf, gradeOf, widthOf}
 use Rattle.choice.specs.Ends.{Distance}
 use Rattle.choice.proofs.Lengths.{SideFacts, After, one, three, four, six, eight, pair-facts}
 use Rattle.choice.proofs.Stands.{ramp-near, first-distance, next-distance}
@@ -21,6 +22,19 @@ pub record Agree (b a : ℕ) (ls ms : List Line) : Type 0 where
   pub before3 : (k : ℕ) → k < b → pOf ls 3 k ≡ pOf ms 3 k
   pub after0 : (k : ℕ) → k < a → qOf ls 0 k ≡ qOf ms 0 k
   pub after3 : (k : ℕ) → k < a → qOf ls 3 k ≡ qOf ms 3 k
+
+-- four lines that agree within the reach
+pub agree-four : {b a : ℕ} {ls ms : List Line} → ((j k : ℕ) → j < 4 → k < b → pOf ls j k ≡ pOf ms j k) → ((j k : ℕ) → j < 4 → k < a → qOf ls j k ≡ qOf ms j k) → Agree b a ls ms
+agree-four f g = record {
+  before0 = λ k. f 0 k (omega arith);
+  before3 = λ k. f 3 k (omega arith);
+  after0 = λ k. g 0 k (omega arith);
+  after3 = λ k. g 3 k (omega arith);
+}
+
+-- the first three samples of a side, which every reach has
+first-three : {r : ℕ} {f h : ℕ → ℕ} → 3 ≤ r → ((k : ℕ) → k < r → f k ≡ h k) → (f 0 ≡ h 0) × (f 1 ≡ h 1) × (f 2 ≡ h 2)
+first-three l e = (e 0 (omega arith), e 1 (omega arith), e 2 (omega arith))
 
 -- ---- choices agree where what they choose from agrees
 pick-agree : (t : Bool) (u : ℕ) {v y : ℕ} → (t ≡ false → v ≡ y) → pick t u v ≡ pick t u y
@@ -49,25 +63,37 @@ not-three six h k = (omega arith, refl)
 not-three eight h k = (omega arith, refl)
 
 module _ {n p b a : ℕ} (fb : SideFacts n b) (fa : SideFacts p a) (is : After p) {ls ms : List Line} (g : Agree b a ls ms) where
+  p0 : (pOf ls 0 0 ≡ pOf ms 0 0) × (pOf ls 0 1 ≡ pOf ms 0 1) × (pOf ls 0 2 ≡ pOf ms 0 2)
+  p0 = first-three (fb .reach-3) (g .before0)
+
+  p3 : (pOf ls 3 0 ≡ pOf ms 3 0) × (pOf ls 3 1 ≡ pOf ms 3 1) × (pOf ls 3 2 ≡ pOf ms 3 2)
+  p3 = first-three (fb .reach-3) (g .before3)
+
+  q0 : (qOf ls 0 0 ≡ qOf ms 0 0) × (qOf ls 0 1 ≡ qOf ms 0 1) × (qOf ls 0 2 ≡ qOf ms 0 2)
+  q0 = first-three (fa .reach-3) (g .after0)
+
+  q3 : (qOf ls 3 0 ≡ qOf ms 3 0) × (qOf ls 3 1 ≡ qOf ms 3 1) × (qOf ls 3 2 ≡ qOf ms 3 2)
+  q3 = first-three (fa .reach-3) (g .after3)
+
   -- ---- bends
-  pub dm2-agree : dm2Of ls ≡ dm2Of ms
-  dm2-agree = cc (g .before0 0 (omega arith), g .before0 1 (omega arith), g .before0 2 (omega arith), g .before3 0 (omega arith), g .before3 1 (omega arith), g .before3 2 (omega arith))
+  dm2-agree : dm2Of ls ≡ dm2Of ms
+  dm2-agree = let x = p0 in let y = p3 in cc
 
-  pub d1-agree : d1Of ls ≡ d1Of ms
-  d1-agree = cc (g .after0 0 (omega arith), g .after0 1 (omega arith), g .after0 2 (omega arith), g .after3 0 (omega arith), g .after3 1 (omega arith), g .after3 2 (omega arith))
+  d1-agree : d1Of ls ≡ d1Of ms
+  d1-agree = let x = q0 in let y = q3 in cc
 
-  pub dm1-agree : dm1Of ls ≡ dm1Of ms
-  dm1-agree = cc (g .before0 0 (omega arith), g .before0 1 (omega arith), g .after0 0 (omega arith), g .before3 0 (omega arith), g .before3 1 (omega arith), g .after3 0 (omega arith))
+  dm1-agree : dm1Of ls ≡ dm1Of ms
+  dm1-agree = let x = p0 in let y = p3 in let z = q0 in let w = q3 in cc
 
-  pub d0-agree : d0Of ls ≡ d0Of ms
-  d0-agree = cc (g .before0 0 (omega arith), g .after0 0 (omega arith), g .after0 1 (omega arith), g .before3 0 (omega arith), g .after3 0 (omega arith), g .after3 1 (omega arith))
+  d0-agree : d0Of ls ≡ d0Of ms
+  d0-agree = let x = p0 in let y = p3 in let z = q0 in let w = q3 in cc
 
   -- ---- ramps
   ramp-before : (k : ℕ) → k < b → rampBeforeOf ls k ≡ rampBeforeOf ms k
-  ramp-before k h = cc (g .before0 0 (omega arith), g .before0 1 (omega arith), g .before0 k h, g .before3 0 (omega arith), g .before3 1 (omega arith), g .before3 k h)
+  ramp-before k h = let x = p0 in let y = p3 in cc (g .before0 k h, g .before3 k h)
 
   ramp-after : (k : ℕ) → k < a → rampAfterOf ls k ≡ rampAfterOf ms k
-  ramp-after k h = cc (g .after0 0 (omega arith), g .after0 1 (omega arith), g .after0 k h, g .after3 0 (omega arith), g .after3 1 (omega arith), g .after3 k h)
+  ramp-after k h = let x = q0 in let y = q3 in cc (g .after0 k h, g .after3 k h)
 
   steep-agree : (k limit : ℕ) → k ≤ 7 → k ≤ p → steepOf ls n k limit ≡ steepOf ms n k limit
   unfolding steepOf
@@ -103,7 +129,7 @@ module _ {n p b a : ℕ} (fb : SideFacts n b) (fa : SideFacts p a) (is : After p
     grade-agree dm2 d1 =
         pick-agree _ _ (λ r. pick-agree _ _ (λ s. pick-agree (eqb p 1) 1 (λ t. pick-agree _ _ (λ u. wide-agree dm2 d1 (eqb-false p 1 t)))))
 
-  pub agree-width : (q side : ℕ) → widthOf ls n p q side ≡ widthOf ms n p q side
+  agree-width : (q side : ℕ) → widthOf ls n p q side ≡ widthOf ms n p q side
   unfolding widthOf
   agree-width q side = rw (dm2-agree, d1-agree, dm1-agree, d0-agree) (grade-agree q side (dm1Of ms + d0Of ms) (dm2Of ms) (d1Of ms))
 

@@ -56,7 +56,11 @@ ramp-near h = by-distance (λ k. (atDistance 4 6 7 k ≤ k) × (atDistance 4 6 7
 
 -- ---- one test more
 module _ (ls : List Line) (n p q side g : ℕ) where
-  from-step : (d : ℕ) → Distance d → fromOf ls n p q side g ((10 - d) / 2) d ≡ pick (failsOf ls n q side g d) (atDistance 3 4 6 d) (pick (leb p d) d (fromOf ls n p q side g ((10 - (d + 2)) / 2) (d + 2)))
+  -- the width by the tests from d on
+  abbrev from : ℕ → ℕ
+  from d = fromOf ls n p q side g ((10 - d) / 2) d
+
+  from-step : (d : ℕ) → Distance d → from d ≡ pick (failsOf ls n q side g d) (atDistance 3 4 6 d) (pick (leb p d) d (from (d + 2)))
   unfolding fromOf
   from-step d h =
       let e : (10 - d) / 2 ≡ suc ((10 - (d + 2)) / 2) = omega arith in
@@ -64,7 +68,7 @@ module _ (ls : List Line) (n p q side g : ℕ) where
 
   -- where the tests stand: what is left of them decides
   abbrev pub Stands : ℕ → Type 0
-  Stands d = farOf ls n p q side g ≡ fromOf ls n p q side g ((10 - d) / 2) d
+  Stands d = farOf ls n p q side g ≡ from d
 
   pub far-start : Stands 4
   unfolding farOf
