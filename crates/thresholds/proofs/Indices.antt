@@ -9,7 +9,7 @@ use borrow.Author.Tests.{leb-true}
 use lib.IntN.{ℤ, pos, negsuc, negℤ, natAbs, _+ℤ_, _-ℤ_, _*ℤ_}
 use lib.Signed.{leZ}
 use lib.Dec.{leb}
-use Rattle.laws.specs.Choose.{both}
+use Rattle.laws.specs.Choose.{both, both-parts, both-bad, both-later, both-ok, is-le, not-le}
 use Rattle.laws.specs.Whole.{Is, over, under, same, self, count, recast, plus, minus, scale, size-is, between, between-is}
 use Rattle.laws.specs.declared.Gap.{Gap}
 use Rattle.rules.specs.Numbers.{deltaOk, inRangeZ}
@@ -41,11 +41,6 @@ between-high low high (pos n) h = omega arith
 between-high low high (negsuc n) h = omega arith
 
 -- a delta of -128..127 in counts
-both-parts : (a b : Bool) → both a b ≡ true → (a ≡ true) × (b ≡ true)
-unfolding both
-both-parts true b e = (refl, e)
-both-parts false b e = absurd (let z : _≡_ {A = ℕ} 0 1 = cc in omega arith)
-
 pub record Small (delta : ℤ) : Type 0 where
   pub above : over delta ≤ 127
   pub below : under delta ≤ 128
@@ -59,6 +54,22 @@ small (negsuc n) ok =
 
 pub small-size : (delta : ℤ) → deltaOk delta ≡ true → natAbs delta ≤ 1000000000
 small-size delta ok = let s = small delta ok in omega (arith, size-is delta (self delta))
+
+-- how the two tests of a delta come out
+pub too-low : (delta : ℤ) → over delta + 128 < under delta → false ≡ deltaOk delta
+unfolding deltaOk inRangeZ
+too-low (pos n) h = absurd (omega arith)
+too-low (negsuc n) h = both-bad _ _ (not-le n 127 (omega arith))
+
+pub too-high : (delta : ℤ) → 127 + under delta < over delta → false ≡ deltaOk delta
+unfolding deltaOk inRangeZ
+too-high (pos n) h = both-later _ _ (not-le n 127 (omega arith))
+too-high (negsuc n) h = absurd (omega arith)
+
+pub in-range : (delta : ℤ) → under delta ≤ over delta + 128 → over delta ≤ 127 + under delta → true ≡ deltaOk delta
+unfolding deltaOk inRangeZ
+in-range (pos n) l h = both-ok _ _ _ refl (is-le n 127 (omega arith))
+in-range (negsuc n) l h = both-ok _ _ _ (is-le n 127 (omega arith)) refl
 
 -- qindex + 8·delta in counts
 pub index-is : (qindex : ℕ) (delta : ℤ) (g : Gap) → deltaOk delta ≡ true → qindex < 65536 → g .up ≡ qindex + 8 * over delta → g .down ≡ 8 * under delta → IndexIs qindex delta g

@@ -7,16 +7,17 @@ use Prim.Native.Nat.{ℕ, _+_, _/_, _≤_, _<_}
 use native.Mathlib.Omega.{arith}
 use borrow.Author.Tests.{eq-eqb, ne-eqb}
 use lib.Dec.{eqb}
-use lib.ListN.{getD, length}
+use lib.ListN.{getD}
 use lib.IntN.{ℤ, pos, negsuc}
 use Rattle.laws.specs.Choose.{pick}
-use Rattle.laws.specs.Whole.{Is, between, self}
+use Rattle.laws.specs.Whole.{Is, between}
 use Rattle.laws.specs.declared.Gap.{Gap}
+use Rattle.rules.specs.declared.refusals.Answer.the-variants.{Accepted}
 use Rattle.rules.specs.Numbers.{depthOk, highestOf}
-use Rattle.rules.specs.Thresholds.{isZero, stepOf, quantOf}
+use Rattle.rules.specs.Thresholds.{isZero, stepOf, quantOf, stepsCheck}
 use Rattle.rules.proofs.Depths.{by-depth}
 use Rattle.thresholds.specs.Index.{whole}
-use Rattle.thresholds.specs.Steps.{GoodSteps}
+use Rattle.thresholds.proofs.Accepted.{steps-most}
 use Rattle.thresholds.proofs.Indices.{whole-is, between-high}
 
 -- the highest qindex of a depth
@@ -50,18 +51,24 @@ pub place-within : (d : ℕ) (g : Gap) {h k : ℕ} → depthOk d ≡ true → h 
 place-within d g {h} ok p q = let m = highest d ok in omega (arith, between-high 1 h (whole g) (omega arith))
 
 -- every step of a good table, and so every q threshold, is limited
-pub step-most : (d : ℕ) (steps : List ℕ) (z : ℤ) → GoodSteps steps → stepOf d steps z ≤ 1048576
+pub step-most : (d : ℕ) (steps : List ℕ) (z : ℤ) → depthOk d ≡ true → stepsCheck steps ≡ Accepted → stepOf d steps z ≤ 1048576
 unfolding stepOf pick
-step-most d steps z good = either (isZero z)
+step-most d steps z ok good = either (isZero z)
   where
+    within : between 1 (highestOf d) z < 352
+    within = let m = highest d ok in omega (arith, between-high 1 (highestOf d) z (m .some))
+
     either : (b : Bool) → pick b 64 (getD steps (between 1 (highestOf d) z) 0) ≤ 1048576
     either true = omega arith
-    either false = good .most (between 1 (highestOf d) z)
+    either false = steps-most steps good (between 1 (highestOf d) z) within
 
 pub quant-most : (a : ℕ) → a ≤ 1048576 → quantOf a ≤ 2048
 unfolding quantOf
 quant-most a h = omega arith
 
 -- "q ≤ 2048": of any index
-pub q-most : (d : ℕ) (steps : List ℕ) (z : ℤ) → GoodSteps steps → quantOf (stepOf d steps z) ≤ 2048
-q-most d steps z good = quant-most (stepOf d steps z) (step-most d steps z good)
+pub q-most : (d : ℕ) (steps : List ℕ) (z : ℤ) → depthOk d ≡ true → stepsCheck steps ≡ Accepted → quantOf (stepOf d steps z) ≤ 2048
+q-most d steps z ok good = quant-most (stepOf d steps z) (step-most d steps z ok good)
+
+pub q-small : (d : ℕ) (steps : List ℕ) (z : ℤ) → depthOk d ≡ true → stepsCheck steps ≡ Accepted → {a : ℕ} → a ≡ quantOf (stepOf d steps z) → a ≤ 65535
+q-small d steps z ok good e = omega (arith, q-most d steps z ok good)

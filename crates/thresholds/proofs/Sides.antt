@@ -95,3 +95,6 @@ unfolding sideOf
 side-is d i lifted t p u v q e a b s =
     let w : whole lifted ≡ whole i -ℤ pos (offsetOf d) = whole-of lifted (whole i -ℤ pos (offsetOf d)) (minus (whole i) (pos (offsetOf d)) (whole-is i) (count (offsetOf d))) (omega arith) in
     s ∙ ap (lowered d) (whole-self t _ a b ∙ e ∙ ap entry (q ∙ ap (between 0 295) w))
+
+pub side-small : (d : ℕ) (i : ℤ) → depthOk d ≡ true → {a : ℕ} → a ≡ sideOf d i → a ≤ 65535
+side-small d i ok e = omega (arith, side-most d i ok)

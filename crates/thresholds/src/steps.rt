@@ -5,14 +5,14 @@ use rules::depth::Depth;
 ghost use mathlib.Core.Path.{_≡_};
 ghost use mathlib.Core.Bool.{true};
 ghost use Prim.Native.Nat.{_≤_};
+ghost use Rattle.rules.specs.declared.refusals.Answer.the-variants.{Accepted};
 ghost use Rattle.rules.specs.Numbers.{depthOk};
-ghost use Rattle.rules.specs.Thresholds.{stepOf, quantOf};
+ghost use Rattle.rules.specs.Thresholds.{stepOf, quantOf, stepsCheck};
 ghost use Rattle.thresholds.specs.Index.{whole};
-ghost use Rattle.thresholds.specs.Steps.{GoodSteps};
 
 // The AC step a(i).
 pub fn ac_quant_qtx(i: Gap, depth: Depth, steps: &[u32]) -> u32
-    requires { ⌜ (depthOk (depth .bits) ≡ true) × GoodSteps (now steps) ⌝ }
+    requires { ⌜ (depthOk (depth .bits) ≡ true) × (stepsCheck (now steps) ≡ Accepted) ⌝ }
     ensures { λ r. ⌜ r ≡ stepOf (depth .bits) (now (steps .entry)) (whole i) ⌝ }
 {
     if i.up == i.down {
@@ -32,7 +32,7 @@ fn quant(a: u32) -> u32
 
 // The q threshold of an index.
 pub fn df_quant_from_qindex(i: Gap, depth: Depth, steps: &[u32]) -> u32
-    requires { ⌜ (depthOk (depth .bits) ≡ true) × GoodSteps (now steps) ⌝ }
+    requires { ⌜ (depthOk (depth .bits) ≡ true) × (stepsCheck (now steps) ≡ Accepted) ⌝ }
     ensures { λ r. ⌜ r ≡ quantOf (stepOf (depth .bits) (now (steps .entry)) (whole i)) ⌝ }
 {
     quant(ac_quant_qtx(i, depth, steps))

@@ -1,6 +1,7 @@
 -- `ac_quant_qtx` is the AC step a(i). Assumes nothing.
 use native.Mathlib.Omega.{arith}
 use Rattle.thresholds.proofs.Quants.{highest, step-zero, step-other, place-within}
+use Rattle.thresholds.proofs.Accepted.{steps-long}
 use borrow.Author.Needs.{needs}
 use Rattle.thresholds.proofs.steps.ac_quant_qtx.Statement.{statement}
 use Rattle.thresholds.proofs.steps.ac_quant_qtx.Tie as tie
@@ -22,6 +23,7 @@ mul-result c = record { fits = omega (arith, place-within _ _ (c .before .before
 
 shared-slice-read-result : tie.Need-shared-slice-read-result
 shared-slice-read-result c =
+    let long = steps-long _ (c .before .before .before .before .before .before .pre .1) in
     omega (arith, place-within _ _ (c .before .before .before .before .before .before .pre .0) (c .before .before .highest .ensures) (c .before .limited .ensures))
 
 returns-2 : tie.Need-returns-2

@@ -10,7 +10,7 @@ ac-quant-qtx-requires : tie.Need-ac-quant-qtx-requires
 ac-quant-qtx-requires c κs = search needs
 
 quant-requires : tie.Need-quant-requires
-quant-requires c κs = rw (c .ac-quant-qtx .ensures) (step-most _ _ _ (c .before .before .pre .1))
+quant-requires c κs = rw (c .ac-quant-qtx .ensures) (step-most _ _ _ (c .before .before .pre .0) (c .before .before .pre .1))
 
 returns : tie.Need-returns
 returns c = c .quant .ensures ∙ ap quantOf (c .before .ac-quant-qtx .ensures)
