@@ -3,7 +3,6 @@ use Prim.Native.Nat.{ℕ, _+_, _-_}
 use mathlib.Core.List.{List}
 use mathlib.Core.Bool.{Bool, true, false}
 use lib.ListN.{length, getD}
-use lib.IntN.{ℤ, pos, negℤ}
 use lib.Dec.{ltb, leb, eqb}
 use Rattle.cases.specs.declared.number.Cursor.{Cursor}
 use Rattle.cases.specs.declared.number.Number.{Number}
@@ -48,8 +47,3 @@ numberAt xs c =
     (pick (ltb (length xs) (c .end)) (nothing (c .end))
     (pick (ltb (c .end) (c .at)) (nothing (c .end)) (signedAt xs (past xs (c .at) (c .end) 32) (c .end))))
     (nothing (c .end))
-
--- the whole number that is written so
-abbrev pub valueOf : Bool → ℕ → ℤ
-valueOf true n = negℤ (pos n)
-valueOf false n = pos n
