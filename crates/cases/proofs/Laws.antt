@@ -24,6 +24,7 @@ goes b value = go (ltb b 48) (ltb 57 b) (ltb value 100000000000000000) refl refl
   where
     no : {A : Type 0} → false ≡ true → A
     no e = let z : _≡_ {A = ℕ} 0 1 = cc in absurd (omega arith)
+
     go : (p q r : Bool) → ltb b 48 ≡ p → ltb 57 b ≡ q → ltb value 100000000000000000 ≡ r → both (opposite p) (both (opposite q) r) ≡ true → Goes b value
     go false false true e f g h = record { low = ltb-false _ _ e; high = ltb-false _ _ f; room = ltb-true _ _ g }
     go false false false e f g h = no h
