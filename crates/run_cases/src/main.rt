@@ -12,8 +12,8 @@ struct Tally {
 }
 
 // The buffer: the longest line that a stream may have.
-fn room() -> [u8; 65536] {
-    [0; 65536]
+fn room() -> [u8; 4194304] {
+    [0; 4194304]
 }
 
 // One number more, if there is one.

@@ -1,3 +1,4 @@
+-- `tally_all` ends by its count of turns; the buffer keeps its length. Assumes nothing.
 use mathlib.Core.Path.{_≡_}
 use lib.ListN.{length}
 use borrow.Author.Needs.{needs}

@@ -1,3 +1,4 @@
+-- `tally_line` ends: a turn for each byte at most. Assumes nothing.
 use borrow.Author.Needs.{needs}
 use Rattle.run_cases.proofs.tally_line.Statement.{statement}
 use Rattle.run_cases.proofs.tally_line.Tie as tie

@@ -1,3 +1,4 @@
+-- `newline` stays within the part that it looks at. Assumes nothing.
 use borrow.Author.Needs.{needs}
 use Prim.Native.Nat.{_-_, _≤_}
 use Rattle.cases.proofs.lines.newline.Statement.{statement}

@@ -1,3 +1,4 @@
+-- `read_on` fills within the buffer, which keeps its length; each turn fills more. Assumes nothing.
 use borrow.Author.Needs.{needs}
 use Prim.Native.Nat.{_-_, _≤_}
 use mathlib.Core.Path.{_≡_}

@@ -1,4 +1,5 @@
-use borrow.Author.Tests.{lt-ltb, le-ltb, lt-leb, le-leb, eq-eqb, ne-eqb, not-true, not-false}
+-- `close_number` takes a run that ends where it should: each test picks a case of `closed`. Assumes nothing.
+use borrow.Author.Tests.{lt-leb, le-leb, not-true, not-false}
 use mathlib.Core.Path.{sym, _∙_}
 use Rattle.cases.specs.Numbers.{closed}
 use borrow.Author.Needs.{needs}

@@ -1,4 +1,5 @@
-use Rattle.cases.proofs.Laws.{runs}
+-- `digits` reads a run of digits: what is left to read after each turn is what the whole run says. Assumes nothing.
+use Rattle.cases.proofs.Runs.{runs}
 use Prim.Native.Nat.{_-_, _≤_}
 use mathlib.Core.Path.{_≡_}
 use Rattle.cases.specs.Digits.{readDigits}

@@ -1,4 +1,5 @@
-use borrow.Author.Tests.{lt-ltb, le-ltb, lt-leb, le-leb, eq-eqb, ne-eqb, not-true, not-false}
+-- `ends_here` says whether a number may end: each test picks a case of `ends`. Assumes nothing.
+use borrow.Author.Tests.{lt-ltb, le-ltb}
 use Rattle.cases.specs.Numbers.{ends}
 use borrow.Author.Needs.{needs}
 use Rattle.cases.proofs.number.ends_here.Statement.{statement}

@@ -1,3 +1,4 @@
+-- `goes_on` says whether a byte is a digit that there is room for. Assumes nothing.
 use borrow.Author.Tests.{lt-ltb, le-ltb}
 use Rattle.cases.specs.Digits.{goesOn}
 use Rattle.cases.proofs.number.goes_on.Statement.{statement}

@@ -1,4 +1,5 @@
-use borrow.Author.Tests.{lt-ltb, le-ltb, lt-leb, le-leb, eq-eqb, ne-eqb, not-true, not-false}
+-- `next_number` is `numberAt`: each test picks a case. Assumes nothing.
+use borrow.Author.Tests.{lt-ltb, le-ltb, not-true, not-false}
 use Rattle.cases.specs.Numbers.{numberAt}
 use borrow.Author.Needs.{needs}
 use Rattle.cases.proofs.number.next_number.Statement.{statement}

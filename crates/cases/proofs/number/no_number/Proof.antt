@@ -1,3 +1,4 @@
+-- `no_number` is the definition's `nothing`. Assumes nothing.
 use mathlib.Core.Path.{refl}
 use Rattle.cases.specs.Numbers.{nothing}
 use Rattle.cases.proofs.number.no_number.Statement.{statement}

@@ -1,5 +1,6 @@
+-- `one_more` adds a digit: the value stays below 10^18, so nothing wraps. Assumes nothing.
 use native.Mathlib.Omega.{arith}
-use Rattle.cases.proofs.Laws.{goes}
+use Rattle.cases.proofs.Runs.{goes}
 use borrow.Author.Needs.{needs}
 use Rattle.cases.proofs.number.one_more.Statement.{statement}
 use Rattle.cases.proofs.number.one_more.Tie as tie

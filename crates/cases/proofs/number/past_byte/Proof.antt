@@ -1,4 +1,5 @@
-use borrow.Author.Tests.{lt-ltb, le-ltb, lt-leb, le-leb, eq-eqb, ne-eqb, not-true, not-false}
+-- `past_byte` steps over one byte where it stands: each test picks a case of `past`. Assumes nothing.
+use borrow.Author.Tests.{lt-ltb, le-ltb, eq-eqb, ne-eqb}
 use Rattle.cases.specs.Numbers.{past}
 use borrow.Author.Needs.{needs}
 use Rattle.cases.proofs.number.past_byte.Statement.{statement}

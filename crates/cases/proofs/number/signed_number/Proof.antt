@@ -1,3 +1,4 @@
+-- `signed_number` is `signedAt` by what its three calls ensure. Assumes nothing.
 use Rattle.cases.specs.Numbers.{signedAt}
 use borrow.Author.Needs.{needs}
 use Rattle.cases.proofs.number.signed_number.Statement.{statement}

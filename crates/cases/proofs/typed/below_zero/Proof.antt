@@ -1,3 +1,4 @@
+-- `below_zero` refuses what is below an i32: the test picks the case. Assumes nothing.
 use Rattle.cases.proofs.Signed.{minus-back}
 use borrow.Author.Tests.{lt-ltb, le-ltb}
 use Rattle.cases.specs.Typed.{belowZero}

@@ -1,3 +1,4 @@
+-- `from_zero` refuses what is above an i32: the test picks the case. Assumes nothing.
 use Rattle.cases.proofs.Signed.{plus-back}
 use borrow.Author.Tests.{lt-ltb, le-ltb}
 use Rattle.cases.specs.Typed.{fromZero}

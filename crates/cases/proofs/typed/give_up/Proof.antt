@@ -1,3 +1,4 @@
+-- `give_up` is the definition's `failed`. Assumes nothing.
 use mathlib.Core.Path.{refl}
 use Rattle.cases.specs.Typed.{failed}
 use Rattle.cases.proofs.typed.give_up.Statement.{statement}

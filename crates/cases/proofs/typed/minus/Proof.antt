@@ -1,3 +1,4 @@
+-- `minus` is the count below zero, in an i32's range. Assumes nothing.
 use Rattle.cases.proofs.Signed.{plus-is, minus-zero, minus-fits, minus-is}
 use borrow.Author.Needs.{needs}
 use Rattle.cases.proofs.typed.minus.Statement.{statement}

@@ -1,3 +1,4 @@
+-- `plus` is the count, in an i32's range. Assumes nothing.
 use Rattle.cases.proofs.Signed.{plus-is, minus-zero, minus-fits, minus-is}
 use borrow.Author.Needs.{needs}
 use Rattle.cases.proofs.typed.plus.Statement.{statement}

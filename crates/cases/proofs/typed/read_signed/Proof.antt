@@ -1,3 +1,4 @@
+-- `read_signed` is `signedOf` of the number: its sign picks the case. Assumes nothing.
 use Rattle.cases.specs.Typed.{signedOf}
 use borrow.Author.Needs.{needs}
 use Rattle.cases.proofs.typed.read_signed.Statement.{statement}

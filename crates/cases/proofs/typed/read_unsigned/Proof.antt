@@ -1,3 +1,4 @@
+-- `read_unsigned` is `unsignedOf` of the number: each test picks a case. Assumes nothing.
 use borrow.Author.Tests.{lt-ltb, le-ltb}
 use Rattle.cases.specs.Typed.{unsignedOf}
 use borrow.Author.Needs.{needs}
