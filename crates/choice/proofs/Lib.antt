@@ -5,3 +5,4 @@ pub mod Averages
 pub mod Stands
 pub mod Order
 pub mod Most
+pub mod Agree

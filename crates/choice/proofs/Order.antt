@@ -17,18 +17,9 @@ use borrow.Author.Needs.{needs}
 use Rattle.choice.proofs.Picks.{pick-eq, pick-ne, pick-lt, pick-ge, said-yes, said-not}
 
 -- one of two is over a limit exactly where the larger is
-pub either-max : (s e f : ℕ) (t : Bool) → either (ltb s e) (either (ltb s f) t) ≡ either (ltb s (max e f)) t
+either-max : (s e f : ℕ) → either (ltb s e) (ltb s f) ≡ ltb s (max e f)
 unfolding either
-either-max s e f t = out (ltb s e) (ltb s f) refl refl
-  where
-    out : (x y : Bool) → ltb s e ≡ x → ltb s f ≡ y → either (ltb s e) (either (ltb s f) t) ≡ either (ltb s (max e f)) t
-    out true y p q = let l : s < max e f = omega (arith, ltb-true s e p) in rw (p, lt-ltb _ _ l)
-    out false true p q = let l : s < max e f = omega (arith, ltb-true s f q) in rw (p, q, lt-ltb _ _ l)
-    out false false p q = let l : max e f ≤ s = omega (arith, ltb-false s e p, ltb-false s f q) in rw (p, q, le-ltb _ _ l)
-
-two-max : (s e f : ℕ) → either (ltb s e) (ltb s f) ≡ ltb s (max e f)
-unfolding either
-two-max s e f = out (ltb s e) (ltb s f) refl refl
+either-max s e f = out (ltb s e) (ltb s f) refl refl
   where
     out : (x y : Bool) → ltb s e ≡ x → ltb s f ≡ y → either (ltb s e) (ltb s f) ≡ ltb s (max e f)
     out true y p q = let l : s < max e f = omega (arith, ltb-true s e p) in rw (p, lt-ltb _ _ l)
@@ -59,18 +50,19 @@ byTests ls n p q side e g =
 
 grouped : (ls : List Line) (n p q side e f g : ℕ) → gradeOf ls n p q side e f g ≡ byTests ls n p q side (max e f) g
 unfolding gradeOf wideOf offOf oneOf twoOf
-grouped ls n p q side e f g = simp (two-max, either-max, three-tests, two-picks)
+grouped ls n p q side e f g = simp (either-max, three-tests, two-picks)
+
+-- lines 0 and 3 of a window, as the code takes them out
+abbrev endsOf : List Line → List Line
+endsOf ls = ends (getD ls 0 blank) (getD ls 3 blank)
 
 -- "only lines 0 and 3 decide"
-ends-decide : (ls : List Line) (n p q side : ℕ) → widthOf ls n p q side ≡ widthOf (ends (getD ls 0 blank) (getD ls 3 blank)) n p q side
+ends-decide : (ls : List Line) (n p q side : ℕ) → widthOf ls n p q side ≡ widthOf (endsOf ls) n p q side
 unfolding widthOf gradeOf wideOf farOf fromOf failsOf steepOf
 ends-decide ls n p q side = refl
 
-pub by-tests : (ls : List Line) (n p q side : ℕ) {e g z : ℕ}
-    → e ≡ max (dm2Of (ends (getD ls 0 blank) (getD ls 3 blank))) (d1Of (ends (getD ls 0 blank) (getD ls 3 blank)))
-    → g ≡ dm1Of (ends (getD ls 0 blank) (getD ls 3 blank)) + d0Of (ends (getD ls 0 blank) (getD ls 3 blank))
-    → z ≡ byTests (ends (getD ls 0 blank) (getD ls 3 blank)) n p q side e g
-    → z ≡ widthOf ls n p q side
+pub by-tests : (ls : List Line) (n p q side : ℕ) {e g z : ℕ} → e ≡ max (dm2Of (endsOf ls)) (d1Of (endsOf ls)) → g ≡ dm1Of (endsOf ls) + d0Of (endsOf ls)
+    → z ≡ byTests (endsOf ls) n p q side e g → z ≡ widthOf ls n p q side
 unfolding widthOf
 by-tests ls n p q side he hg hz = rw (he, hg) at hz ∙ sym (grouped _ n p q side _ _ _) ∙ sym (ends-decide ls n p q side)
 

@@ -5,6 +5,7 @@ use mathlib.Core.Bool.{Bool, true, false}
 use mathlib.Core.List.{List}
 use Prim.Native.Nat.{ℕ, suc, _+_, _-_, _*_, _/_, _≤_, _<_}
 use native.Mathlib.Omega.{arith}
+use native.Mathlib.Decide.{ℕ-discrete}
 use borrow.Author.Needs.{needs}
 use borrow.Author.Tests.{le-leb, lt-leb}
 use lib.Dec.{leb}
@@ -38,9 +39,28 @@ first-distance = search needs
 pub next-distance : {d p : ℕ} → Distance d → d < p → p ≤ 8 → Distance (d + 2)
 next-distance h l m = record { least = omega arith; most = omega arith; even = omega arith }
 
+-- what holds at 4, 6 and 8 holds at every distance
+by-distance : (P : ℕ → Type 0) {d : ℕ} → Distance d → P 4 → P 6 → P 8 → P d
+by-distance P {d} h x y z = elim (ℕ-discrete d 4) [
+  | yes e ↦ rw e x
+  | no f ↦ elim (ℕ-discrete d 6) [
+    | yes e ↦ rw e y
+    | no g ↦ let e : d ≡ 8 = omega arith in rw e z
+  ]
+]
+
+-- the ramp that is tested at a distance lies no further out
+pub ramp-near : {d : ℕ} → Distance d → (atDistance 4 6 7 d ≤ d) × (atDistance 4 6 7 d ≤ 7)
+unfolding atDistance
+ramp-near h = by-distance (λ k. (atDistance 4 6 7 k ≤ k) × (atDistance 4 6 7 k ≤ 7)) h (omega arith, omega arith) (omega arith, omega arith) (omega arith, omega arith)
+
 -- ---- one test more
 module _ (ls : List Line) (n p q side g : ℕ) where
-  from-step : (d : ℕ) → Distance d → fromOf ls n p q side g ((10 - d) / 2) d ≡ pick (failsOf ls n q side g d) (atDistance 3 4 6 d) (pick (leb p d) d (fromOf ls n p q side g ((10 - (d + 2)) / 2) (d + 2)))
+  -- the width by the tests from d on
+  abbrev from : ℕ → ℕ
+  from d = fromOf ls n p q side g ((10 - d) / 2) d
+
+  from-step : (d : ℕ) → Distance d → from d ≡ pick (failsOf ls n q side g d) (atDistance 3 4 6 d) (pick (leb p d) d (from (d + 2)))
   unfolding fromOf
   from-step d h =
       let e : (10 - d) / 2 ≡ suc ((10 - (d + 2)) / 2) = omega arith in
@@ -48,7 +68,7 @@ module _ (ls : List Line) (n p q side g : ℕ) where
 
   -- where the tests stand: what is left of them decides
   abbrev pub Stands : ℕ → Type 0
-  Stands d = farOf ls n p q side g ≡ fromOf ls n p q side g ((10 - d) / 2) d
+  Stands d = farOf ls n p q side g ≡ from d
 
   pub far-start : Stands 4
   unfolding farOf

@@ -3,8 +3,8 @@ use crate::sizes::apart;
 use rules::edge::Line;
 ghost use mathlib.Core.Path.{_≡_};
 ghost use Prim.Native.Nat.{_+_, _≤_};
-ghost use Rattle.rules.specs.Width.{pOf, qOf, slopeOf, steepOf};
-ghost use Rattle.choice.specs.Ends.{ends};
+ghost use Rattle.rules.specs.Width.{slopeOf, steepOf};
+ghost use Rattle.choice.specs.Ends.{ends, slopesOf};
 
 // |(a0 - ak) - k(a0 - a1)|
 fn slope(k: u32, a0: u16, a1: u16, ak: u16) -> u32
@@ -24,14 +24,14 @@ fn slopes(k: u32, a0: u16, a1: u16, ak: u16, b0: u16, b1: u16, bk: u16) -> u32
 
 fn slopes_before(a: Line, b: Line, k: usize) -> u32
     requires { ⌜ k ≤ 8 ⌝ }
-    ensures { λ r. ⌜ r ≡ slopeOf k (pOf (ends a b) 0 0) (pOf (ends a b) 0 1) (pOf (ends a b) 0 k) + slopeOf k (pOf (ends a b) 3 0) (pOf (ends a b) 3 1) (pOf (ends a b) 3 k) ⌝ }
+    ensures { λ r. ⌜ r ≡ slopesOf k (a .p) (b .p) ⌝ }
 {
     slopes(k as u32, a.p[0], a.p[1], a.p[k], b.p[0], b.p[1], b.p[k])
 }
 
 fn slopes_after(a: Line, b: Line, k: usize) -> u32
     requires { ⌜ k ≤ 8 ⌝ }
-    ensures { λ r. ⌜ r ≡ slopeOf k (qOf (ends a b) 0 0) (qOf (ends a b) 0 1) (qOf (ends a b) 0 k) + slopeOf k (qOf (ends a b) 3 0) (qOf (ends a b) 3 1) (qOf (ends a b) 3 k) ⌝ }
+    ensures { λ r. ⌜ r ≡ slopesOf k (a .q) (b .q) ⌝ }
 {
     slopes(k as u32, a.q[0], a.q[1], a.q[k], b.q[0], b.q[1], b.q[k])
 }

@@ -6,3 +6,8 @@ pub mod Table
 pub mod Loops
 pub mod Lists
 pub mod Stores
+pub mod Footprints
+pub mod Boxes
+pub mod Trace
+pub mod Schedules
+pub mod Reorder

@@ -1,6 +1,5 @@
 -- Properties of a list's elements: of every one, of some one, of every pair; kept by `++` and by a loop.
 -- Assumes nothing.
-use mathlib.Core.Path.{_≡_}
 use mathlib.Core.Logic.{_⊎_, inl, inr}
 use mathlib.Core.List.{List, [], _∷_, _++_, map}
 use Prim.Native.Nat.{ℕ, zero, suc, _<_}

@@ -4,7 +4,7 @@
 use mathlib.Core.Path.{_≡_, refl, sym, ap, ap₂, _∙_}
 use mathlib.Core.List.{List, [], _∷_, _++_, append-assoc, append-nil}
 use Prim.Native.Nat.{ℕ, zero, suc, _+_, _-_, _*_, _≤_, _<_, min}
-use native.Mathlib.Nat.{le-refl, le-step, le-antisymm, add-zero, add-suc, mul-zero, mul-suc, suc-mul, min-zero, not-suc-le-zero}
+use native.Mathlib.Nat.{le-refl, le-step, le-antisymm, add-zero, add-suc, zero-mul, suc-mul, min-zero, not-suc-le-zero}
 use native.Mathlib.Numerals.{add-one}
 use native.Mathlib.Decide.{decLe, ℕ-discrete}
 use native.Mathlib.Omega.{arith}
@@ -94,33 +94,33 @@ module _ {A : Type 0} (f : ℕ → A) where
 
 module _ {A : Type 0} (f : ℕ → List A) where
   -- of w turns each: the last piece may be short, and those after it are empty
-  pub each-cut : (w m n : ℕ) → each n (λ k. each (min w (m - w * k)) (λ i. f (w * k + i))) ≡ each (min m (w * n)) f
+  pub each-cut : (w m n : ℕ) → each n (λ k. each (min w (m - k * w)) (λ i. f (k * w + i))) ≡ each (min m (n * w)) f
   unfolding each
-  each-cut w m zero = ap (λ (k : ℕ). each k f) (sym (ap (min m) (mul-zero w) ∙ min-zero m))
+  each-cut w m zero = ap (λ (k : ℕ). each k f) (sym (ap (min m) (zero-mul w) ∙ min-zero m))
   each-cut w m (suc n) =
-      ap (λ (l : List A). l ++ each (min w (m - w * n)) (λ i. f (w * n + i))) (each-cut w m n)
-      ∙ elim (decLe (w * n) m) [
+      ap (λ (l : List A). l ++ each (min w (m - n * w)) (λ i. f (n * w + i))) (each-cut w m n)
+      ∙ elim (decLe (n * w) m) [
         | yes h ↦
-            ap (λ (k : ℕ). each k f ++ each (min w (m - w * n)) (λ i. f (w * n + i))) (full h)
-            ∙ sym (each-add f (w * n) (min w (m - w * n)))
+            ap (λ (k : ℕ). each k f ++ each (min w (m - n * w)) (λ i. f (n * w + i))) (full h)
+            ∙ sym (each-add f (n * w) (min w (m - n * w)))
             ∙ ap (λ (k : ℕ). each k f) (next h)
         | no h ↦
-            ap (λ (k : ℕ). each (min m (w * n)) f ++ each k (λ i. f (w * n + i))) (short h)
-            ∙ append-nil (each (min m (w * n)) f)
+            ap (λ (k : ℕ). each (min m (n * w)) f ++ each k (λ i. f (n * w + i))) (short h)
+            ∙ append-nil (each (min m (n * w)) f)
             ∙ ap (λ (k : ℕ). each k f) (long h)
       ]
     where
-      full : w * n ≤ m → min m (w * n) ≡ w * n
+      full : n * w ≤ m → min m (n * w) ≡ n * w
       full h = omega arith
 
-      next : w * n ≤ m → w * n + min w (m - w * n) ≡ min m (w * suc n)
-      next h = omega (arith, mul-suc w n)
+      next : n * w ≤ m → n * w + min w (m - n * w) ≡ min m (suc n * w)
+      next h = omega (arith, suc-mul n w)
 
-      short : ¬ (w * n ≤ m) → min w (m - w * n) ≡ 0
+      short : ¬ (n * w ≤ m) → min w (m - n * w) ≡ 0
       short h = omega arith
 
-      long : ¬ (w * n ≤ m) → min m (w * n) ≡ min m (w * suc n)
-      long h = omega (arith, mul-suc w n)
+      long : ¬ (n * w ≤ m) → min m (n * w) ≡ min m (suc n * w)
+      long h = omega (arith, suc-mul n w)
 
   -- cut at rising places
   pub each-pieces : (a : ℕ → ℕ) (n : ℕ) → a 0 ≡ 0 → ((k : ℕ) → k < n → a k ≤ a (suc k))

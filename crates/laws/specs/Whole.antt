@@ -1,9 +1,9 @@
 -- Whole numbers (ℤ of lib.IntN) read as differences of two counts, so that `omega`, which reads ℕ alone, can decide facts on them.
 -- `Is z a b` says z = a - b. Each operation has a law that keeps the form, and `same` closes an equation of ℤ by one of ℕ.
 -- Assumes nothing.
-use mathlib.Core.Path.{_≡_, refl, sym, ap, _∙_}
+use mathlib.Core.Path.{_≡_, refl, ap, _∙_}
 use mathlib.Core.Bool.{Bool, true, false, not, cond}
-use Prim.Native.Nat.{ℕ, zero, suc, _+_, _*_, _-_, _/_, _%_, _≤_, _<_, min, max}
+use Prim.Native.Nat.{ℕ, zero, suc, _+_, _*_, _-_, _/_, _≤_, _<_, min, max}
 use native.Mathlib.Omega.{arith}
 use native.Mathlib.Nat.{mul-add, add-mul}
 use lib.Dec.{T, ltb, ltb→lt, nltb→le}
