@@ -13,7 +13,6 @@ use Rattle.rules.specs.declared.edge.Line.{Line}
 use Rattle.rules.specs.Width.{blank, dm2Of, d1Of, dm1Of, d0Of, steepOf, failsOf, fromOf, farOf, wideOf, gradeOf, widthOf}
 use Rattle.choice.specs.Ends.{ends}
 use Rattle.choice.specs.Tests.{offOf, oneOf, twoOf}
-use borrow.Author.Needs.{needs}
 use Rattle.choice.proofs.Picks.{pick-eq, pick-ne, pick-lt, pick-ge, said-yes, said-not}
 
 -- one of two is over a limit exactly where the larger is
@@ -66,4 +65,11 @@ pub by-tests : (ls : List Line) (n p q side : ℕ) {e g z : ℕ} → e ≡ max (
 unfolding widthOf
 by-tests ls n p q side he hg hz = rw (he, hg) at hz ∙ sym (grouped _ n p q side _ _ _) ∙ sym (ends-decide ls n p q side)
 
-pub ruleset widths = (needs, refl, pick-eq, pick-ne, pick-lt, pick-ge, said-yes, said-not, by-tests)
+-- before a bend is measured, and before those across the edge are
+pub off-none : (ls : List Line) (n p q side : ℕ) {r : Bool} → r ≡ offOf q side → r ≡ true → 0 ≡ widthOf ls n p q side
+off-none ls n p q side h y = by-tests ls n p q side refl refl (said-yes _ _ _ _ _ h y refl)
+
+pub bent-none : (ls : List Line) (n p q side : ℕ) {e : ℕ} {r : Bool} → e ≡ max (dm2Of (endsOf ls)) (d1Of (endsOf ls)) → r ≡ offOf q side → r ≡ false → side < e → 0 ≡ widthOf ls n p q side
+bent-none ls n p q side he h y l = by-tests ls n p q side he refl (said-not _ _ _ _ _ h y (pick-lt _ _ _ _ _ l refl))
+
+pub ruleset widths = (refl, pick-eq, pick-ne, pick-ge, said-yes, said-not, by-tests, off-none, bent-none)

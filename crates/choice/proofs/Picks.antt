@@ -3,7 +3,6 @@
 use mathlib.Core.Path.{_≡_, refl, sym, _∙_}
 use mathlib.Core.Bool.{Bool, true, false}
 use Prim.Native.Nat.{ℕ, _≤_, _<_}
-use borrow.Author.Needs.{needs}
 use borrow.Author.Tests.{ltb-true, ltb-false, eq-eqb, ne-eqb, lt-ltb, le-ltb, le-leb, lt-leb}
 use lib.Dec.{eqb, ltb, leb}
 use Rattle.laws.specs.Choose.{pick, either, both}
@@ -49,9 +48,7 @@ pub said-not : (u v z : ℕ) (r t : Bool) → r ≡ t → r ≡ false → z ≡ 
 unfolding pick
 said-not u v z r t e y f = rw (← e, y) f
 
-pub ruleset ladders = (needs, refl, pick-eq, pick-ne, pick-past, pick-yes, pick-not)
-
-pub ruleset picks = (needs, refl, pick-eq, pick-ne, pick-lt, pick-ge, said-yes, said-not)
+pub ruleset ladders = (refl, pick-eq, pick-ne, pick-past, pick-yes, pick-not)
 
 -- ---- one test or another
 module _ (a b : ℕ) (t : Bool) where
@@ -88,7 +85,7 @@ module _ (a b : ℕ) (t : Bool) where
   unfolding both
   and-gt h = rw (lt-leb _ _ h)
 
-pub ruleset ors = (needs, refl, or-eq, or-ne, or-lt, or-ge)
+pub ruleset ors = (refl, or-eq, or-ne, or-lt, or-ge)
 
 -- ---- two tests that are one
 pub same-test : (a b c d : ℕ) → (a < b → c < d) → (b ≤ a → d ≤ c) → ltb a b ≡ ltb c d

@@ -1,8 +1,5 @@
 // Document 01's thresholds: q and side of an edge from the qindex of its two blocks.
 
-// Signed numbers as differences of two counts.
-pub mod split;
-
 // The index of a block, and its limits.
 pub mod index;
 

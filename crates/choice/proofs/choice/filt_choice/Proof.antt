@@ -1,8 +1,6 @@
 -- `choice::filt_choice` meets its contract: the tests in the order of the code choose the same width.
 -- Assumes nothing.
-use Rattle.choice.proofs.Picks.{picks}
-use mathlib.Core.Path.{refl}
-use Rattle.choice.proofs.Order.{widths, by-tests}
+use Rattle.choice.proofs.Order.{widths}
 use borrow.Author.Needs.{needs}
 use Rattle.choice.proofs.choice.filt_choice.Statement.{statement}
 use Rattle.choice.proofs.choice.filt_choice.Tie as tie
@@ -11,7 +9,7 @@ off-requires : tie.Need-off-requires
 off-requires c κs = search needs
 
 returns : tie.Need-returns
-returns c = by-tests _ _ _ _ _ refl refl (search picks depth 16)
+returns c = search widths depth 16
 
 array-copy-out-a : tie.Need-array-copy-out-a
 array-copy-out-a c = search needs
@@ -23,7 +21,7 @@ beside-requires : tie.Need-beside-requires
 beside-requires c κs = search needs
 
 returns-2 : tie.Need-returns-2
-returns-2 c = by-tests _ _ _ _ _ (c .before .beside .ensures) refl (search picks depth 16)
+returns-2 c = search widths depth 16
 
 across-requires : tie.Need-across-requires
 across-requires c κs = search needs
