@@ -10,7 +10,10 @@ fn step(bytes: &[u8], k: usize) -> u32
     ensures { λ r. ⌜ r ≡ stepAt (now (bytes .entry)) k ⌝ }
 {
     let at = 4 * k;
-    wide(bytes[at]) + 256 * wide(bytes[at + 1]) + 65536 * wide(bytes[at + 2]) + 16777216 * wide(bytes[at + 3])
+    wide(bytes[at])
+        + 256 * wide(bytes[at + 1])
+        + 65536 * wide(bytes[at + 2])
+        + 16777216 * wide(bytes[at + 3])
 }
 
 // A byte as a larger number.

@@ -1,3 +1,4 @@
+-- `byte` is the low byte at even places and the high byte at odd ones. Assumes nothing.
 use native.Mathlib.Omega.{arith}
 use borrow.Author.Tests.{eq-eqb, ne-eqb}
 use Rattle.laws.specs.Choose.{pick}
@@ -5,32 +6,23 @@ use Rattle.rules.specs.CSide.{byteAt}
 use borrow.Author.Needs.{needs}
 use Rattle.cside.proofs.bytes.byte.Statement.{statement}
 use Rattle.cside.proofs.bytes.byte.Tie as tie
-use Rattle.cside.proofs.bytes.byte.Reads as reads
-use Rattle.cside.proofs.bytes.byte.Lts as lts
-use Rattle.cside.proofs.bytes.high.Reads as high-reads
 
--- src/bytes.rt:72:13
 mul-v : tie.Need-mul-v
 mul-v c = search needs
 
--- src/bytes.rt:72:13
 element-copy-out-v : tie.Need-element-copy-out-v
 element-copy-out-v c = search needs
 
--- src/bytes.rt:73:21
 cast-result : tie.Need-cast-result
 cast-result c = search needs
 
--- src/bytes.rt:73:46
 high-requires : tie.Need-high-requires
 high-requires c κs = search needs
 
--- src/bytes.rt:68:1
 returns : tie.Need-returns
 unfolding byteAt pick
 returns c = rw (eq-eqb _ _ (c .if1 .taken))
 
--- src/bytes.rt:68:1
 returns-2 : tie.Need-returns-2
 unfolding byteAt pick
 returns-2 c = rw (ne-eqb _ _ (c .before .if1 .left)) (c .high .ensures)

@@ -1,3 +1,4 @@
+-- `put_samples` fills the window with the bytes of its samples. Assumes nothing.
 use native.Mathlib.Omega.{arith}
 use Prim.Native.Nat.{ℕ, _+_, _-_, _≤_}
 use mathlib.Core.Path.{_≡_}
@@ -7,9 +8,6 @@ use Rattle.rules.specs.CSide.{stepAt, stepsIn, sampleOf, samplesIn, byteAt, byt
 use Rattle.cside.proofs.Fills.{fills, whole-end}
 use Rattle.cside.proofs.bytes.put_samples.Statement.{statement}
 use Rattle.cside.proofs.bytes.put_samples.Tie as tie
-use Rattle.cside.proofs.bytes.put_samples.Reads as reads
-use Rattle.cside.proofs.bytes.put_samples.Lts as lts
-use Rattle.cside.proofs.bytes.byte.Reads as byte-reads
 
 abbrev Inv-loop : tie.InvT-loop
 Inv-loop bytes₀ l k₀ bytes k = (k ≤ 144) × (bytes ≡ filled bytes₀ (λ i. byteAt l i) k) × (length bytes ≡ 144) × (length bytes₀ ≡ 144)
@@ -17,35 +15,27 @@ Inv-loop bytes₀ l k₀ bytes k = (k ≤ 144) × (bytes ≡ filled bytes₀ (λ
 abbrev μ-loop : tie.MeasureT-loop
 μ-loop bytes₀ l k₀ bytes k = 144 - k
 
--- src/bytes.rt:75:5
 loop-holds : tie.Need-loop-holds Inv-loop μ-loop
 loop-holds c = search fills
 
--- src/bytes.rt:76:20
 byte-requires : tie.Need-byte-requires Inv-loop μ-loop
 byte-requires c κs = search fills
 
--- src/bytes.rt:76:9
 slice-write-bytes : tie.Need-slice-write-bytes Inv-loop μ-loop
 slice-write-bytes c = search fills
 
--- src/bytes.rt:77:9
 add-k : tie.Need-add-k Inv-loop μ-loop
 add-k c = search fills
 
--- src/bytes.rt:75:5
 loop-less : tie.Need-loop-less Inv-loop μ-loop
 loop-less c = search fills
 
--- src/bytes.rt:75:5
 loop-again : tie.Need-loop-again Inv-loop μ-loop
 loop-again c = search fills
 
--- src/bytes.rt:70:1
 same-length : tie.Need-same-length Inv-loop μ-loop
 same-length c = search fills
 
--- src/bytes.rt:70:1
 returns : tie.Need-returns Inv-loop μ-loop
 unfolding bytesOf
 returns c =

@@ -1,3 +1,4 @@
+-- `samples` are all 72 of the window. Assumes nothing.
 use native.Mathlib.Omega.{arith}
 use Prim.Native.Nat.{ℕ, _+_, _-_, _≤_}
 use mathlib.Core.Path.{_≡_}
@@ -7,9 +8,6 @@ use Rattle.rules.specs.CSide.{stepAt, stepsIn, sampleOf, samplesIn, byteAt, byt
 use Rattle.cside.proofs.Fills.{fills, whole-end}
 use Rattle.cside.proofs.bytes.samples.Statement.{statement}
 use Rattle.cside.proofs.bytes.samples.Tie as tie
-use Rattle.cside.proofs.bytes.samples.Reads as reads
-use Rattle.cside.proofs.bytes.samples.Lts as lts
-use Rattle.cside.proofs.bytes.sample.Reads as sample-reads
 
 abbrev Inv-loop : tie.InvT-loop
 Inv-loop bytes l₀ k₀ l k = (k ≤ 72) × (l ≡ filled l₀ (λ i. sampleOf bytes i) k) × (length l ≡ 72) × (length l₀ ≡ 72)
@@ -17,35 +15,27 @@ Inv-loop bytes l₀ k₀ l k = (k ≤ 72) × (l ≡ filled l₀ (λ i. sampleOf 
 abbrev μ-loop : tie.MeasureT-loop
 μ-loop bytes l₀ k₀ l k = 72 - k
 
--- src/bytes.rt:53:5
 loop-holds : tie.Need-loop-holds Inv-loop μ-loop
 loop-holds c = search fills
 
--- src/bytes.rt:54:16
 sample-requires : tie.Need-sample-requires Inv-loop μ-loop
 sample-requires c κs = search fills
 
--- src/bytes.rt:54:9
 mul-l : tie.Need-mul-l Inv-loop μ-loop
 mul-l c = search fills
 
--- src/bytes.rt:54:9
 array-write-l : tie.Need-array-write-l Inv-loop μ-loop
 array-write-l c = search fills
 
--- src/bytes.rt:55:9
 add-k : tie.Need-add-k Inv-loop μ-loop
 add-k c = search fills
 
--- src/bytes.rt:53:5
 loop-less : tie.Need-loop-less Inv-loop μ-loop
 loop-less c = search fills
 
--- src/bytes.rt:53:5
 loop-again : tie.Need-loop-again Inv-loop μ-loop
 loop-again c = search fills
 
--- src/bytes.rt:47:1
 returns : tie.Need-returns Inv-loop μ-loop
 unfolding samplesIn
 returns c =

@@ -1,85 +1,64 @@
+-- `step` is four bytes, low first. Assumes nothing.
 use native.Mathlib.Omega.{arith}
 use Rattle.rules.specs.CSide.{stepAt}
 use borrow.Author.Needs.{needs}
 use Rattle.cside.proofs.bytes.step.Statement.{statement}
 use Rattle.cside.proofs.bytes.step.Tie as tie
-use Rattle.cside.proofs.bytes.step.Reads as reads
-use Rattle.cside.proofs.bytes.step.Lts as lts
-use Rattle.cside.proofs.bytes.wide.Reads as wide-reads
 
--- src/bytes.rt:12:14
 mul-at : tie.Need-mul-at
 mul-at c = search needs
 
--- src/bytes.rt:13:10
 shared-slice-read-wide : tie.Need-shared-slice-read-wide
 shared-slice-read-wide c = search needs
 
--- src/bytes.rt:13:5
 wide-requires : tie.Need-wide-requires
 wide-requires c κs = search needs
 
--- src/bytes.rt:13:40
 add-wide : tie.Need-add-wide
 add-wide c = search needs
 
--- src/bytes.rt:13:34
 shared-slice-read-wide-2 : tie.Need-shared-slice-read-wide-2
 shared-slice-read-wide-2 c = search needs
 
--- src/bytes.rt:13:29
 wide-requires-2 : tie.Need-wide-requires-2
 wide-requires-2 c κs = search needs
 
--- src/bytes.rt:13:23
 mul-result : tie.Need-mul-result
 mul-result c = search needs
 
--- src/bytes.rt:13:5
 add-result : tie.Need-add-result
 add-result c = search needs
 
--- src/bytes.rt:13:70
 add-wide-2 : tie.Need-add-wide-2
 add-wide-2 c = search needs
 
--- src/bytes.rt:13:64
 shared-slice-read-wide-3 : tie.Need-shared-slice-read-wide-3
 shared-slice-read-wide-3 c = search needs
 
--- src/bytes.rt:13:59
 wide-requires-3 : tie.Need-wide-requires-3
 wide-requires-3 c κs = search needs
 
--- src/bytes.rt:13:51
 mul-result-2 : tie.Need-mul-result-2
 mul-result-2 c = search needs
 
--- src/bytes.rt:13:5
 add-result-2 : tie.Need-add-result-2
 add-result-2 c = search needs
 
--- src/bytes.rt:13:103
 add-wide-3 : tie.Need-add-wide-3
 add-wide-3 c = search needs
 
--- src/bytes.rt:13:97
 shared-slice-read-wide-4 : tie.Need-shared-slice-read-wide-4
 shared-slice-read-wide-4 c = search needs
 
--- src/bytes.rt:13:92
 wide-requires-4 : tie.Need-wide-requires-4
 wide-requires-4 c κs = search needs
 
--- src/bytes.rt:13:81
 mul-result-3 : tie.Need-mul-result-3
 mul-result-3 c = search needs
 
--- src/bytes.rt:13:5
 add-result-3 : tie.Need-add-result-3
 add-result-3 c = search needs
 
--- src/bytes.rt:8:1
 returns : tie.Need-returns
 unfolding stepAt
 returns c = omega arith

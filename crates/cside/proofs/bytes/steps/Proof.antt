@@ -1,3 +1,4 @@
+-- `steps` are all 352 of the table. Assumes nothing.
 use native.Mathlib.Omega.{arith}
 use Prim.Native.Nat.{ℕ, _+_, _-_, _≤_}
 use mathlib.Core.Path.{_≡_}
@@ -7,9 +8,6 @@ use Rattle.rules.specs.CSide.{stepAt, stepsIn, sampleOf, samplesIn, byteAt, byt
 use Rattle.cside.proofs.Fills.{fills, whole-end}
 use Rattle.cside.proofs.bytes.steps.Statement.{statement}
 use Rattle.cside.proofs.bytes.steps.Tie as tie
-use Rattle.cside.proofs.bytes.steps.Reads as reads
-use Rattle.cside.proofs.bytes.steps.Lts as lts
-use Rattle.cside.proofs.bytes.step.Reads as step-reads
 
 abbrev Inv-loop : tie.InvT-loop
 Inv-loop bytes t₀ k₀ t k = (k ≤ 352) × (t ≡ filled t₀ (λ i. stepAt bytes i) k) × (length t ≡ 352) × (length t₀ ≡ 352)
@@ -17,35 +15,27 @@ Inv-loop bytes t₀ k₀ t k = (k ≤ 352) × (t ≡ filled t₀ (λ i. stepAt b
 abbrev μ-loop : tie.MeasureT-loop
 μ-loop bytes t₀ k₀ t k = 352 - k
 
--- src/bytes.rt:30:5
 loop-holds : tie.Need-loop-holds Inv-loop μ-loop
 loop-holds c = search fills
 
--- src/bytes.rt:31:16
 step-requires : tie.Need-step-requires Inv-loop μ-loop
 step-requires c κs = search fills
 
--- src/bytes.rt:31:9
 mul-t : tie.Need-mul-t Inv-loop μ-loop
 mul-t c = search fills
 
--- src/bytes.rt:31:9
 array-write-t : tie.Need-array-write-t Inv-loop μ-loop
 array-write-t c = search fills
 
--- src/bytes.rt:32:9
 add-k : tie.Need-add-k Inv-loop μ-loop
 add-k c = search fills
 
--- src/bytes.rt:30:5
 loop-less : tie.Need-loop-less Inv-loop μ-loop
 loop-less c = search fills
 
--- src/bytes.rt:30:5
 loop-again : tie.Need-loop-again Inv-loop μ-loop
 loop-again c = search fills
 
--- src/bytes.rt:24:1
 returns : tie.Need-returns Inv-loop μ-loop
 unfolding stepsIn
 returns c =
