@@ -1,0 +1,25 @@
+use borrow.Author.Needs.{needs}
+use Rattle.grid.proofs.leaf.bare.Statement.{statement}
+use Rattle.grid.proofs.leaf.bare.Tie as tie
+use Rattle.grid.proofs.leaf.bare.Reads as reads
+use Rattle.grid.proofs.leaf.bare.Lts as lts
+use Rattle.grid.proofs.leaf.flag.Reads as flag-reads
+
+-- src/leaf.rt:20:8
+flag-requires : tie.Need-flag-requires
+flag-requires c κs = search needs
+
+-- src/leaf.rt:20:18
+sub-result : tie.Need-sub-result
+sub-result c = ?
+
+-- src/leaf.rt:17:1
+returns : tie.Need-returns
+returns c = ?
+
+-- src/leaf.rt:17:1
+returns-2 : tie.Need-returns-2
+returns-2 c = ?
+
+pub bare-spec : {M : Type 1} → statement M
+bare-spec = tie.close (tie.spec flag-requires sub-result returns returns-2)

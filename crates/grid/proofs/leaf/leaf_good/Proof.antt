@@ -1,0 +1,46 @@
+use borrow.Author.Needs.{needs}
+use Rattle.grid.proofs.leaf.leaf_good.Statement.{statement}
+use Rattle.grid.proofs.leaf.leaf_good.Tie as tie
+use Rattle.grid.proofs.leaf.leaf_good.Reads as reads
+use Rattle.grid.proofs.leaf.leaf_good.Lts as lts
+use Rattle.grid.proofs.leaf.size_good.Reads as size-good-reads
+
+-- src/leaf.rt:52:9
+returns : tie.Need-returns
+returns c = ?
+
+-- src/leaf.rt:55:9
+returns-2 : tie.Need-returns-2
+returns-2 c = ?
+
+-- src/leaf.rt:57:9
+size-good-requires : tie.Need-size-good-requires
+size-good-requires c κs = search needs
+
+-- src/leaf.rt:58:9
+returns-3 : tie.Need-returns-3
+returns-3 c = ?
+
+-- src/leaf.rt:60:9
+size-good-requires-2 : tie.Need-size-good-requires-2
+size-good-requires-2 c κs = search needs
+
+-- src/leaf.rt:61:9
+returns-4 : tie.Need-returns-4
+returns-4 c = ?
+
+-- src/leaf.rt:48:1
+returns-5 : tie.Need-returns-5
+returns-5 c = ?
+
+pub leaf-good-spec : {M : Type 1} → statement M
+leaf-good-spec =
+    tie.close
+    (tie.spec
+    returns
+    returns-2
+    size-good-requires
+    returns-3
+    size-good-requires-2
+    returns-4
+    returns-5)

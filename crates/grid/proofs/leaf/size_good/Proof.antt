@@ -1,0 +1,31 @@
+use borrow.Author.Needs.{needs}
+use Rattle.grid.proofs.leaf.size_good.Statement.{statement}
+use Rattle.grid.proofs.leaf.size_good.Tie as tie
+use Rattle.grid.proofs.leaf.size_good.Reads as reads
+use Rattle.grid.proofs.leaf.size_good.Lts as lts
+use Rattle.grid.proofs.leaf.bare.Reads as bare-reads
+use Rattle.grid.proofs.leaf.is_size.Reads as is-size-reads
+
+-- src/leaf.rt:43:9
+is-size-requires : tie.Need-is-size-requires
+is-size-requires c κs = search needs
+
+-- src/leaf.rt:43:9
+returns : tie.Need-returns
+returns c = ?
+
+-- src/leaf.rt:45:13
+bare-requires : tie.Need-bare-requires
+bare-requires c κs = search needs
+
+-- src/leaf.rt:45:5
+is-size-requires-2 : tie.Need-is-size-requires-2
+is-size-requires-2 c κs = search needs
+
+-- src/leaf.rt:39:1
+returns-2 : tie.Need-returns-2
+returns-2 c = ?
+
+pub size-good-spec : {M : Type 1} → statement M
+size-good-spec =
+    tie.close (tie.spec is-size-requires returns bare-requires is-size-requires-2 returns-2)

@@ -1,0 +1,52 @@
+use Rattle.grid.proofs.paint.clear.Statement.{statement}
+use Rattle.grid.proofs.paint.clear.Tie as tie
+use Rattle.grid.proofs.paint.clear.Reads as reads
+use Rattle.grid.proofs.paint.clear.Lts as lts
+
+abbrev Inv-loop : tie.InvT-loop
+Inv-loop xs₀ n i₀ xs i = ?
+
+abbrev μ-loop : tie.MeasureT-loop
+μ-loop xs₀ n i₀ xs i = ?
+
+-- src/paint.rt:104:5
+loop-holds : tie.Need-loop-holds Inv-loop μ-loop
+loop-holds c = ?
+
+-- src/paint.rt:105:9
+slice-write-xs : tie.Need-slice-write-xs Inv-loop μ-loop
+slice-write-xs c = ?
+
+-- src/paint.rt:104:9
+add-i : tie.Need-add-i Inv-loop μ-loop
+add-i c = ?
+
+-- src/paint.rt:104:5
+loop-less : tie.Need-loop-less Inv-loop μ-loop
+loop-less c = ?
+
+-- src/paint.rt:104:5
+loop-again : tie.Need-loop-again Inv-loop μ-loop
+loop-again c = ?
+
+-- src/paint.rt:100:1
+same-length : tie.Need-same-length Inv-loop μ-loop
+same-length c = ?
+
+-- src/paint.rt:100:1
+returns : tie.Need-returns Inv-loop μ-loop
+returns c = ?
+
+pub clear-spec : {M : Type 1} → statement M
+clear-spec =
+    tie.close
+    (tie.spec
+    Inv-loop
+    μ-loop
+    loop-holds
+    slice-write-xs
+    add-i
+    loop-less
+    loop-again
+    same-length
+    returns)

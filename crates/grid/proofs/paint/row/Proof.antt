@@ -1,0 +1,68 @@
+use Rattle.grid.proofs.paint.row.Statement.{statement}
+use Rattle.grid.proofs.paint.row.Tie as tie
+use Rattle.grid.proofs.paint.row.Reads as reads
+use Rattle.grid.proofs.paint.row.Lts as lts
+use Rattle.grid.proofs.paint.cell.Reads as cell-reads
+
+abbrev Inv-loop : tie.InvT-loop
+Inv-loop vedge₀ hedge₀ sqw₀ sqh₀ s a dr n dc₀ vedge hedge sqw sqh dc = ?
+
+abbrev μ-loop : tie.MeasureT-loop
+μ-loop vedge₀ hedge₀ sqw₀ sqh₀ s a dr n dc₀ vedge hedge sqw sqh dc = ?
+
+-- src/paint.rt:68:5
+loop-holds : tie.Need-loop-holds Inv-loop μ-loop
+loop-holds c = ?
+
+-- src/paint.rt:69:9
+cell-requires : tie.Need-cell-requires Inv-loop μ-loop
+cell-requires c κs = ?
+
+-- src/paint.rt:68:9
+add-dc : tie.Need-add-dc Inv-loop μ-loop
+add-dc c = ?
+
+-- src/paint.rt:68:5
+loop-less : tie.Need-loop-less Inv-loop μ-loop
+loop-less c = ?
+
+-- src/paint.rt:68:5
+loop-again : tie.Need-loop-again Inv-loop μ-loop
+loop-again c = ?
+
+-- src/paint.rt:61:1
+same-length : tie.Need-same-length Inv-loop μ-loop
+same-length c = ?
+
+-- src/paint.rt:61:1
+same-length-2 : tie.Need-same-length-2 Inv-loop μ-loop
+same-length-2 c = ?
+
+-- src/paint.rt:61:1
+same-length-3 : tie.Need-same-length-3 Inv-loop μ-loop
+same-length-3 c = ?
+
+-- src/paint.rt:61:1
+same-length-4 : tie.Need-same-length-4 Inv-loop μ-loop
+same-length-4 c = ?
+
+-- src/paint.rt:61:1
+returns : tie.Need-returns Inv-loop μ-loop
+returns c = ?
+
+pub row-spec : {M : Type 1} → statement M
+row-spec =
+    tie.close
+    (tie.spec
+    Inv-loop
+    μ-loop
+    loop-holds
+    cell-requires
+    add-dc
+    loop-less
+    loop-again
+    same-length
+    same-length-2
+    same-length-3
+    same-length-4
+    returns)

@@ -1,0 +1,25 @@
+use borrow.Author.Needs.{needs}
+use Rattle.grid.proofs.tile.shift.Statement.{statement}
+use Rattle.grid.proofs.tile.shift.Tie as tie
+use Rattle.grid.proofs.tile.shift.Reads as reads
+use Rattle.grid.proofs.tile.shift.Lts as lts
+use Rattle.grid.proofs.tile.wide.Reads as wide-reads
+
+-- src/tile.rt:24:18
+wide-requires : tie.Need-wide-requires
+wide-requires c κs = search needs
+
+-- src/tile.rt:24:35
+wide-requires-2 : tie.Need-wide-requires-2
+wide-requires-2 c κs = search needs
+
+-- src/tile.rt:20:1
+returns : tie.Need-returns
+returns c = ?
+
+-- src/tile.rt:20:1
+returns-2 : tie.Need-returns-2
+returns-2 c = ?
+
+pub shift-spec : {M : Type 1} → statement M
+shift-spec = tie.close (tie.spec wide-requires wide-requires-2 returns returns-2)
