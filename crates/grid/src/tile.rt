@@ -2,6 +2,8 @@
 ghost use mathlib.Core.Path.{_≡_};
 ghost use Prim.Native.Nat.{_≤_, _<_, _/_};
 ghost use lib.ListN.{length};
+ghost use lib.Dec.{eqb};
+ghost use Rattle.laws.specs.Choose.{both};
 ghost use Rattle.rules.specs.Numbers.{down};
 ghost use Rattle.rules.specs.TuGrid.{sizeOf, wholeOf, tuOf, tileOf, leafOf};
 ghost use Rattle.grid.specs.Fit.{Cut};
@@ -36,6 +38,15 @@ fn size(ss: usize, w: u16) -> usize
     n
 }
 
+fn is_pair(bw: usize, bh: usize, w: usize, h: usize) -> bool
+    ensures { λ r. ⌜ r ≡ both (eqb bw w) (eqb bh h) ⌝ }
+{
+    if bw == w {
+        return bh == h;
+    }
+    false
+}
+
 // Whether a leaf is one TU.
 fn is_whole(skip: bool, w: u16, bw: usize, bh: usize) -> bool
     ensures { λ r. ⌜ r ≡ wholeOf skip w bw bh ⌝ }
@@ -46,13 +57,10 @@ fn is_whole(skip: bool, w: u16, bw: usize, bh: usize) -> bool
     if flag(w) {
         return true;
     }
-    if bw == 4 {
-        return bh == 16;
+    if is_pair(bw, bh, 4, 16) {
+        return true;
     }
-    if bw == 16 {
-        return bh == 4;
-    }
-    false
+    is_pair(bw, bh, 16, 4)
 }
 
 fn tu(whole: bool, size: usize, cap: usize) -> usize

@@ -1,3 +1,7 @@
+use mathlib.Core.Path.{sym, _∙_}
+use Rattle.grid.proofs.Leaves.{flag-most}
+use Rattle.laws.specs.Choose.{tests}
+use Rattle.rules.specs.TuGrid.{bareOf}
 use borrow.Author.Needs.{needs}
 use Rattle.grid.proofs.leaf.bare.Statement.{statement}
 use Rattle.grid.proofs.leaf.bare.Tie as tie
@@ -11,15 +15,17 @@ flag-requires c κs = search needs
 
 -- src/leaf.rt:20:18
 sub-result : tie.Need-sub-result
-sub-result c = ?
+sub-result c = let h = flag-most _ (sym (c .before .flag .ensures) ∙ c .if1 .taken) in search needs
 
 -- src/leaf.rt:17:1
 returns : tie.Need-returns
-returns c = ?
+unfolding bareOf
+returns c = search tests
 
 -- src/leaf.rt:17:1
 returns-2 : tie.Need-returns-2
-returns-2 c = ?
+unfolding bareOf
+returns-2 c = search tests
 
 pub bare-spec : {M : Type 1} → statement M
 bare-spec = tie.close (tie.spec flag-requires sub-result returns returns-2)

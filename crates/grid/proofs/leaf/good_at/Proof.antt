@@ -1,3 +1,4 @@
+use Rattle.rules.specs.TuGrid.{leafGoodAt}
 use borrow.Author.Needs.{needs}
 use Rattle.grid.proofs.leaf.good_at.Statement.{statement}
 use Rattle.grid.proofs.leaf.good_at.Tie as tie
@@ -59,7 +60,8 @@ leaf-good-requires c κs = search needs
 
 -- src/leaf.rt:66:1
 returns : tie.Need-returns
-returns c = ?
+unfolding leafGoodAt
+returns c = c .leaf-good .ensures
 
 pub good-at-spec : {M : Type 1} → statement M
 good-at-spec =

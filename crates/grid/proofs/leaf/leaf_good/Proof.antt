@@ -1,3 +1,6 @@
+use Rattle.grid.specs.Fit.{sizeGood}
+use Rattle.rules.specs.TuGrid.{leafGood}
+use Rattle.laws.specs.Choose.{tests}
 use borrow.Author.Needs.{needs}
 use Rattle.grid.proofs.leaf.leaf_good.Statement.{statement}
 use Rattle.grid.proofs.leaf.leaf_good.Tie as tie
@@ -7,11 +10,13 @@ use Rattle.grid.proofs.leaf.size_good.Reads as size-good-reads
 
 -- src/leaf.rt:52:9
 returns : tie.Need-returns
-returns c = ?
+unfolding leafGood sizeGood
+returns c = search tests
 
 -- src/leaf.rt:55:9
 returns-2 : tie.Need-returns-2
-returns-2 c = ?
+unfolding leafGood sizeGood
+returns-2 c = search tests
 
 -- src/leaf.rt:57:9
 size-good-requires : tie.Need-size-good-requires
@@ -19,7 +24,8 @@ size-good-requires c κs = search needs
 
 -- src/leaf.rt:58:9
 returns-3 : tie.Need-returns-3
-returns-3 c = ?
+unfolding leafGood sizeGood
+returns-3 c = search tests
 
 -- src/leaf.rt:60:9
 size-good-requires-2 : tie.Need-size-good-requires-2
@@ -27,11 +33,13 @@ size-good-requires-2 c κs = search needs
 
 -- src/leaf.rt:61:9
 returns-4 : tie.Need-returns-4
-returns-4 c = ?
+unfolding leafGood sizeGood
+returns-4 c = search tests
 
 -- src/leaf.rt:48:1
 returns-5 : tie.Need-returns-5
-returns-5 c = ?
+unfolding leafGood sizeGood
+returns-5 c = search tests
 
 pub leaf-good-spec : {M : Type 1} → statement M
 leaf-good-spec =

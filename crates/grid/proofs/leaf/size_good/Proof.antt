@@ -1,3 +1,5 @@
+use Rattle.laws.specs.Choose.{pick}
+use Rattle.grid.specs.Fit.{sizeGood}
 use borrow.Author.Needs.{needs}
 use Rattle.grid.proofs.leaf.size_good.Statement.{statement}
 use Rattle.grid.proofs.leaf.size_good.Tie as tie
@@ -12,7 +14,8 @@ is-size-requires c κs = search needs
 
 -- src/leaf.rt:43:9
 returns : tie.Need-returns
-returns c = ?
+unfolding sizeGood pick
+returns c = rw (c .before .if1 .taken) (c .is-size .ensures)
 
 -- src/leaf.rt:45:13
 bare-requires : tie.Need-bare-requires
@@ -24,7 +27,8 @@ is-size-requires-2 c κs = search needs
 
 -- src/leaf.rt:39:1
 returns-2 : tie.Need-returns-2
-returns-2 c = ?
+unfolding sizeGood pick
+returns-2 c = rw (c .before .before .if1 .left, ← c .before .bare .ensures) (c .is-size2 .ensures)
 
 pub size-good-spec : {M : Type 1} → statement M
 size-good-spec =

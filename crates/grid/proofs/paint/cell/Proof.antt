@@ -1,3 +1,5 @@
+use Rattle.grid.proofs.Painted.{cell-below, cell-right, cell-within}
+use Rattle.grid.proofs.Places.{tx-row-fits, tx-cell-fits, tx-cell-in}
 use borrow.Author.Needs.{needs}
 use Rattle.grid.proofs.paint.cell.Statement.{statement}
 use Rattle.grid.proofs.paint.cell.Tie as tie
@@ -17,27 +19,27 @@ add-c c = search needs
 
 -- src/paint.rt:53:9
 returns : tie.Need-returns
-returns c = ?
+returns c = cell-below _ _ _ _ _ (c .if1 .taken)
 
 -- src/paint.rt:56:9
 returns-2 : tie.Need-returns-2
-returns-2 c = ?
+returns-2 c = cell-right _ _ _ _ _ (c .before .before .if1 .left) (c .if2 .taken)
 
 -- src/paint.rt:58:35
 mul-store : tie.Need-mul-store
-mul-store c = ?
+mul-store c = tx-row-fits (c .before .before .before .before .before .before .before .before .before .before .before .before .before .before .before .pre .0) _ 0 (c .before .before .before .before .before .before .before .if1 .left)
 
 -- src/paint.rt:58:35
 add-store : tie.Need-add-store
-add-store c = ?
+add-store c = tx-cell-fits (c .before .before .before .before .before .before .before .before .before .before .before .before .before .before .before .pre .0) _ _ (c .before .before .before .before .before .before .before .if1 .left) (c .before .before .before .before .before .if2 .left)
 
 -- src/paint.rt:58:51
 mark-requires : tie.Need-mark-requires
-mark-requires c κs = search needs
+mark-requires c κs = c .before .before .before .before .before .before .before .before .before .before .before .before .before .before .before .pre .1 .0 .some-tw
 
 -- src/paint.rt:58:67
 mark-requires-2 : tie.Need-mark-requires-2
-mark-requires-2 c κs = search needs
+mark-requires-2 c κs = c .before .before .before .before .before .before .before .before .before .before .before .before .before .before .before .before .pre .1 .0 .some-th
 
 -- src/paint.rt:58:83
 log2-requires : tie.Need-log2-requires
@@ -49,7 +51,7 @@ log2-requires-2 c κs = search needs
 
 -- src/paint.rt:58:5
 store-requires : tie.Need-store-requires
-store-requires c κs = ?
+store-requires c κs = tx-cell-in (c .before .before .before .before .before .before .before .before .before .before .before .before .before .before .before .before .before .before .before .pre .0) _ _ (c .before .before .before .before .before .before .before .before .before .before .before .if1 .left) (c .before .before .before .before .before .before .before .before .before .if2 .left)
 
 -- src/paint.rt:44:1
 same-length : tie.Need-same-length
@@ -69,7 +71,7 @@ same-length-4 c = search needs
 
 -- src/paint.rt:44:1
 returns-3 : tie.Need-returns-3
-returns-3 c = ?
+returns-3 c = cell-within _ _ _ _ _ _ _ _ _ (c .before .before .before .before .before .before .before .before .before .before .before .before .before .before .before .before .before .before .before .before .if1 .left) (c .before .before .before .before .before .before .before .before .before .before .before .before .before .before .before .before .before .before .if2 .left) (c .before .before .before .before .before .before .before .before .before .before .before .before .mark .ensures) (c .before .before .before .before .before .before .before .before .before .before .before .mark2 .ensures) (c .before .before .before .before .before .before .before .before .before .before .log2 .ensures) (c .before .before .before .before .before .before .before .before .before .log22 .ensures) (c .before .before .before .before .before .before .before .before .store .ensures)
 
 pub cell-spec : {M : Type 1} → statement M
 cell-spec =

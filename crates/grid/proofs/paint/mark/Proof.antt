@@ -1,3 +1,5 @@
+use Rattle.laws.specs.Choose.{tests}
+use Rattle.rules.specs.TuGrid.{markOf}
 use borrow.Author.Needs.{needs}
 use Rattle.grid.proofs.paint.mark.Statement.{statement}
 use Rattle.grid.proofs.paint.mark.Tie as tie
@@ -10,11 +12,13 @@ rem-if1 c = search needs
 
 -- src/paint.rt:26:1
 returns : tie.Need-returns
-returns c = ?
+unfolding markOf
+returns c = search tests
 
 -- src/paint.rt:26:1
 returns-2 : tie.Need-returns-2
-returns-2 c = ?
+unfolding markOf
+returns-2 c = search tests
 
 pub mark-spec : {M : Type 1} → statement M
 mark-spec = tie.close (tie.spec rem-if1 returns returns-2)

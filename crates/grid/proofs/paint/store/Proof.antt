@@ -1,3 +1,4 @@
+use Rattle.rules.specs.TuGrid.{storeCell}
 use borrow.Author.Needs.{needs}
 use Rattle.grid.proofs.paint.store.Statement.{statement}
 use Rattle.grid.proofs.paint.store.Tie as tie
@@ -38,7 +39,8 @@ same-length-4 c = search needs
 
 -- src/paint.rt:33:1
 returns : tie.Need-returns
-returns c = ?
+unfolding storeCell
+returns c = search needs
 
 pub store-spec : {M : Type 1} → statement M
 store-spec =

@@ -1,3 +1,4 @@
+use Rattle.rules.specs.TuGrid.{leafOf}
 use borrow.Author.Needs.{needs}
 use Rattle.grid.proofs.tile.leaf.Statement.{statement}
 use Rattle.grid.proofs.tile.leaf.Tie as tie
@@ -59,7 +60,8 @@ tile-of-requires c κs = search needs
 
 -- src/tile.rt:88:1
 returns : tie.Need-returns
-returns c = ?
+unfolding leafOf
+returns c = c .tile-of .ensures
 
 pub leaf-spec : {M : Type 1} → statement M
 leaf-spec =

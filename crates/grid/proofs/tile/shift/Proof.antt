@@ -1,3 +1,5 @@
+use Rattle.grid.proofs.Shifts.{down-none, down-half}
+use mathlib.Core.Path.{_∙_}
 use borrow.Author.Needs.{needs}
 use Rattle.grid.proofs.tile.shift.Statement.{statement}
 use Rattle.grid.proofs.tile.shift.Tie as tie
@@ -15,11 +17,11 @@ wide-requires-2 c κs = search needs
 
 -- src/tile.rt:20:1
 returns : tie.Need-returns
-returns c = ?
+returns c = c .wide .ensures ∙ down-none _ _ (c .before .if1 .taken)
 
 -- src/tile.rt:20:1
 returns-2 : tie.Need-returns-2
-returns-2 c = ?
+returns-2 c = rw (c .wide2 .ensures) (down-half _ _ (c .before .before .pre) (c .before .if1 .left))
 
 pub shift-spec : {M : Type 1} → statement M
 shift-spec = tie.close (tie.spec wide-requires wide-requires-2 returns returns-2)

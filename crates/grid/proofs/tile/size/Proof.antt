@@ -1,3 +1,5 @@
+use native.Mathlib.Omega.{arith}
+use Rattle.rules.specs.TuGrid.{sizeOf}
 use borrow.Author.Needs.{needs}
 use Rattle.grid.proofs.tile.size.Statement.{statement}
 use Rattle.grid.proofs.tile.size.Tie as tie
@@ -16,11 +18,13 @@ shift-requires c κs = search needs
 
 -- src/tile.rt:34:9
 returns : tie.Need-returns
-returns c = ?
+unfolding sizeOf
+returns c = rw (← c .before .before .bare .ensures, ← c .before .shift .ensures) (omega arith)
 
 -- src/tile.rt:28:1
 returns-2 : tie.Need-returns-2
-returns-2 c = ?
+unfolding sizeOf
+returns-2 c = rw (← c .before .before .bare .ensures, ← c .before .shift .ensures) (omega arith)
 
 pub size-spec : {M : Type 1} → statement M
 size-spec = tie.close (tie.spec bare-requires shift-requires returns returns-2)

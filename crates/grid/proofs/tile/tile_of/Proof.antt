@@ -1,3 +1,4 @@
+use Rattle.rules.specs.TuGrid.{tileOf}
 use borrow.Author.Needs.{needs}
 use Rattle.grid.proofs.tile.tile_of.Statement.{statement}
 use Rattle.grid.proofs.tile.tile_of.Tie as tie
@@ -38,7 +39,8 @@ tu-requires-2 c κs = search needs
 
 -- src/tile.rt:70:1
 returns : tie.Need-returns
-returns c = ?
+unfolding tileOf
+returns c = cc
 
 pub tile-of-spec : {M : Type 1} → statement M
 tile-of-spec =

@@ -1,0 +1,5 @@
+pub mod Turns
+pub mod Places
+pub mod Shifts
+pub mod Leaves
+pub mod Painted
