@@ -109,7 +109,7 @@ all-none = refl
 
 -- the code at each of its ways out, with no test left for later (a test that holds is asked before one that fails)
 pub ruleset tests =
-  (needs, all-bad, all-ok, all-last, all-none, both-bad, both-ok, either-first, either-second, pick-yes, pick-no, is-le, not-le, is-lt, not-lt, is-eq, not-eq, told-yes, told-no, told-yes-not, told-no-not)
+    (needs, all-bad, all-ok, all-last, all-none, both-bad, both-ok, either-first, either-second, pick-yes, pick-no, is-le, not-le, is-lt, not-lt, is-eq, not-eq, told-yes, told-no, told-yes-not, told-no-not)
 
 -- a test that fails after tests of which nothing is known
 pub both-later : (a b : Bool) → false ≡ b → false ≡ both a b

@@ -89,7 +89,7 @@ pub settle-accepted-by : {A : Type 0} (a x : Answer) (lent new y : A) → x ≡ 
 settle-accepted-by a x lent new y e f g = settle-accepted a lent new y (sym f ∙ e) g
 
 pub ruleset checks =
-  (needs, tests, stop, stop-by, go-on, go-on-by, refused-by, accepted-by, unless-bad, unless-good, found-bad, found-good, found-bad-by, found-good-by, only-yes, only-no, settle-refused, settle-accepted, settle-refused-by, settle-accepted-by)
+    (needs, tests, stop, stop-by, go-on, go-on-by, refused-by, accepted-by, unless-bad, unless-good, found-bad, found-good, found-bad-by, found-good-by, only-yes, only-no, settle-refused, settle-accepted, settle-refused-by, settle-accepted-by)
 
 -- ---- what an accepted answer says
 

@@ -92,7 +92,7 @@ unfolding over foundIf
 over-good top xs k h = rw (le-ltb _ _ h)
 
 pub ruleset firsts =
-  (needs, first-none, first-more, first-found, first-end, first-more-by, first-found-by, sooner-first, sooner-second, sooner-first-by, sooner-second-by, found-if, found-if-not, found-unless, found-unless-not, over-bad, over-good)
+    (needs, first-none, first-more, first-found, first-end, first-more-by, first-found-by, sooner-first, sooner-second, sooner-first-by, sooner-second-by, found-if, found-if-not, found-unless, found-unless-not, over-bad, over-good)
 
 -- ---- what an answer says
 

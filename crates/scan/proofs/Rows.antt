@@ -21,21 +21,21 @@ pub box-whole : {stride count rows size : ℕ} → count ≤ stride → rows * s
 box-whole a b = record { inside = omega arith }
 
 -- a box inside of a plane, its first sample in row y and column x
-pub box-inner : {x y stride count rows size : ℕ} → x + count ≤ stride → (y + rows) * stride ≤ size → Box (y * stride + x) stride count rows size
-box-inner {x} {y} {stride} {count} {rows} a b = record { inside = omega (arith, add-mul y rows stride) }
+pub box-inner : (x y : ℕ) {stride count rows size : ℕ} → x + count ≤ stride → (y + rows) * stride ≤ size → Box (y * stride + x) stride count rows size
+box-inner x y {stride} {count} {rows} a b = record { inside = omega (arith, add-mul y rows stride) }
 
 pub ruleset boxes = (box-whole, box-inner)
 
 -- ---- a row of a box
 
-row-last : {start stride count rows size : ℕ} (y : ℕ) → Box start stride count rows size → y < rows → start + y * stride + count ≤ size
-row-last {stride = stride} y b h = omega (arith, mul-le-mul-right stride h, suc-mul y stride)
-
 pub row-inside : {start stride count rows size : ℕ} (y : ℕ) → Box start stride count rows size → y < rows → start + y * stride + count ≤ size
-row-inside y b h = row-last y b h
+row-inside {stride = stride} y b h = omega (arith, mul-le-mul-right stride h, suc-mul y stride)
 
 pub row-fits : {start stride count rows size : ℕ} (y : ℕ) → Box start stride count rows size → size < 2 ^ 64 → y < rows → Fits w64 (y * stride)
-row-fits y b s h = record { fits = omega (arith, row-last y b h) }
+row-fits y b s h = record { fits = omega (arith, row-inside y b h) }
+
+pub start-fits : {start stride count rows size : ℕ} (y : ℕ) → Box start stride count rows size → size < 2 ^ 64 → y < rows → Fits w64 (start + y * stride)
+start-fits y b s h = record { fits = omega (arith, row-inside y b h) }
 
 -- ---- a row's largest
 
@@ -54,4 +54,4 @@ unfolding overRow
 row-clean top m xs start count h l =
     sym (all-nothing (λ x. over top xs (start + x)) count (λ x lt. sym (over-good top xs (start + x) (le-trans (h .at x lt) l))))
 
-pub ruleset rows = (firsts, most-none, most-more, most-end, row-clean, row-inside, row-fits)
+pub ruleset rows = (firsts, most-none, most-more, most-end, row-clean, row-inside, row-fits, start-fits)

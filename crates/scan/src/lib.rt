@@ -2,4 +2,6 @@
 
 // Samples over top, in a row and in a box of a plane.
 mod over;
-pub use over::{row, samples};
+
+pub use over::row;
+pub use over::samples;

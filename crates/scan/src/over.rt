@@ -51,7 +51,14 @@ pub fn row(plane: &[u16], start: usize, count: usize, top: u16) -> Found
 }
 
 // The first sample over top in rows of count samples, the first row at start and each a stride after the last.
-pub fn samples(plane: &[u16], start: usize, stride: usize, count: usize, rows: usize, top: u16) -> Found
+pub fn samples(
+    plane: &[u16],
+    start: usize,
+    stride: usize,
+    count: usize,
+    rows: usize,
+    top: u16,
+) -> Found
     requires { ⌜ Box start stride count rows (length (now plane)) ⌝ }
     ensures { λ r. ⌜ r ≡ overBox top (now (plane .entry)) start stride count rows ⌝ }
 {
