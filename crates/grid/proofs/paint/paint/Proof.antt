@@ -35,7 +35,7 @@ loop-less c = search loops
 
 -- src/paint.rt:80:5
 loop-again : tie.Need-loop-again Inv-loop μ-loop
-loop-again c = search loops
+loop-again c = (search needs, turns-more _ _ _ (c .before .before .before .before .before .before .before .before .before .before .before .before .before .before .loop .inv .1) (c .before .before .before .before .before .before .before .before .row .ensures), search needs, search needs, search needs, search needs)
 
 -- src/paint.rt:74:1
 same-length : tie.Need-same-length Inv-loop μ-loop
