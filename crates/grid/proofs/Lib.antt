@@ -3,3 +3,4 @@ pub mod Places
 pub mod Shifts
 pub mod Leaves
 pub mod Painted
+pub mod Checked

@@ -9,7 +9,7 @@ use borrow.Author.Tests.{lt-ltb, le-ltb}
 use Rattle.laws.specs.Choose.{pick, both}
 use Rattle.rules.specs.declared.settings.TuGrid.{TuGrid}
 use Rattle.rules.specs.declared.settings.Tile.{Tile}
-use Rattle.rules.specs.TuGrid.{Marks, marks, markOf, log2Of, storeCell, paintCell, paintOf, leafOf, leavesOf, clearOf, txGridOf}
+use Rattle.rules.specs.TuGrid.{Marks, marks, markOf, log2Of, storeCell, paintCell, paintOf, leafOf, leavesOf, blankOf, txGridOf}
 
 module _ (s : TuGrid) (a : Tile) (dr dc : ℕ) (g : Marks) where
   pub cell-below : s .rows ≤ a .row + dr → g ≡ paintCell s a dr dc g
@@ -27,6 +27,6 @@ module _ (s : TuGrid) (a : Tile) (dr dc : ℕ) (g : Marks) where
 pub leaf-more : (s : TuGrid) (skip : Bool) (ls : List ℕ) (k : ℕ) (a : Tile) (g : Marks) {g' : Marks} → a ≡ leafOf s skip ls k → g' ≡ paintOf s a g → g' ≡ paintOf s (leafOf s skip ls k) g
 leaf-more s skip ls k a g e f = rw e at f
 
-pub grid-built : (s : TuGrid) (ls skips : List ℕ) (v h w t v' h' w' t' : List ℕ) (g1 g2 : Marks) → v' ≡ clearOf (s .rows * s .cols) v → h' ≡ clearOf (s .rows * s .cols) h → w' ≡ clearOf (s .rows * s .cols) w → t' ≡ clearOf (s .rows * s .cols) t → g1 ≡ leavesOf s false ls (marks v' h' w' t') → g2 ≡ leavesOf s true skips g1 → g2 ≡ txGridOf s ls skips (marks v h w t)
+pub grid-built : (s : TuGrid) (ls skips : List ℕ) (g g0 g1 : Marks) {g2 : Marks} → g0 ≡ blankOf (s .rows * s .cols) g → g1 ≡ leavesOf s false ls g0 → g2 ≡ leavesOf s true skips g1 → g2 ≡ txGridOf s ls skips g
 unfolding txGridOf
-grid-built s ls skips v h w t v' h' w' t' g1 g2 a b c d e f = rw (← a, ← b, ← c, ← d, ← e) f
+grid-built s ls skips g g0 g1 a e f = rw (← a, ← e) f

@@ -1,5 +1,6 @@
 -- What the checks leave in hand for the building of a grid: ranges, lengths and good leaves.
 -- Assumes nothing.
+use mathlib.Core.Path.{_≡_}
 use mathlib.Core.Bool.{Bool}
 use mathlib.Core.List.{List}
 use Prim.Native.Nat.{ℕ, _+_, _*_, _/_, _≤_, _<_}
@@ -8,7 +9,9 @@ use Rattle.laws.specs.Choose.{pick}
 use Rattle.rules.specs.declared.settings.TuGrid.{TuGrid}
 use Rattle.rules.specs.declared.settings.Tile.{Tile}
 use Rattle.rules.specs.declared.settings.QindexGrid.{QindexGrid}
-use Rattle.rules.specs.TuGrid.{bareOf, isSize}
+use Rattle.rules.specs.TuGrid.{Marks, bareOf, isSize, txGridCheck}
+use Rattle.rules.specs.QindexGrid.{qGridCheck}
+use Rattle.rules.specs.declared.refusals.Answer.{Answer}
 
 -- the cells are in range, and four lists are long enough
 pub record Fit (s : TuGrid) (v h w t : ℕ) : Type 0 where
@@ -18,6 +21,13 @@ pub record Fit (s : TuGrid) (v h w t : ℕ) : Type 0 where
   pub long-h : s .rows * s .cols ≤ h
   pub long-w : s .rows * s .cols ≤ w
   pub long-t : s .rows * s .cols ≤ t
+
+-- the lengths of four lists
+pub record Measures (g : Marks) (v h w t : ℕ) : Type 0 where
+  pub of-v : length (g .vedge) ≡ v
+  pub of-h : length (g .hedge) ≡ h
+  pub of-w : length (g .sqw) ≡ w
+  pub of-t : length (g .sqh) ≡ t
 
 -- subsampling and caps, as far as cutting a leaf needs them
 pub record Cut (s : TuGrid) : Type 0 where
@@ -58,3 +68,10 @@ pub record QFit (s : QindexGrid) (count n : ℕ) : Type 0 where
   pub sbcols-most : s .sbcols ≤ 128
   pub some : 1 ≤ count
   pub long : s .rows * s .cols ≤ n
+
+-- an answer is that of the checks for any lists of these lengths
+pub record TxChecked (s : TuGrid) (leaves skips : List ℕ) (v h w t : ℕ) (r : Answer) : Type 0 where
+  pub of : (g : Marks) → Measures g v h w t → r ≡ txGridCheck s leaves skips g
+
+pub record QChecked (s : QindexGrid) (count n : ℕ) (r : Answer) : Type 0 where
+  pub of : (sbq q : List ℕ) → length sbq ≡ count → length q ≡ n → r ≡ qGridCheck s sbq q

@@ -9,6 +9,9 @@ mod tile;
 // Painting tiles into the four lists.
 mod paint;
 
+// Sizes, lengths and caps in range.
+mod checks;
+
 // The TU grid and its entry.
 pub mod tx_grid;
 

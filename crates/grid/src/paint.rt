@@ -2,7 +2,7 @@
 ghost use mathlib.Core.Path.{_≡_};
 ghost use Prim.Native.Nat.{_≤_, _<_, _/_};
 ghost use lib.ListN.{length};
-ghost use Rattle.rules.specs.TuGrid.{marks, log2Of, markOf, storeCell, paintCell, paintRow, paintOf, leavesOf, clearOf};
+ghost use Rattle.rules.specs.TuGrid.{marks, log2Of, markOf, storeCell, paintCell, paintRow, paintOf, leavesOf, clearOf, blankOf};
 ghost use Rattle.grid.specs.Fit.{Fit, Cut, Placed, AllGood};
 use rules::settings::TuGrid;
 use rules::settings::Tile;
@@ -96,12 +96,22 @@ pub fn leaves(vedge: &mut [u8], hedge: &mut [u8], sqw: &mut [u8], sqh: &mut [u8]
     }
 }
 
-// The first n entries 0, the others kept.
-pub fn clear(xs: &mut [u8], n: usize)
+fn clear(xs: &mut [u8], n: usize)
     requires { ⌜ n ≤ length (now xs) ⌝ }
     ensures { λ _. ⌜ now (xs .exit) ≡ clearOf n (now (xs .entry)) ⌝ }
 {
     for i in 0..n {
         xs[i] = 0;
     }
+}
+
+// The first n entries of each list 0, the others kept.
+pub fn blank(vedge: &mut [u8], hedge: &mut [u8], sqw: &mut [u8], sqh: &mut [u8], n: usize)
+    requires { ⌜ (n ≤ length (now vedge)) × (n ≤ length (now hedge)) × (n ≤ length (now sqw)) × (n ≤ length (now sqh)) ⌝ }
+    ensures { λ _. ⌜ marks (now (vedge .exit)) (now (hedge .exit)) (now (sqw .exit)) (now (sqh .exit)) ≡ blankOf n (marks (now (vedge .entry)) (now (hedge .entry)) (now (sqw .entry)) (now (sqh .entry))) ⌝ }
+{
+    clear(vedge, n);
+    clear(hedge, n);
+    clear(sqw, n);
+    clear(sqh, n);
 }

@@ -1,0 +1,14 @@
+use borrow.Author.Needs.{needs}
+use Rattle.rules.specs.TuGrid.{foursOk}
+use Rattle.grid.proofs.checks.fours.Statement.{statement}
+use Rattle.grid.proofs.checks.fours.Tie as tie
+use Rattle.grid.proofs.checks.fours.Reads as reads
+use Rattle.grid.proofs.checks.fours.Lts as lts
+
+-- src/checks.rt:55:1
+returns : tie.Need-returns
+unfolding foursOk
+returns c = search needs
+
+pub fours-spec : {M : Type 1} → statement M
+fours-spec = tie.close (tie.spec returns)
