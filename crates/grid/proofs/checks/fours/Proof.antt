@@ -1,11 +1,9 @@
+-- `fours` is the rule's test. Assumes nothing.
 use borrow.Author.Needs.{needs}
 use Rattle.rules.specs.TuGrid.{foursOk}
 use Rattle.grid.proofs.checks.fours.Statement.{statement}
 use Rattle.grid.proofs.checks.fours.Tie as tie
-use Rattle.grid.proofs.checks.fours.Reads as reads
-use Rattle.grid.proofs.checks.fours.Lts as lts
 
--- src/checks.rt:55:1
 returns : tie.Need-returns
 unfolding foursOk
 returns c = search needs

@@ -1,22 +1,17 @@
+-- `marks_long` tests the four lengths in turn. Assumes nothing.
 use Rattle.laws.specs.Choose.{tests}
 use Rattle.grid.proofs.checks.marks_long.Statement.{statement}
 use Rattle.grid.proofs.checks.marks_long.Tie as tie
-use Rattle.grid.proofs.checks.marks_long.Reads as reads
-use Rattle.grid.proofs.checks.marks_long.Lts as lts
 
--- src/checks.rt:66:9
 returns : tie.Need-returns
 returns c = search tests
 
--- src/checks.rt:69:9
 returns-2 : tie.Need-returns-2
 returns-2 c = search tests
 
--- src/checks.rt:72:9
 returns-3 : tie.Need-returns-3
 returns-3 c = search tests
 
--- src/checks.rt:62:1
 returns-4 : tie.Need-returns-4
 returns-4 c = search tests
 

@@ -1,11 +1,9 @@
-use Rattle.rules.specs.TuGrid.{flagOf}
+-- `flag` is the rule's bit 4096. Assumes nothing.
 use borrow.Author.Needs.{needs}
+use Rattle.rules.specs.TuGrid.{flagOf}
 use Rattle.grid.proofs.leaf.flag.Statement.{statement}
 use Rattle.grid.proofs.leaf.flag.Tie as tie
-use Rattle.grid.proofs.leaf.flag.Reads as reads
-use Rattle.grid.proofs.leaf.flag.Lts as lts
 
--- src/leaf.rt:10:1
 returns : tie.Need-returns
 unfolding flagOf
 returns c = search needs

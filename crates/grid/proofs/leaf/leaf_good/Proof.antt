@@ -1,42 +1,33 @@
-use Rattle.grid.specs.Fit.{sizeGood}
-use Rattle.rules.specs.TuGrid.{leafGood}
-use Rattle.laws.specs.Choose.{tests}
+-- `leaf_good` makes the four tests in the rule's order. Assumes nothing.
 use borrow.Author.Needs.{needs}
+use Rattle.laws.specs.Choose.{tests}
+use Rattle.rules.specs.TuGrid.{leafGood}
+use Rattle.grid.specs.Fit.{sizeGood}
 use Rattle.grid.proofs.leaf.leaf_good.Statement.{statement}
 use Rattle.grid.proofs.leaf.leaf_good.Tie as tie
-use Rattle.grid.proofs.leaf.leaf_good.Reads as reads
-use Rattle.grid.proofs.leaf.leaf_good.Lts as lts
-use Rattle.grid.proofs.leaf.size_good.Reads as size-good-reads
 
--- src/leaf.rt:52:9
 returns : tie.Need-returns
 unfolding leafGood sizeGood
 returns c = search tests
 
--- src/leaf.rt:55:9
 returns-2 : tie.Need-returns-2
 unfolding leafGood sizeGood
 returns-2 c = search tests
 
--- src/leaf.rt:57:9
 size-good-requires : tie.Need-size-good-requires
 size-good-requires c κs = search needs
 
--- src/leaf.rt:58:9
 returns-3 : tie.Need-returns-3
 unfolding leafGood sizeGood
 returns-3 c = search tests
 
--- src/leaf.rt:60:9
 size-good-requires-2 : tie.Need-size-good-requires-2
 size-good-requires-2 c κs = search needs
 
--- src/leaf.rt:61:9
 returns-4 : tie.Need-returns-4
 unfolding leafGood sizeGood
 returns-4 c = search tests
 
--- src/leaf.rt:48:1
 returns-5 : tie.Need-returns-5
 unfolding leafGood sizeGood
 returns-5 c = search tests

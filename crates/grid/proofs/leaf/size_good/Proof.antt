@@ -1,31 +1,23 @@
+-- `size_good` looks at the number itself in a skip leaf, and at the bare one in another. Assumes nothing.
+use borrow.Author.Needs.{needs}
 use Rattle.laws.specs.Choose.{pick}
 use Rattle.grid.specs.Fit.{sizeGood}
-use borrow.Author.Needs.{needs}
 use Rattle.grid.proofs.leaf.size_good.Statement.{statement}
 use Rattle.grid.proofs.leaf.size_good.Tie as tie
-use Rattle.grid.proofs.leaf.size_good.Reads as reads
-use Rattle.grid.proofs.leaf.size_good.Lts as lts
-use Rattle.grid.proofs.leaf.bare.Reads as bare-reads
-use Rattle.grid.proofs.leaf.is_size.Reads as is-size-reads
 
--- src/leaf.rt:43:9
 is-size-requires : tie.Need-is-size-requires
 is-size-requires c κs = search needs
 
--- src/leaf.rt:43:9
 returns : tie.Need-returns
 unfolding sizeGood pick
 returns c = rw (c .before .if1 .taken) (c .is-size .ensures)
 
--- src/leaf.rt:45:13
 bare-requires : tie.Need-bare-requires
 bare-requires c κs = search needs
 
--- src/leaf.rt:45:5
 is-size-requires-2 : tie.Need-is-size-requires-2
 is-size-requires-2 c κs = search needs
 
--- src/leaf.rt:39:1
 returns-2 : tie.Need-returns-2
 unfolding sizeGood pick
 returns-2 c = rw (c .before .before .if1 .left, ← c .before .bare .ensures) (c .is-size2 .ensures)

@@ -1,14 +1,12 @@
-use Rattle.grid.proofs.Turns.{loops, turns-more}
-use borrow.Author.Needs.{needs}
-use Prim.Native.Nat.{ℕ, _+_, _-_, _*_, _/_, _≤_}
+-- `clear`'s loop: the entries passed so far are 0. Assumes nothing.
 use mathlib.Core.Path.{_≡_}
+use Prim.Native.Nat.{_-_, _≤_}
 use lib.ListN.{length, set}
 use Rattle.laws.specs.Loops.{turns}
 use Rattle.rules.specs.TuGrid.{clearOf}
+use Rattle.grid.proofs.Turns.{loops}
 use Rattle.grid.proofs.paint.clear.Statement.{statement}
 use Rattle.grid.proofs.paint.clear.Tie as tie
-use Rattle.grid.proofs.paint.clear.Reads as reads
-use Rattle.grid.proofs.paint.clear.Lts as lts
 
 abbrev Inv-loop : tie.InvT-loop
 Inv-loop xs₀ n i₀ xs i = (i ≤ n) × (xs ≡ turns i (λ k l. set l k 0) xs₀) × (length xs ≡ length xs₀)
@@ -16,31 +14,24 @@ Inv-loop xs₀ n i₀ xs i = (i ≤ n) × (xs ≡ turns i (λ k l. set l k 0) xs
 abbrev μ-loop : tie.MeasureT-loop
 μ-loop xs₀ n i₀ xs i = n - i
 
--- src/paint.rt:104:5
 loop-holds : tie.Need-loop-holds Inv-loop μ-loop
 loop-holds c = search loops
 
--- src/paint.rt:105:9
 slice-write-xs : tie.Need-slice-write-xs Inv-loop μ-loop
 slice-write-xs c = search loops
 
--- src/paint.rt:104:9
 add-i : tie.Need-add-i Inv-loop μ-loop
 add-i c = search loops
 
--- src/paint.rt:104:5
 loop-less : tie.Need-loop-less Inv-loop μ-loop
 loop-less c = search loops
 
--- src/paint.rt:104:5
 loop-again : tie.Need-loop-again Inv-loop μ-loop
 loop-again c = search loops
 
--- src/paint.rt:100:1
 same-length : tie.Need-same-length Inv-loop μ-loop
 same-length c = search loops
 
--- src/paint.rt:100:1
 returns : tie.Need-returns Inv-loop μ-loop
 unfolding clearOf
 returns c = search loops

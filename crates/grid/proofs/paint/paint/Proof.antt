@@ -1,15 +1,13 @@
-use Rattle.grid.proofs.Turns.{loops, turns-more}
-use borrow.Author.Needs.{needs}
-use Prim.Native.Nat.{ℕ, _+_, _-_, _*_, _/_, _≤_}
+-- `paint`'s loop: the rows passed so far are painted, and the lists keep their lengths. Assumes nothing.
 use mathlib.Core.Path.{_≡_}
-use lib.ListN.{length, set}
+use Prim.Native.Nat.{_-_, _≤_}
+use lib.ListN.{length}
+use borrow.Author.Needs.{needs}
 use Rattle.laws.specs.Loops.{turns}
 use Rattle.rules.specs.TuGrid.{marks, paintRow, paintOf}
+use Rattle.grid.proofs.Turns.{loops, turns-more}
 use Rattle.grid.proofs.paint.paint.Statement.{statement}
 use Rattle.grid.proofs.paint.paint.Tie as tie
-use Rattle.grid.proofs.paint.paint.Reads as reads
-use Rattle.grid.proofs.paint.paint.Lts as lts
-use Rattle.grid.proofs.paint.row.Reads as row-reads
 
 abbrev Inv-loop : tie.InvT-loop
 Inv-loop vedge₀ hedge₀ sqw₀ sqh₀ s a n dr₀ vedge hedge sqw sqh dr = (dr ≤ n) × (marks vedge hedge sqw sqh ≡ turns dr (λ k. paintRow s a k) (marks vedge₀ hedge₀ sqw₀ sqh₀)) × (length vedge ≡ length vedge₀) × (length hedge ≡ length hedge₀) × (length sqw ≡ length sqw₀) × (length sqh ≡ length sqh₀)
@@ -17,43 +15,33 @@ Inv-loop vedge₀ hedge₀ sqw₀ sqh₀ s a n dr₀ vedge hedge sqw sqh dr = (d
 abbrev μ-loop : tie.MeasureT-loop
 μ-loop vedge₀ hedge₀ sqw₀ sqh₀ s a n dr₀ vedge hedge sqw sqh dr = n - dr
 
--- src/paint.rt:80:5
 loop-holds : tie.Need-loop-holds Inv-loop μ-loop
 loop-holds c = search loops
 
--- src/paint.rt:81:9
 row-requires : tie.Need-row-requires Inv-loop μ-loop
 row-requires c κs = search loops
 
--- src/paint.rt:80:9
 add-dr : tie.Need-add-dr Inv-loop μ-loop
 add-dr c = search loops
 
--- src/paint.rt:80:5
 loop-less : tie.Need-loop-less Inv-loop μ-loop
 loop-less c = search loops
 
--- src/paint.rt:80:5
 loop-again : tie.Need-loop-again Inv-loop μ-loop
 loop-again c = (search needs, turns-more _ _ _ (c .before .before .before .before .before .before .before .before .before .before .before .before .before .before .loop .inv .1) (c .before .before .before .before .before .before .before .before .row .ensures), search needs, search needs, search needs, search needs)
 
--- src/paint.rt:74:1
 same-length : tie.Need-same-length Inv-loop μ-loop
 same-length c = search loops
 
--- src/paint.rt:74:1
 same-length-2 : tie.Need-same-length-2 Inv-loop μ-loop
 same-length-2 c = search loops
 
--- src/paint.rt:74:1
 same-length-3 : tie.Need-same-length-3 Inv-loop μ-loop
 same-length-3 c = search loops
 
--- src/paint.rt:74:1
 same-length-4 : tie.Need-same-length-4 Inv-loop μ-loop
 same-length-4 c = search loops
 
--- src/paint.rt:74:1
 returns : tie.Need-returns Inv-loop μ-loop
 unfolding paintOf
 returns c = search loops

@@ -1,24 +1,18 @@
-use Rattle.rules.specs.QindexGrid.{qGridAfter}
-use Rattle.grid.proofs.Checked.{q-accepted}
+-- `build_qindex_grid` answers by its checks, and builds only where they accept. Assumes nothing.
 use mathlib.Core.Path.{refl, sym, _∙_}
-use Rattle.scan.proofs.Checks.{refused-by, accepted-by, settle-refused-by, settle-accepted-by}
 use borrow.Author.Needs.{needs}
+use Rattle.rules.specs.QindexGrid.{qGridAfter}
+use Rattle.scan.proofs.Checks.{refused-by, accepted-by, settle-refused-by, settle-accepted-by}
+use Rattle.grid.proofs.Checked.{q-accepted}
 use Rattle.grid.proofs.qindex_grid.build_qindex_grid.Statement.{statement}
 use Rattle.grid.proofs.qindex_grid.build_qindex_grid.Tie as tie
-use Rattle.grid.proofs.qindex_grid.build_qindex_grid.Reads as reads
-use Rattle.grid.proofs.qindex_grid.build_qindex_grid.Lts as lts
-use Rattle.grid.proofs.qindex_grid.q_check.Reads as q-check-reads
-use Rattle.grid.proofs.qindex_grid.qindex_grid.Reads as qindex-grid-reads
 
--- src/qindex_grid.rt:112:9
 q-check-requires : tie.Need-q-check-requires
 q-check-requires c κs = search needs
 
--- src/qindex_grid.rt:113:28
 enum-known-a : tie.Need-enum-known-a
 enum-known-a c = search needs
 
--- src/qindex_grid.rt:114:9
 returns : tie.Need-returns
 unfolding qGridAfter
 returns c = (refused-by _ _ (c .before .before .before .q-check .ensures .of (c .before .before .before .before .before .before .args .sbq .now) (c .before .before .before .before .before .before .args .qindex .now) refl refl) (c .before .a .given .1), settle-refused-by _ _ _ _ (c .before .before .before .q-check .ensures .of (c .before .before .before .before .before .before .args .sbq .now) (c .before .before .before .before .before .before .args .qindex .now) refl refl) (c .before .a .given .1))
@@ -26,15 +20,12 @@ returns c = (refused-by _ _ (c .before .before .before .q-check .ensures .of (c 
 enum-told : tie.Need-enum-told
 enum-told c = search needs
 
--- src/qindex_grid.rt:116:5
 qindex-grid-requires : tie.Need-qindex-grid-requires
 qindex-grid-requires c κs = q-accepted _ (c .before .before .before .before .before .before .args .sbq .now) (c .before .before .before .before .before .before .args .qindex .now) (sym (c .before .before .before .q-check .ensures .of (c .before .before .before .before .before .before .args .sbq .now) (c .before .before .before .before .before .before .args .qindex .now) refl refl) ∙ c .before .enum-told .given .1)
 
--- src/qindex_grid.rt:109:1
 same-length : tie.Need-same-length
 same-length c = search needs
 
--- src/qindex_grid.rt:109:1
 returns-2 : tie.Need-returns-2
 unfolding qGridAfter
 returns-2 c = (accepted-by _ _ (c .before .before .before .before .before .before .q-check .ensures .of (c .before .before .before .before .before .before .before .before .before .args .sbq .now) (c .before .before .before .before .before .before .before .before .before .args .qindex .now) refl refl) (c .before .before .before .before .enum-told .given .1), settle-accepted-by _ _ _ _ _ (c .before .before .before .before .before .before .q-check .ensures .of (c .before .before .before .before .before .before .before .before .before .args .sbq .now) (c .before .before .before .before .before .before .before .before .before .args .qindex .now) refl refl) (c .before .before .before .before .enum-told .given .1) (c .before .before .qindex-grid .ensures))

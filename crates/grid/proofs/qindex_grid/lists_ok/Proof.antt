@@ -1,14 +1,11 @@
+-- `lists_ok` tests both lengths. Assumes nothing.
 use Rattle.laws.specs.Choose.{tests}
 use Rattle.grid.proofs.qindex_grid.lists_ok.Statement.{statement}
 use Rattle.grid.proofs.qindex_grid.lists_ok.Tie as tie
-use Rattle.grid.proofs.qindex_grid.lists_ok.Reads as reads
-use Rattle.grid.proofs.qindex_grid.lists_ok.Lts as lts
 
--- src/qindex_grid.rt:91:9
 returns : tie.Need-returns
 returns c = search tests
 
--- src/qindex_grid.rt:87:1
 returns-2 : tie.Need-returns-2
 returns-2 c = search tests
 

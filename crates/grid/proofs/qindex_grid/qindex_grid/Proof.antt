@@ -1,15 +1,12 @@
-use Rattle.grid.proofs.Turns.{loops, turns-more}
-use borrow.Author.Needs.{needs}
-use Prim.Native.Nat.{ℕ, _+_, _-_, _*_, _/_, _≤_}
+-- `qindex_grid`'s loop: the rows passed so far are set. Assumes nothing.
 use mathlib.Core.Path.{_≡_}
-use lib.ListN.{length, set}
+use Prim.Native.Nat.{_-_, _≤_}
+use lib.ListN.{length}
 use Rattle.laws.specs.Loops.{turns}
 use Rattle.rules.specs.QindexGrid.{qRow, qGridOf}
+use Rattle.grid.proofs.Turns.{loops}
 use Rattle.grid.proofs.qindex_grid.qindex_grid.Statement.{statement}
 use Rattle.grid.proofs.qindex_grid.qindex_grid.Tie as tie
-use Rattle.grid.proofs.qindex_grid.qindex_grid.Reads as reads
-use Rattle.grid.proofs.qindex_grid.qindex_grid.Lts as lts
-use Rattle.grid.proofs.qindex_grid.q_row.Reads as q-row-reads
 
 abbrev Inv-loop : tie.InvT-loop
 Inv-loop sbq qindex₀ s n r₀ qindex r = (r ≤ n) × (qindex ≡ turns r (λ k. qRow s sbq k) qindex₀) × (length qindex ≡ length qindex₀)
@@ -17,31 +14,24 @@ Inv-loop sbq qindex₀ s n r₀ qindex r = (r ≤ n) × (qindex ≡ turns r (λ 
 abbrev μ-loop : tie.MeasureT-loop
 μ-loop sbq qindex₀ s n r₀ qindex r = n - r
 
--- src/qindex_grid.rt:59:5
 loop-holds : tie.Need-loop-holds Inv-loop μ-loop
 loop-holds c = search loops
 
--- src/qindex_grid.rt:60:9
 q-row-requires : tie.Need-q-row-requires Inv-loop μ-loop
 q-row-requires c κs = search loops
 
--- src/qindex_grid.rt:59:9
 add-r : tie.Need-add-r Inv-loop μ-loop
 add-r c = search loops
 
--- src/qindex_grid.rt:59:5
 loop-less : tie.Need-loop-less Inv-loop μ-loop
 loop-less c = search loops
 
--- src/qindex_grid.rt:59:5
 loop-again : tie.Need-loop-again Inv-loop μ-loop
 loop-again c = search loops
 
--- src/qindex_grid.rt:54:1
 same-length : tie.Need-same-length Inv-loop μ-loop
 same-length c = search loops
 
--- src/qindex_grid.rt:54:1
 returns : tie.Need-returns Inv-loop μ-loop
 unfolding qGridOf
 returns c = search loops

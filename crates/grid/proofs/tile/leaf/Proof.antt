@@ -1,64 +1,48 @@
-use Rattle.rules.specs.TuGrid.{leafOf}
+-- `leaf` reads the four numbers of leaf k. Assumes nothing.
 use borrow.Author.Needs.{needs}
+use Rattle.rules.specs.TuGrid.{leafOf}
 use Rattle.grid.proofs.tile.leaf.Statement.{statement}
 use Rattle.grid.proofs.tile.leaf.Tie as tie
-use Rattle.grid.proofs.tile.leaf.Reads as reads
-use Rattle.grid.proofs.tile.leaf.Lts as lts
-use Rattle.grid.proofs.tile.tile_of.Reads as tile-of-reads
 
--- src/tile.rt:93:14
 mul-at : tie.Need-mul-at
 mul-at c = search needs
 
--- src/tile.rt:94:22
 mul-tile-of : tie.Need-mul-tile-of
 mul-tile-of c = search needs
 
--- src/tile.rt:94:22
 shared-slice-read-tile-of : tie.Need-shared-slice-read-tile-of
 shared-slice-read-tile-of c = search needs
 
--- src/tile.rt:94:41
 add-tile-of : tie.Need-add-tile-of
 add-tile-of c = search needs
 
--- src/tile.rt:94:34
 mul-tile-of-2 : tie.Need-mul-tile-of-2
 mul-tile-of-2 c = search needs
 
--- src/tile.rt:94:34
 shared-slice-read-tile-of-2 : tie.Need-shared-slice-read-tile-of-2
 shared-slice-read-tile-of-2 c = search needs
 
--- src/tile.rt:94:57
 add-tile-of-2 : tie.Need-add-tile-of-2
 add-tile-of-2 c = search needs
 
--- src/tile.rt:94:50
 mul-tile-of-3 : tie.Need-mul-tile-of-3
 mul-tile-of-3 c = search needs
 
--- src/tile.rt:94:50
 shared-slice-read-tile-of-3 : tie.Need-shared-slice-read-tile-of-3
 shared-slice-read-tile-of-3 c = search needs
 
--- src/tile.rt:94:73
 add-tile-of-3 : tie.Need-add-tile-of-3
 add-tile-of-3 c = search needs
 
--- src/tile.rt:94:66
 mul-tile-of-4 : tie.Need-mul-tile-of-4
 mul-tile-of-4 c = search needs
 
--- src/tile.rt:94:66
 shared-slice-read-tile-of-4 : tie.Need-shared-slice-read-tile-of-4
 shared-slice-read-tile-of-4 c = search needs
 
--- src/tile.rt:94:5
 tile-of-requires : tie.Need-tile-of-requires
 tile-of-requires c κs = search needs
 
--- src/tile.rt:88:1
 returns : tie.Need-returns
 unfolding leafOf
 returns c = c .tile-of .ensures

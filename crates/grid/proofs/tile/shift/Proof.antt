@@ -1,25 +1,19 @@
-use Rattle.grid.proofs.Shifts.{down-none, down-half}
+-- `shift` is a division by 2 to the subsampling. Assumes nothing.
 use mathlib.Core.Path.{_∙_}
 use borrow.Author.Needs.{needs}
+use Rattle.grid.proofs.Shifts.{down-none, down-half}
 use Rattle.grid.proofs.tile.shift.Statement.{statement}
 use Rattle.grid.proofs.tile.shift.Tie as tie
-use Rattle.grid.proofs.tile.shift.Reads as reads
-use Rattle.grid.proofs.tile.shift.Lts as lts
-use Rattle.grid.proofs.tile.wide.Reads as wide-reads
 
--- src/tile.rt:24:18
 wide-requires : tie.Need-wide-requires
 wide-requires c κs = search needs
 
--- src/tile.rt:24:35
 wide-requires-2 : tie.Need-wide-requires-2
 wide-requires-2 c κs = search needs
 
--- src/tile.rt:20:1
 returns : tie.Need-returns
 returns c = c .wide .ensures ∙ down-none _ _ (c .before .if1 .taken)
 
--- src/tile.rt:20:1
 returns-2 : tie.Need-returns-2
 returns-2 c = rw (c .wide2 .ensures) (down-half _ _ (c .before .before .pre) (c .before .if1 .left))
 

@@ -1,24 +1,18 @@
-use Rattle.rules.specs.TuGrid.{marks, txGridAfter}
-use Rattle.grid.proofs.Checked.{tx-accepted}
+-- `build_tx_grid` answers by its checks, and builds only where they accept. Assumes nothing.
 use mathlib.Core.Path.{refl, sym, _∙_}
-use Rattle.scan.proofs.Checks.{refused-by, accepted-by, settle-refused-by, settle-accepted-by}
 use borrow.Author.Needs.{needs}
+use Rattle.rules.specs.TuGrid.{marks, txGridAfter}
+use Rattle.scan.proofs.Checks.{refused-by, accepted-by, settle-refused-by, settle-accepted-by}
+use Rattle.grid.proofs.Checked.{tx-accepted}
 use Rattle.grid.proofs.tx_grid.build_tx_grid.Statement.{statement}
 use Rattle.grid.proofs.tx_grid.build_tx_grid.Tie as tie
-use Rattle.grid.proofs.tx_grid.build_tx_grid.Reads as reads
-use Rattle.grid.proofs.tx_grid.build_tx_grid.Lts as lts
-use Rattle.grid.proofs.tx_grid.tx_check.Reads as tx-check-reads
-use Rattle.grid.proofs.tx_grid.tx_grid.Reads as tx-grid-reads
 
--- src/tx_grid.rt:89:9
 tx-check-requires : tie.Need-tx-check-requires
 tx-check-requires c κs = search needs
 
--- src/tx_grid.rt:90:28
 enum-known-a : tie.Need-enum-known-a
 enum-known-a c = search needs
 
--- src/tx_grid.rt:91:9
 returns : tie.Need-returns
 unfolding txGridAfter
 returns c = (refused-by _ _ (c .before .before .before .tx-check .ensures .of (marks (c .before .before .before .before .before .before .before .before .before .before .args .vedge .now) (c .before .before .before .before .before .before .before .before .before .before .args .hedge .now) (c .before .before .before .before .before .before .before .before .before .before .args .sqw .now) (c .before .before .before .before .before .before .before .before .before .before .args .sqh .now)) (record { of-v = refl; of-h = refl; of-w = refl; of-t = refl })) (c .before .a .given .1), settle-refused-by _ _ _ _ (c .before .before .before .tx-check .ensures .of (marks (c .before .before .before .before .before .before .before .before .before .before .args .vedge .now) (c .before .before .before .before .before .before .before .before .before .before .args .hedge .now) (c .before .before .before .before .before .before .before .before .before .before .args .sqw .now) (c .before .before .before .before .before .before .before .before .before .before .args .sqh .now)) (record { of-v = refl; of-h = refl; of-w = refl; of-t = refl })) (c .before .a .given .1))
@@ -26,27 +20,21 @@ returns c = (refused-by _ _ (c .before .before .before .tx-check .ensures .of (m
 enum-told : tie.Need-enum-told
 enum-told c = search needs
 
--- src/tx_grid.rt:93:5
 tx-grid-requires : tie.Need-tx-grid-requires
 tx-grid-requires c κs = let a = tx-accepted _ _ _ (marks (c .before .before .before .before .before .before .before .before .before .before .before .before .before .args .vedge .now) (c .before .before .before .before .before .before .before .before .before .before .before .before .before .args .hedge .now) (c .before .before .before .before .before .before .before .before .before .before .before .before .before .args .sqw .now) (c .before .before .before .before .before .before .before .before .before .before .before .before .before .args .sqh .now)) (sym (c .before .before .before .before .before .before .tx-check .ensures .of (marks (c .before .before .before .before .before .before .before .before .before .before .before .before .before .args .vedge .now) (c .before .before .before .before .before .before .before .before .before .before .before .before .before .args .hedge .now) (c .before .before .before .before .before .before .before .before .before .before .before .before .before .args .sqw .now) (c .before .before .before .before .before .before .before .before .before .before .before .before .before .args .sqh .now)) (record { of-v = refl; of-h = refl; of-w = refl; of-t = refl })) ∙ c .before .before .before .before .enum-told .given .1) in (a .0, (a .1, (a .2, a .3)))
 
--- src/tx_grid.rt:86:1
 same-length : tie.Need-same-length
 same-length c = search needs
 
--- src/tx_grid.rt:86:1
 same-length-2 : tie.Need-same-length-2
 same-length-2 c = search needs
 
--- src/tx_grid.rt:86:1
 same-length-3 : tie.Need-same-length-3
 same-length-3 c = search needs
 
--- src/tx_grid.rt:86:1
 same-length-4 : tie.Need-same-length-4
 same-length-4 c = search needs
 
--- src/tx_grid.rt:86:1
 returns-2 : tie.Need-returns-2
 unfolding txGridAfter
 returns-2 c = (accepted-by _ _ (c .before .before .before .before .before .before .before .before .before .before .before .before .before .before .before .tx-check .ensures .of (marks (c .before .before .before .before .before .before .before .before .before .before .before .before .before .before .before .before .before .before .before .before .before .before .args .vedge .now) (c .before .before .before .before .before .before .before .before .before .before .before .before .before .before .before .before .before .before .before .before .before .before .args .hedge .now) (c .before .before .before .before .before .before .before .before .before .before .before .before .before .before .before .before .before .before .before .before .before .before .args .sqw .now) (c .before .before .before .before .before .before .before .before .before .before .before .before .before .before .before .before .before .before .before .before .before .before .args .sqh .now)) (record { of-v = refl; of-h = refl; of-w = refl; of-t = refl })) (c .before .before .before .before .before .before .before .before .before .before .before .before .before .enum-told .given .1), settle-accepted-by _ _ _ _ _ (c .before .before .before .before .before .before .before .before .before .before .before .before .before .before .before .tx-check .ensures .of (marks (c .before .before .before .before .before .before .before .before .before .before .before .before .before .before .before .before .before .before .before .before .before .before .args .vedge .now) (c .before .before .before .before .before .before .before .before .before .before .before .before .before .before .before .before .before .before .before .before .before .before .args .hedge .now) (c .before .before .before .before .before .before .before .before .before .before .before .before .before .before .before .before .before .before .before .before .before .before .args .sqw .now) (c .before .before .before .before .before .before .before .before .before .before .before .before .before .before .before .before .before .before .before .before .before .before .args .sqh .now)) (record { of-v = refl; of-h = refl; of-w = refl; of-t = refl })) (c .before .before .before .before .before .before .before .before .before .before .before .before .before .enum-told .given .1) (c .before .before .before .before .before .before .before .before .tx-grid .ensures))

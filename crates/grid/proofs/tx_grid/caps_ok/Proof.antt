@@ -1,24 +1,18 @@
-use Rattle.laws.specs.Choose.{tests}
+-- `caps_ok` tests both caps. Assumes nothing.
 use borrow.Author.Needs.{needs}
+use Rattle.laws.specs.Choose.{tests}
 use Rattle.grid.proofs.tx_grid.caps_ok.Statement.{statement}
 use Rattle.grid.proofs.tx_grid.caps_ok.Tie as tie
-use Rattle.grid.proofs.tx_grid.caps_ok.Reads as reads
-use Rattle.grid.proofs.tx_grid.caps_ok.Lts as lts
-use Rattle.grid.proofs.checks.cap_ok.Reads as cap-ok-reads
 
--- src/tx_grid.rt:49:9
 cap-ok-requires : tie.Need-cap-ok-requires
 cap-ok-requires c κs = search needs
 
--- src/tx_grid.rt:50:9
 returns : tie.Need-returns
 returns c = search tests
 
--- src/tx_grid.rt:52:5
 cap-ok-requires-2 : tie.Need-cap-ok-requires-2
 cap-ok-requires-2 c κs = search needs
 
--- src/tx_grid.rt:46:1
 returns-2 : tie.Need-returns-2
 returns-2 c = search tests
 

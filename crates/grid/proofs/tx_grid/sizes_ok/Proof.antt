@@ -1,25 +1,18 @@
-use Rattle.laws.specs.Choose.{tests}
+-- `sizes_ok` tests the cells, then the subsampling. Assumes nothing.
 use borrow.Author.Needs.{needs}
+use Rattle.laws.specs.Choose.{tests}
 use Rattle.grid.proofs.tx_grid.sizes_ok.Statement.{statement}
 use Rattle.grid.proofs.tx_grid.sizes_ok.Tie as tie
-use Rattle.grid.proofs.tx_grid.sizes_ok.Reads as reads
-use Rattle.grid.proofs.tx_grid.sizes_ok.Lts as lts
-use Rattle.grid.proofs.checks.cells_ok.Reads as cells-ok-reads
-use Rattle.grid.proofs.checks.subsampling_ok.Reads as subsampling-ok-reads
 
--- src/tx_grid.rt:40:9
 cells-ok-requires : tie.Need-cells-ok-requires
 cells-ok-requires c κs = search needs
 
--- src/tx_grid.rt:41:9
 returns : tie.Need-returns
 returns c = search tests
 
--- src/tx_grid.rt:43:5
 subsampling-ok-requires : tie.Need-subsampling-ok-requires
 subsampling-ok-requires c κs = search needs
 
--- src/tx_grid.rt:37:1
 returns-2 : tie.Need-returns-2
 returns-2 c = search tests
 

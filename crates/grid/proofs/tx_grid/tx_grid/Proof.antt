@@ -1,46 +1,34 @@
+-- `tx_grid` blanks the lists, paints the leaves and then the skip leaves; the lists keep their lengths. Assumes nothing.
+use borrow.Author.Needs.{needs}
 use Rattle.grid.proofs.Painted.{grid-built}
 use Rattle.grid.proofs.Places.{fit-same}
-use borrow.Author.Needs.{needs}
 use Rattle.grid.proofs.tx_grid.tx_grid.Statement.{statement}
 use Rattle.grid.proofs.tx_grid.tx_grid.Tie as tie
-use Rattle.grid.proofs.tx_grid.tx_grid.Reads as reads
-use Rattle.grid.proofs.tx_grid.tx_grid.Lts as lts
-use Rattle.grid.proofs.paint.blank.Reads as blank-reads
-use Rattle.grid.proofs.paint.leaves.Reads as leaves-reads
 
--- src/tx_grid.rt:32:35
 mul-blank : tie.Need-mul-blank
 mul-blank c = search needs
 
--- src/tx_grid.rt:32:5
 blank-requires : tie.Need-blank-requires
 blank-requires c κs = search needs
 
--- src/tx_grid.rt:33:5
 leaves-requires : tie.Need-leaves-requires
 leaves-requires c κs = (fit-same (c .before .before .before .before .before .before .before .before .before .before .before .before .before .before .before .before .before .before .before .before .before .before .before .before .pre .0) (c .before .before .before .before .before .before .before .before .before .before .before .before .blank .kept .0) (c .before .before .before .before .before .before .before .before .before .before .before .before .blank .kept .1 .0) (c .before .before .before .before .before .before .before .before .before .before .before .before .blank .kept .1 .1 .0) (c .before .before .before .before .before .before .before .before .before .before .before .before .blank .kept .1 .1 .1 .0), (c .before .before .before .before .before .before .before .before .before .before .before .before .before .before .before .before .before .before .before .before .before .before .before .before .pre .1 .0, c .before .before .before .before .before .before .before .before .before .before .before .before .before .before .before .before .before .before .before .before .before .before .before .before .pre .1 .1 .0))
 
--- src/tx_grid.rt:34:5
 leaves-requires-2 : tie.Need-leaves-requires-2
 leaves-requires-2 c κs = (fit-same (fit-same (c .before .before .before .before .before .before .before .before .before .before .before .before .before .before .before .before .before .before .before .before .before .before .before .before .before .before .before .before .before .before .before .before .before .before .before .before .before .pre .0) (c .before .before .before .before .before .before .before .before .before .before .before .before .before .before .before .before .before .before .before .before .before .before .before .before .before .blank .kept .0) (c .before .before .before .before .before .before .before .before .before .before .before .before .before .before .before .before .before .before .before .before .before .before .before .before .before .blank .kept .1 .0) (c .before .before .before .before .before .before .before .before .before .before .before .before .before .before .before .before .before .before .before .before .before .before .before .before .before .blank .kept .1 .1 .0) (c .before .before .before .before .before .before .before .before .before .before .before .before .before .before .before .before .before .before .before .before .before .before .before .before .before .blank .kept .1 .1 .1 .0)) (c .before .before .before .before .before .before .before .before .before .before .before .before .leaves .kept .0) (c .before .before .before .before .before .before .before .before .before .before .before .before .leaves .kept .1 .0) (c .before .before .before .before .before .before .before .before .before .before .before .before .leaves .kept .1 .1 .0) (c .before .before .before .before .before .before .before .before .before .before .before .before .leaves .kept .1 .1 .1 .0), (c .before .before .before .before .before .before .before .before .before .before .before .before .before .before .before .before .before .before .before .before .before .before .before .before .before .before .before .before .before .before .before .before .before .before .before .before .before .pre .1 .0, c .before .before .before .before .before .before .before .before .before .before .before .before .before .before .before .before .before .before .before .before .before .before .before .before .before .before .before .before .before .before .before .before .before .before .before .before .before .pre .1 .1 .1))
 
--- src/tx_grid.rt:25:1
 same-length : tie.Need-same-length
 same-length c = search needs
 
--- src/tx_grid.rt:25:1
 same-length-2 : tie.Need-same-length-2
 same-length-2 c = search needs
 
--- src/tx_grid.rt:25:1
 same-length-3 : tie.Need-same-length-3
 same-length-3 c = search needs
 
--- src/tx_grid.rt:25:1
 same-length-4 : tie.Need-same-length-4
 same-length-4 c = search needs
 
--- src/tx_grid.rt:25:1
 returns : tie.Need-returns
 returns c = grid-built _ _ _ _ _ _ (c .before .before .before .before .before .before .before .before .before .before .before .before .before .before .before .before .before .before .before .before .before .before .before .before .before .before .before .before .before .before .before .before .before .before .blank .ensures) (c .before .before .before .before .before .before .before .before .before .before .before .before .before .before .before .before .before .before .before .before .before .leaves .ensures) (c .before .before .before .before .before .before .before .before .leaves2 .ensures)
 
