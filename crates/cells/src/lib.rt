@@ -1,0 +1,7 @@
+// What a plane's grid says of its edges, and document 01's checks 2, 3, 6, 7 and 8 of a plane.
+
+// Sizes and lengths: refusals 2 and 3.
+pub mod sizes;
+
+// Marks and size indices: refusal 6.
+pub mod grid;
