@@ -1,7 +1,7 @@
 -- What accepted sizes and lengths of a plane give.
 -- Assumes nothing.
 use mathlib.Core.Path.{_≡_, refl, sym, ap, _∙_}
-use mathlib.Core.List.{List, [], _∷_}
+use mathlib.Core.Logic.{⊎-elim}
 use mathlib.Core.Bool.{Bool, true, false, not}
 use Prim.Native.Nat.{ℕ, _+_, _*_, _^_, _≤_, _<_}
 use native.Mathlib.Nat.{mul-le-mul}
@@ -11,23 +11,16 @@ use mir.Val.{Fits}
 use mir.Syntax.{w64}
 use lib.ListN.{length}
 use lib.Dec.{eqb, leb}
-use Rattle.laws.specs.Choose.{either}
+use Rattle.laws.specs.Choose.{either, both, told-yes-not, all-parts, both-parts, either-parts}
 use Rattle.rules.specs.declared.settings.Plane.{Plane}
 use Rattle.rules.specs.Numbers.{inRange}
 use Rattle.rules.specs.Plane.{Grid, planeSizesOk, planeLengthsOk}
-use Rattle.cells.proofs.Tests.{tests, passed, all-parts, either-parts, in-range}
+use Rattle.cells.specs.Fit.{Sizes}
 
-pub record Sizes (s : Plane) : Type 0 where
-  pub some-cols : 1 ≤ s .cols
-  pub cols-most : s .cols ≤ 1024
-  pub some-rows : 1 ≤ s .rows
-  pub rows-most : s .rows ≤ 1024
-  pub wide : 4 * s .cols ≤ s .stride
-  pub stride-most : s .stride ≤ 8192
-  pub some-sbw : 8 ≤ s .sbw
-  pub sbw-most : s .sbw ≤ 16
-  pub some-sbh : 8 ≤ s .sbh
-  pub sbh-most : s .sbh ≤ 16
+-- low..high
+pub in-range : (low high n : ℕ) → inRange low high n ≡ true → (low ≤ n) × (n ≤ high)
+unfolding inRange
+in-range low high n e = let p = both-parts _ _ e in (leb-true _ _ (p .0), leb-true _ _ (p .1))
 
 pub sizes : (s : Plane) → planeSizesOk s ≡ true → Sizes s
 unfolding planeSizesOk
@@ -59,24 +52,28 @@ sizes s e =
   where
     superblock : (n : ℕ) → either (eqb n 8) (eqb n 16) ≡ true → (8 ≤ n) × (n ≤ 16)
     superblock n q =
-        either-parts (eqb n 8) (eqb n 16)
+        ⊎-elim
         (λ t. let z = eqb-true n 8 t in (omega arith, omega arith))
-        (λ t. let z = eqb-true n 16 t in (omega arith, omega arith)) q
+        (λ t. let z = eqb-true n 16 t in (omega arith, omega arith))
+        (either-parts (eqb n 8) (eqb n 16) q)
+
+-- as the code's tests found them
+pub sizes-by : (s : Plane) (t : Bool) → t ≡ planeSizesOk s → not t ≡ false → Sizes s
+sizes-by s t e f = sizes s (sym (told-yes-not _ t e f))
 
 -- products of accepted sizes fit a word
 pub four-fits : {t : Bool} (n : ℕ) → t ≡ inRange 1 1024 n → not t ≡ false → Fits w64 (4 * n)
-four-fits n e f = let h = in-range 1 1024 n (passed _ e f) in record { fits = omega arith }
+four-fits {t} n e f = let h = in-range 1 1024 n (sym (told-yes-not _ t e f)) in record { fits = omega arith }
 
-module _ (s : Plane) (ok : planeSizesOk s ≡ true) where
+module _ {s : Plane} (z : Sizes s) where
   pub rows-fit : Fits w64 (4 * s .rows)
-  rows-fit = let z = sizes s ok in record { fits = omega arith }
+  rows-fit = record { fits = omega arith }
 
   pub area-fits : Fits w64 (4 * s .rows * s .stride)
   area-fits =
-      let z = sizes s ok in
       record { fits = omega (arith, mul-le-mul {n₁ = 4 * s .rows} {m₁ = s .stride} {n₂ = 4096} {m₂ = 8192} (omega arith) (z .stride-most)) }
 
   pub cells-fit : Fits w64 (s .rows * s .cols)
-  cells-fit = let z = sizes s ok in record { fits = omega (arith, mul-le-mul (z .rows-most) (z .cols-most)) }
+  cells-fit = record { fits = omega (arith, mul-le-mul (z .rows-most) (z .cols-most)) }
 
-pub ruleset sizing = (tests, four-fits, rows-fit, area-fits, cells-fit)
+pub ruleset sizing = (rows-fit, area-fits, cells-fit)

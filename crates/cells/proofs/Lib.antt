@@ -1,3 +1,3 @@
-pub mod Tests
 pub mod Accepted
 pub mod Marks
+pub mod Places

@@ -5,3 +5,6 @@ pub mod sizes;
 
 // Marks and size indices: refusal 6.
 pub mod grid;
+
+// The edge of a cell: whether it is there, the cell before it, and its pair of lengths.
+pub mod pair;

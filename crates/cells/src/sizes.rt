@@ -1,12 +1,12 @@
 // Document 01, "Numbers accepted", of a plane: its sizes and the lengths of its lists.
 use rules::settings::Plane;
 ghost use mathlib.Core.Path.{_≡_};
-ghost use mathlib.Core.Bool.{true};
 ghost use lib.Dec.{eqb};
 ghost use lib.ListN.{length};
 ghost use Rattle.laws.specs.Choose.{either};
 ghost use Rattle.rules.specs.Numbers.{inRange};
 ghost use Rattle.rules.specs.Plane.{grid, planeSizesOk, planeLengthsOk};
+ghost use Rattle.cells.specs.Fit.{Sizes};
 
 // low..high.
 fn in_range(low: usize, high: usize, n: usize) -> bool
@@ -55,7 +55,7 @@ pub fn sizes_ok(s: Plane) -> bool
 
 // Every list is long enough.
 pub fn lengths_ok(plane: &[u16], vedge: &[u8], hedge: &[u8], sqw: &[u8], sqh: &[u8], qindex: &[u16], s: Plane) -> bool
-    requires { ⌜ planeSizesOk s ≡ true ⌝ }
+    requires { ⌜ Sizes s ⌝ }
     ensures { λ r. ⌜ r ≡ planeLengthsOk s (grid (now (vedge .entry)) (now (hedge .entry)) (now (sqw .entry)) (now (sqh .entry)) (now (qindex .entry))) (length (now (plane .entry))) ⌝ }
 {
     if plane.len() < 4 * s.rows * s.stride {

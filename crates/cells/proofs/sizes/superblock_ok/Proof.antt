@@ -1,4 +1,4 @@
-use Rattle.cells.proofs.Tests.{tests}
+use Rattle.laws.specs.Choose.{tests}
 use Rattle.cells.proofs.sizes.superblock_ok.Statement.{statement}
 use Rattle.cells.proofs.sizes.superblock_ok.Tie as tie
 
