@@ -11,7 +11,7 @@ use borrow.Author.Tests.{leb-true}
 use mathlib.Core.Bool.{Bool, true, false}
 use lib.Dec.{leb}
 use lib.ListN.{getD}
-use Rattle.laws.specs.Choose.{all-ok, all-none, all-parts, is-le, true-not-false}
+use Rattle.laws.specs.Choose.{all-ok, all-none, all-parts, is-le, told-yes-not, told-no-not, true-not-false}
 use Rattle.rules.specs.declared.settings.Plane.{Plane}
 use Rattle.rules.specs.declared.refusals.Found.{Found}
 use Rattle.rules.specs.declared.refusals.Found.the-variants.{At, Nothing}
@@ -74,3 +74,10 @@ unfolding badCell badOf cellGood
 bad-is s v h w t r e q = e
 
 pub ruleset most = (needs, within-none, within-more, within-end)
+
+pub ruleset goods = (needs, good, not-good)
+
+-- the code's scan
+pub ruleset finds = (firsts, told-yes-not, told-no-not)
+
+pub ruleset bads = (needs, good-none, bad-is)

@@ -50,6 +50,12 @@ pub record Indices (s : Plane) (sizes : List ℕ) : Type 0 where
   pub long : s .rows * s .cols ≤ length sizes
   pub small : Within 6 (s .rows * s .cols) sizes
 
+-- a direction's own lists, in a plane of accepted sizes
+pub record Ready (s : Plane) (marks sizes : List ℕ) : Type 0 where
+  pub sizes-ok : Sizes s
+  pub marks-long : s .rows * s .cols ≤ length marks
+  pub indices : Indices s sizes
+
 -- a cell of the plane
 pub record Cell (s : Plane) (r c : ℕ) : Type 0 where
   pub in-rows : r < s .rows

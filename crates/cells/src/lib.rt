@@ -8,3 +8,9 @@ pub mod grid;
 
 // The edge of a cell: whether it is there, the cell before it, and its pair of lengths.
 pub mod pair;
+
+// Whether every edge has room: refusal 7.
+pub mod room;
+
+// Samples over top: refusal 8.
+pub mod samples;

@@ -1,42 +1,42 @@
+use mathlib.Core.Path.{_≡_}
+use mathlib.Core.List.{[]}
+use Prim.Native.Nat.{_≤_, _-_}
+use Rattle.rules.specs.declared.refusals.Found.the-variants.{Nothing}
+use Rattle.rules.specs.Plane.{grid, cellGood}
+use Rattle.rules.specs.Refusals.{first, foundUnless}
+use Rattle.cells.specs.Fit.{badOf}
+use Rattle.cells.proofs.Marks.{finds}
 use Rattle.cells.proofs.grid.first_bad.Statement.{statement}
 use Rattle.cells.proofs.grid.first_bad.Tie as tie
-use Rattle.cells.proofs.grid.first_bad.Reads as reads
-use Rattle.cells.proofs.grid.first_bad.Lts as lts
-use Rattle.cells.proofs.grid.cell_good.Reads as cell-good-reads
 
 abbrev Inv-loop : tie.InvT-loop
-Inv-loop vedge hedge sqw sqh count k₀ k = ?
+Inv-loop vedge hedge sqw sqh count k₀ k = (k ≤ count) × (first k (λ i. foundUnless (cellGood (grid vedge hedge sqw sqh []) i) i) ≡ Nothing)
 
 abbrev μ-loop : tie.MeasureT-loop
-μ-loop vedge hedge sqw sqh count k₀ k = ?
+μ-loop vedge hedge sqw sqh count k₀ k = count - k
 
--- src/grid.rt:69:5
 loop-holds : tie.Need-loop-holds Inv-loop μ-loop
-loop-holds c = ?
+loop-holds c = search finds
 
--- src/grid.rt:70:13
 cell-good-requires : tie.Need-cell-good-requires Inv-loop μ-loop
-cell-good-requires c κs = ?
+cell-good-requires c κs = search finds
 
--- src/grid.rt:71:13
 returns : tie.Need-returns Inv-loop μ-loop
-returns c = ?
+unfolding badOf
+returns c = search finds
 
--- src/grid.rt:69:9
 add-k : tie.Need-add-k Inv-loop μ-loop
-add-k c = ?
+add-k c = search finds
 
--- src/grid.rt:69:5
 loop-less : tie.Need-loop-less Inv-loop μ-loop
-loop-less c = ?
+loop-less c = search finds
 
--- src/grid.rt:69:5
 loop-again : tie.Need-loop-again Inv-loop μ-loop
-loop-again c = ?
+loop-again c = search finds
 
--- src/grid.rt:65:1
 returns-2 : tie.Need-returns-2 Inv-loop μ-loop
-returns-2 c = ?
+unfolding badOf
+returns-2 c = search finds
 
 pub first-bad-spec : {M : Type 1} → statement M
 first-bad-spec =
