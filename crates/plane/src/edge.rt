@@ -8,6 +8,8 @@ ghost use mathlib.Core.Path.{_≡_};
 ghost use mathlib.Core.List.{[]};
 ghost use Prim.Native.Nat.{_+_, _*_, _/_, _%_, _≤_, min};
 ghost use lib.ListN.{length, getD};
+ghost use mathlib.Core.Bool.{true};
+ghost use Rattle.rules.specs.Numbers.{depthOk};
 ghost use Rattle.cells.specs.Fit.{Sizes, Inner, Indices, oneWay};
 ghost use Rattle.plane.specs.Run.{LAST, Levels, IsEdgeAt};
 
@@ -26,7 +28,7 @@ fn block(table: &[u32; 1671], qindex: u16) -> u32
 
 // The edge of a cell that has one.
 pub fn edge_at(sizes: &[u8], qindex: &[u16], table: &[u32; 1671], s: Plane, dir: usize, r: usize, c: usize) -> Edge
-    requires { ⌜ Sizes s × Inner s dir r c × Indices s (now sizes) × (s .rows * s .cols ≤ length (now qindex)) × Levels (now table) ⌝ }
+    requires { ⌜ Sizes s × Inner s dir r c × Indices s (now sizes) × (s .rows * s .cols ≤ length (now qindex)) × Levels (now table) × (depthOk (s .depth) ≡ true) ⌝ }
     ensures { λ e. ⌜ IsEdgeAt s (now (table .entry)) (oneWay [] (now (sizes .entry)) (now (qindex .entry))) dir r c e ⌝ }
 {
     let i = cell_of(s, r, c);
