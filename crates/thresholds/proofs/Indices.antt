@@ -11,7 +11,7 @@ use lib.Signed.{leZ}
 use lib.Dec.{leb}
 use Rattle.laws.specs.Choose.{both, both-parts, both-bad, both-later, both-ok, is-le, not-le}
 use Rattle.laws.specs.Whole.{Is, over, under, same, self, count, recast, plus, minus, scale, size-is, between, between-is}
-use Rattle.laws.specs.declared.Gap.{Gap}
+use Rattle.laws.specs.declared.whole.Gap.{Gap}
 use Rattle.rules.specs.Numbers.{deltaOk, inRangeZ}
 use Rattle.rules.specs.Thresholds.{indexOf}
 use Rattle.thresholds.specs.Index.{whole, IndexIs}
@@ -51,9 +51,6 @@ small (pos n) ok = record { above = leb-true _ _ (both-parts _ _ ok .1); below =
 small (negsuc n) ok =
     let h : n ≤ 127 = leb-true _ _ (both-parts _ _ ok .0) in
     record { above = omega arith; below = omega arith }
-
-pub small-size : (delta : ℤ) → deltaOk delta ≡ true → natAbs delta ≤ 1000000000
-small-size delta ok = let s = small delta ok in omega (arith, size-is delta (self delta))
 
 -- how the two tests of a delta come out
 pub too-low : (delta : ℤ) → over delta + 128 < under delta → false ≡ deltaOk delta

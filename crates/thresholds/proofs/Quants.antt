@@ -11,7 +11,7 @@ use lib.ListN.{getD}
 use lib.IntN.{ℤ, pos, negsuc}
 use Rattle.laws.specs.Choose.{pick}
 use Rattle.laws.specs.Whole.{Is, between}
-use Rattle.laws.specs.declared.Gap.{Gap}
+use Rattle.laws.specs.declared.whole.Gap.{Gap}
 use Rattle.rules.specs.declared.refusals.Answer.the-variants.{Accepted}
 use Rattle.rules.specs.Numbers.{depthOk, highestOf}
 use Rattle.rules.specs.Thresholds.{isZero, stepOf, quantOf, stepsCheck}
@@ -34,7 +34,7 @@ is-zero : (z : ℤ) {a b : ℕ} → Is z a b → a ≡ b → isZero z ≡ true
 is-zero (pos n) h e = eq-eqb n 0 (omega arith)
 is-zero (negsuc n) h e = absurd (omega arith)
 
-not-zero : (z : ℤ) {a b : ℕ} → Is z a b → (a ≡ b → ⊥) → isZero z ≡ false
+pub not-zero : (z : ℤ) {a b : ℕ} → Is z a b → (a ≡ b → ⊥) → isZero z ≡ false
 not-zero (pos n) h e = ne-eqb n 0 (λ q. e (omega arith))
 not-zero (negsuc n) h e = refl
 
@@ -47,8 +47,8 @@ module _ (d : ℕ) (steps : List ℕ) (g : Gap) where
   unfolding stepOf pick
   step-other e p q = rw (not-zero (whole g) (whole-is g) e, ← p, ← q)
 
-pub place-within : (d : ℕ) (g : Gap) {h k : ℕ} → depthOk d ≡ true → h ≡ highestOf d → k ≡ between 1 h (whole g) → k < 352
-place-within d g {h} ok p q = let m = highest d ok in omega (arith, between-high 1 h (whole g) (omega arith))
+pub place-within : (d : ℕ) (g : Gap) {low h k : ℕ} → low ≤ 1 → depthOk d ≡ true → h ≡ highestOf d → k ≡ between low h (whole g) → k < 352
+place-within d g {low} {h} l ok p q = let m = highest d ok in omega (arith, between-high low h (whole g) (omega arith))
 
 -- every step of a good table, and so every q threshold, is limited
 pub step-most : (d : ℕ) (steps : List ℕ) (z : ℤ) → depthOk d ≡ true → stepsCheck steps ≡ Accepted → stepOf d steps z ≤ 1048576

@@ -2,7 +2,7 @@
 -- 0 to 56 alone, to 1678.
 -- Assumes nothing.
 use mathlib.Core.Path.{_≡_, refl, sym, ap, _∙_}
-use mathlib.Core.Bool.{Bool, true, false}
+use mathlib.Core.Bool.{Bool, true, false, _&&_}
 use mathlib.Core.Logic.{⊎-elim}
 use Prim.Native.Nat.{ℕ, zero, suc, _+_, _≤_, _<_}
 use native.Mathlib.Nat.{eq-or-lt-of-le, le-of-suc-le-suc}
@@ -12,10 +12,10 @@ use lib.Dec.{T, eqb, leb, eqb→eq, leb→le, le→leb}
 use lib.ListN.{length, getD}
 use lib.IntN.{ℤ, pos, negsuc, _+ℤ_}
 use lib.Signed.{leZ, _≤ℤ_, leZ-yes, ≤ℤ-refl}
-use Rattle.laws.specs.Table.{both}
+use Rattle.laws.specs.Tests.{and-l, and-r}
 use Rattle.laws.specs.Whole.{over, under}
 use Rattle.rules.specs.SideTable.{sideTable}
-use Rattle.thresholds.proofs.Neighbours.{left, right, pairs, near}
+use Rattle.thresholds.proofs.Neighbours.{near}
 
 abbrev pub entry : ℕ → ℤ
 entry k = getD sideTable k (pos 0)
@@ -32,7 +32,7 @@ alike false false = true
 
 -- the test: entry x at place k and the entry y after it
 abbrev ruled : ℕ → ℤ → ℤ → Bool
-ruled k x y = both (leZ x y) (both (leZ y (x +ℤ pos 10)) (alike (isLow x) (leb k 56)))
+ruled k x y = leZ x y && (leZ y (x +ℤ pos 10) && alike (isLow x) (leb k 56))
 
 -- what the test says of a place
 pub record SideRule (k : ℕ) : Type 0 where
@@ -59,11 +59,11 @@ alike-false false b t e u = absurd u
 pub side-rule : (k : ℕ) → k < 295 → SideRule k
 side-rule k h =
     let t = near ruled (pos 0) sideTable tt k (omega arith) in
-    let s = right (leZ (entry k) (entry (suc k))) _ t in
-    let l = right (leZ (entry (suc k)) (entry k +ℤ pos 10)) _ s in
+    let s = and-r (leZ (entry k) (entry (suc k))) _ t in
+    let l = and-r (leZ (entry (suc k)) (entry k +ℤ pos 10)) _ s in
     record {
-      rises = leZ-yes (left (leZ (entry k) (entry (suc k))) _ t);
-      near-by = leZ-yes (left (leZ (entry (suc k)) (entry k +ℤ pos 10)) _ s);
+      rises = leZ-yes (and-l (leZ (entry k) (entry (suc k))) _ t);
+      near-by = leZ-yes (and-l (leZ (entry (suc k)) (entry k +ℤ pos 10)) _ s);
       low = λ g. low-is (entry k) (alike-true (isLow (entry k)) (leb k 56) l (le-leb k 56 g));
       above = λ g e. alike-false (isLow (entry k)) (leb k 56) l (lt-leb k 56 g) (is-low e);
     }

@@ -14,7 +14,7 @@ use mir.Val.{toZ, ofZ}
 use mir.Facts.{toZ-ofZ}
 use Rattle.laws.specs.Choose.{pick}
 use Rattle.laws.specs.Whole.{Is, over, under, self, count, recast, plus, minus, between}
-use Rattle.laws.specs.declared.Gap.{Gap}
+use Rattle.laws.specs.declared.whole.Gap.{Gap}
 use Rattle.rules.specs.Numbers.{depthOk, shiftOf, offsetOf}
 use Rattle.rules.specs.SideTable.{sideTable}
 use Rattle.rules.specs.Thresholds.{lowered, sideOf}

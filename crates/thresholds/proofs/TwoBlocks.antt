@@ -8,7 +8,7 @@ use native.Mathlib.Omega.{arith}
 use lib.IntN.{ℤ}
 use lib.Dec.{eqb}
 use Rattle.laws.specs.Choose.{pick}
-use Rattle.laws.specs.declared.Gap.{Gap}
+use Rattle.laws.specs.declared.whole.Gap.{Gap}
 use Rattle.rules.specs.Thresholds.{indexOf, bothOf, quantOf, stepOf, sideOf, qThreshold, sideThreshold}
 use Rattle.thresholds.specs.Index.{whole, IndexIs}
 

@@ -3,7 +3,7 @@
 use mathlib.Core.Path.{_≡_}
 use Prim.Native.Nat.{ℕ, _≤_}
 use lib.IntN.{ℤ, pos, _-ℤ_}
-use Rattle.laws.specs.declared.Gap.{Gap}
+use Rattle.laws.specs.declared.whole.Gap.{Gap}
 use Rattle.rules.specs.Thresholds.{indexOf}
 
 -- the whole number that a gap stands for

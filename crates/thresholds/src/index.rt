@@ -1,6 +1,6 @@
 // The index of a block, qindex + 8·delta, as a difference of two counts.
-use crate::split::split;
 use laws::Gap;
+use laws::split;
 ghost use mathlib.Core.Path.{_≡_};
 ghost use mathlib.Core.Bool.{true};
 ghost use Prim.Native.Nat.{_≤_};

@@ -1,8 +1,5 @@
 // Document 01's thresholds: q and side of an edge from the qindex of its two blocks.
 
-// Signed numbers as differences of two counts.
-pub mod split;
-
 // The index of a block, and its limits.
 pub mod index;
 
@@ -20,3 +17,6 @@ pub mod checks;
 
 // Two blocks' thresholds, and the entry.
 pub mod combine;
+
+// The thresholds of blocks by qindex, made once for many edges.
+pub mod by_qindex;

@@ -1,8 +1,8 @@
 // The side threshold of an index.
 use crate::index::limited;
 use crate::side_table::side_entry;
-use crate::split::split_short;
 use laws::Gap;
+use laws::split16;
 use rules::depth::Depth;
 ghost use mathlib.Core.Path.{_≡_};
 ghost use mathlib.Core.Bool.{true};
@@ -42,5 +42,5 @@ pub fn df_side_from_qindex(i: Gap, depth: Depth) -> u32
         down: i.down + depth.offset() as u32,
     };
     let k = limited(lifted, 0, 295);
-    lower(split_short(side_entry(k)), depth)
+    lower(split16(side_entry(k)), depth)
 }

@@ -2,16 +2,14 @@
 use mathlib.Core.Path.{_≡_}
 use native.Mathlib.Omega.{arith}
 use Rattle.laws.specs.Whole.{over, under}
+use borrow.Author.Needs.{needs}
 use mir.Facts.{toZ-ofZ}
-use Rattle.thresholds.proofs.Indices.{small, small-size, index-is}
+use Rattle.thresholds.proofs.Indices.{small, index-is}
 use Rattle.thresholds.proofs.index.index.Statement.{statement}
 use Rattle.thresholds.proofs.index.index.Tie as tie
-use Rattle.thresholds.proofs.index.index.Reads as reads
-use Rattle.thresholds.proofs.index.index.Lts as lts
-use Rattle.thresholds.proofs.split.split.Reads as split-reads
 
 split-requires : tie.Need-split-requires
-split-requires c κs = rw (toZ-ofZ (c .fits .delta)) (small-size _ (c .pre))
+split-requires c κs = search needs
 
 -- what `split` gave, in terms of delta itself
 parts : (c : tie.After-split) → (c .split .result .up ≡ over (c .before .args .delta)) × (c .split .result .down ≡ under (c .before .args .delta))

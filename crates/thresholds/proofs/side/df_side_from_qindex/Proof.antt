@@ -23,15 +23,15 @@ limited-requires c κs = search needs
 side-entry-requires : tie.Need-side-entry-requires
 side-entry-requires c κs = place-within _ (c .limited .ensures)
 
-split-short-requires : tie.Need-split-short-requires
-split-short-requires c κs = search needs
+split16-requires : tie.Need-split16-requires
+split16-requires c κs = search needs
 
--- the entry's range, and what `split_short` gave of it
-ranged : (c : tie.After-split-short) → InRange (c .before .side-entry .result)
+-- the entry's range, and what `split16` gave of it
+ranged : (c : tie.After-split16) → InRange (c .before .side-entry .result)
 ranged c = rw (c .before .side-entry .ensures) (side-range _ (place-within _ (c .before .before .limited .ensures)))
 
-parts : (c : tie.After-split-short) → (c .split-short .result .up ≡ over (c .before .side-entry .result)) × (c .split-short .result .down ≡ under (c .before .side-entry .result))
-parts c = rw (short (c .before .side-entry .result) (ranged c)) at (c .split-short .ensures)
+parts : (c : tie.After-split16) → (c .split16 .result .up ≡ over (c .before .side-entry .result)) × (c .split16 .result .down ≡ under (c .before .side-entry .result))
+parts c = rw (short (c .before .side-entry .result) (ranged c)) at (c .split16 .ensures)
 
 lower-requires : tie.Need-lower-requires
 lower-requires c κs =
@@ -65,6 +65,6 @@ df-side-from-qindex-spec =
     add-t7
     limited-requires
     side-entry-requires
-    split-short-requires
+    split16-requires
     lower-requires
     returns)

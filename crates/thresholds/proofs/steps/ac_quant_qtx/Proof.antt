@@ -19,12 +19,12 @@ limited-requires : tie.Need-limited-requires
 limited-requires c κs = let h = highest _ (c .before .before .before .before .pre .0) in omega arith
 
 mul-result : tie.Need-mul-result
-mul-result c = record { fits = omega (arith, place-within _ _ (c .before .before .before .before .before .pre .0) (c .before .highest .ensures) (c .limited .ensures)) }
+mul-result c = record { fits = omega (arith, place-within _ _ (omega arith) (c .before .before .before .before .before .pre .0) (c .before .highest .ensures) (c .limited .ensures)) }
 
 shared-slice-read-result : tie.Need-shared-slice-read-result
 shared-slice-read-result c =
     let long = steps-long _ (c .before .before .before .before .before .before .pre .1) in
-    omega (arith, place-within _ _ (c .before .before .before .before .before .before .pre .0) (c .before .before .highest .ensures) (c .before .limited .ensures))
+    omega (arith, place-within _ _ (omega arith) (c .before .before .before .before .before .before .pre .0) (c .before .before .highest .ensures) (c .before .limited .ensures))
 
 returns-2 : tie.Need-returns-2
 returns-2 c = step-other _ _ _ (c .before .before .before .if1 .left) (c .before .before .highest .ensures) (c .before .limited .ensures)

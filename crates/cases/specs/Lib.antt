@@ -1,0 +1,5 @@
+pub mod Digits
+pub mod Numbers
+pub mod Typed
+pub mod Lists
+pub mod Lines
