@@ -14,38 +14,31 @@ use Rattle.rules.specs.declared.settings.Plane.{Plane}
 use Rattle.rules.specs.declared.refusals.Found.the-variants.{Nothing}
 use Rattle.rules.specs.Numbers.{depthOk}
 use Rattle.rules.specs.Lengths.{pairOf, reachBefore, reachAfter}
-use Rattle.rules.specs.Thresholds.{indexOf, stepOf, quantOf, sideOf, bothOf, qThreshold, sideThreshold}
+use Rattle.rules.specs.Thresholds.{bothOf}
 use Rattle.rules.specs.Segment.{hasRoom}
 use Rattle.rules.specs.Plane.{cellOf, cellBefore, marksOf, indicesOf, indexAt, shortenedAt, edgeAt, isEdge, edgeRoom, lacksRoom, lacksRow, lacksDir}
-use Rattle.thresholds.proofs.Sides.{side-most}
+use Rattle.thresholds.proofs.Packed.{edge-q, edge-side}
 use Rattle.thresholds.proofs.TwoBlocks.{both-most}
 use Rattle.scan.proofs.First.{nothing-all, unless-nothing}
 use Rattle.segment.specs.Fit.{InPlane}
 use Rattle.cells.specs.Fit.{Sizes, Cell, Ready, oneWay, sized, marked}
 use Rattle.cells.proofs.Places.{pair-below}
 use Rattle.cells.proofs.Reach.{inner-by}
-use Rattle.plane.specs.Run.{LAST, Table, Levels, IsEdgeAt, Field}
+use Rattle.plane.specs.Run.{Table, Levels, IsEdgeAt, Field}
 
--- both halves of a table's entry
-high : (q side : ℕ) → side ≤ 839 → (q * 65536 + side) / 65536 ≡ q
-high q side h = omega arith
-
-low : (q side : ℕ) → side ≤ 839 → (q * 65536 + side) % 65536 ≡ side
-low q side h = omega arith
-
-block-most : (t : List ℕ) (k : ℕ) → Levels t → (getD t (min k LAST) 0 / 65536 ≤ 2048) × (getD t (min k LAST) 0 % 65536 ≤ 839)
-block-most t k l = let h : min k LAST ≤ LAST = omega arith in (l .q-most (min k LAST) h, l .side-most (min k LAST) h)
+block-most : (t : List ℕ) (k : ℕ) → Levels t → (getD t (min k 1415) 0 / 65536 ≤ 2048) × (getD t (min k 1415) 0 % 65536 ≤ 839)
+block-most t k l = let h : min k 1415 ≤ 1415 = omega arith in (l .q-most (min k 1415) h, l .side-most (min k 1415) h)
 
 -- what the code made is the edge
-module _ (s : Plane) (t sizes qindex : List ℕ) (dir r c : ℕ) {i j a b p q side : ℕ} (cell : i ≡ cellOf s r c) (prev : j ≡ cellBefore s dir r c) (of-a : a ≡ getD t (min (getD qindex i 0) LAST) 0) (of-b : b ≡ getD t (min (getD qindex j 0) LAST) 0) (pair : p ≡ pairOf (indexAt s (sized sizes) dir r c) (s .chroma) (shortenedAt s dir r)) (of-q : q ≡ bothOf (a / 65536) (b / 65536)) (of-side : side ≡ bothOf (a % 65536) (b % 65536)) (deep : depthOk (s .depth) ≡ true) (l : Levels t) where
+module _ (s : Plane) (t sizes qindex : List ℕ) (dir r c : ℕ) {i j a b p q side : ℕ} (cell : i ≡ cellOf s r c) (prev : j ≡ cellBefore s dir r c) (of-a : a ≡ getD t (min (getD qindex i 0) 1415) 0) (of-b : b ≡ getD t (min (getD qindex j 0) 1415) 0) (pair : p ≡ pairOf (indexAt s (sized sizes) dir r c) (s .chroma) (shortenedAt s dir r)) (of-q : q ≡ bothOf (a / 65536) (b / 65536)) (of-side : side ≡ bothOf (a % 65536) (b % 65536)) (deep : depthOk (s .depth) ≡ true) (l : Levels t) where
   same-edge : (steps : List ℕ) → Table s steps t → record { x = c * 4; y = r * 4; dir = dir; pair = p; q = q; side = side } ≡ edgeAt s steps (oneWay [] sizes qindex) dir r c
-  unfolding edgeAt indexAt indicesOf qThreshold sideThreshold
+  unfolding edgeAt indexAt indicesOf
   same-edge steps of =
-      rw (pair, of-q, of-side, of-a, of-b, cell, prev, of .at (getD qindex (cellOf s r c) 0), of .at (getD qindex (cellBefore s dir r c) 0),
-        high _ _ (side-most (s .depth) (indexOf (getD qindex (cellOf s r c) 0) (s .deltaside)) deep),
-        high _ _ (side-most (s .depth) (indexOf (getD qindex (cellBefore s dir r c) 0) (s .deltaside)) deep),
-        low _ _ (side-most (s .depth) (indexOf (getD qindex (cellOf s r c) 0) (s .deltaside)) deep),
-        low _ _ (side-most (s .depth) (indexOf (getD qindex (cellBefore s dir r c) 0) (s .deltaside)) deep))
+      let at-a = of-a ∙ of .entries .at (getD qindex i 0) in
+      let at-b = of-b ∙ of .entries .at (getD qindex j 0) in
+      let same-q = of-q ∙ edge-q (s .depth) steps (s .deltaq) (s .deltaside) deep (of .accepted) (getD qindex i 0) (getD qindex j 0) at-a at-b in
+      let same-side = of-side ∙ edge-side (s .depth) steps (s .deltaq) (s .deltaside) deep (of .accepted) (getD qindex i 0) (getD qindex j 0) at-a at-b in
+      rw (pair, same-q, same-side, cell, prev)
 
   pub edge-is : IsEdgeAt s t (oneWay [] sizes qindex) dir r c (record { x = c * 4; y = r * 4; dir = dir; pair = p; q = q; side = side })
   unfolding indexAt indicesOf

@@ -1,3 +1,4 @@
+use Rattle.plane.proofs.Runs.{field-same, ran-more, ran-end}
 use Prim.Native.Nat.{_+_, _-_, _≤_}
 use lib.ListN.{length}
 use mathlib.Core.Path.{_≡_}
@@ -19,7 +20,7 @@ loop-holds : tie.Need-loop-holds Inv-loop μ-loop
 loop-holds c = search runs
 
 visit-requires : tie.Need-visit-requires Inv-loop μ-loop
-visit-requires c κs = search runs
+visit-requires c κs = (field-same (c .before .before .loop .inv .2) (c .before .before .before .before .before .before .before .pre .0), search runs)
 
 add-r : tie.Need-add-r Inv-loop μ-loop
 add-r c = search runs
@@ -28,14 +29,14 @@ loop-less : tie.Need-loop-less Inv-loop μ-loop
 loop-less c = search runs
 
 loop-again : tie.Need-loop-again Inv-loop μ-loop
-loop-again c = search runs
+loop-again c = (search runs, ran-more _ _ (c .before .before .before .before .before .loop .inv .1) (c .before .before .visit .ensures), search runs)
 
 same-length : tie.Need-same-length Inv-loop μ-loop
 same-length c = search runs
 
 returns : tie.Need-returns Inv-loop μ-loop
 unfolding horzCol
-returns c = search runs
+returns c = ran-end _ _ _ (c .before .loop .inv .1) (c .before .loop .inv .0) (search runs)
 
 pub horz-col-spec : {M : Type 1} → statement M
 horz-col-spec =
