@@ -34,3 +34,24 @@ width-most ls n q side eight = search mosts depth 20
 -- the same of every pair
 pub pair-most : (ls : List Line) (pair q side : ℕ) → pair < 8 → widthOf ls (mostBefore pair) (mostAfter pair) q side ≤ mostAfter pair
 pair-most ls pair q side h = width-most ls (mostBefore pair) q side (pair-facts pair h .after-is)
+
+-- ---- no width is 5 or 7
+pub data Chosen : ℕ → Type 0 where
+  w0 : Chosen 0
+  w1 : Chosen 1
+  w2 : Chosen 2
+  w3 : Chosen 3
+  w4 : Chosen 4
+  w6 : Chosen 6
+  w8 : Chosen 8
+
+chosen-pick : (t : Bool) (u v : ℕ) → Chosen u → Chosen v → Chosen (pick t u v)
+unfolding pick
+chosen-pick true u v h k = h
+chosen-pick false u v h k = k
+
+ruleset chosens = (chosen-pick, w0, w1, w2, w3, w4, w6, w8)
+
+pub width-chosen : (ls : List Line) (n p q side : ℕ) → Chosen (widthOf ls n p q side)
+unfolding atDistance fromOf farOf wideOf gradeOf widthOf
+width-chosen ls n p q side = search chosens depth 20

@@ -1,5 +1,5 @@
 use Rattle.rules.specs.Lengths.{pairOf}
-use Rattle.choice.proofs.Laws.{ladders}
+use Rattle.choice.proofs.Picks.{ladders}
 use borrow.Author.Needs.{needs}
 use Rattle.choice.proofs.ladder.filter_lengths.Statement.{statement}
 use Rattle.choice.proofs.ladder.filter_lengths.Tie as tie

@@ -1,11 +1,10 @@
-use Prim.Native.Nat.{ℕ, _+_, _-_, _*_, _/_, _%_, _≤_, _<_}
+-- `ramps::slope` meets its contract.
+-- Assumes nothing.
+use Rattle.choice.proofs.Differences.{slope-is, below}
 use native.Mathlib.Omega.{arith}
-use Rattle.laws.specs.Whole.{count, minus, scale, size-is}
-use Rattle.rules.specs.Width.{slopeOf}
-use Rattle.choice.proofs.Laws.{below}
 use borrow.Author.Needs.{needs}
-use Rattle.choice.proofs.choice.slope.Statement.{statement}
-use Rattle.choice.proofs.choice.slope.Tie as tie
+use Rattle.choice.proofs.ramps.slope.Statement.{statement}
+use Rattle.choice.proofs.ramps.slope.Tie as tie
 
 mul-apart : tie.Need-mul-apart
 mul-apart c = omega (arith, below (c .args .k) (c .args .a1) 8 65535 (c .pre) (omega arith))
@@ -23,8 +22,7 @@ apart-requires : tie.Need-apart-requires
 apart-requires c κs = search needs
 
 returns : tie.Need-returns
-unfolding slopeOf
-returns c = let a = c .before .args in let e = size-is _ (minus _ _ (minus _ _ (count (a .a0)) (count (a .ak))) (scale (a .k) _ (minus _ _ (count (a .a0)) (count (a .a1))))) in (omega arith, omega (arith, below (a .k) (a .a1) 8 65535 (c .before .pre) (omega arith), below (a .k) (a .a0) 8 65535 (c .before .pre) (omega arith)))
+returns c = let a = c .before .args in let e = slope-is (a .k) (a .a0) (a .a1) (a .ak) in (omega arith, omega (arith, below (a .k) (a .a1) 8 65535 (c .before .pre) (omega arith), below (a .k) (a .a0) 8 65535 (c .before .pre) (omega arith)))
 
 pub slope-spec : {M : Type 1} → statement M
 slope-spec =
