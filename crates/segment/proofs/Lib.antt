@@ -2,3 +2,4 @@ pub mod Filling
 pub mod Places
 pub mod Taps
 pub mod Edges
+pub mod Accepted

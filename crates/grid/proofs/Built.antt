@@ -1,0 +1,144 @@
+-- What a built grid holds: marks 0 or 1 and size indices 0..6 at every cell, so that none of its cells is bad; and entries of the superblocks' list.
+-- Assumes nothing.
+use mathlib.Core.Path.{_≡_, refl, sym, _∙_}
+use mathlib.Core.List.{List, [], _∷_}
+use mathlib.Core.Bool.{Bool, true, false}
+use Prim.Native.Nat.{ℕ, zero, suc, _+_, _*_, _/_, _%_, _≤_, _<_}
+use native.Mathlib.Omega.{arith}
+use lib.ListN.{length, getD, set, length-set}
+use lib.Seq.{getD-set-other, getD-set-same}
+use lib.Dec.{ltb, eqb}
+use borrow.Author.Tests.{le-leb}
+use Rattle.laws.specs.Choose.{pick, both, all}
+use Rattle.rules.specs.declared.settings.TuGrid.{TuGrid}
+use Rattle.rules.specs.declared.settings.Tile.{Tile}
+use Rattle.rules.specs.declared.settings.QindexGrid.{QindexGrid}
+use Rattle.rules.specs.declared.settings.Plane.{Plane}
+use Rattle.rules.specs.declared.refusals.Found.the-variants.{Nothing}
+use Rattle.rules.specs.Plane.{grid, cellGood, badCell}
+use Rattle.rules.specs.TuGrid.{Marks, markOf, log2Of, paintCell, paintRow, paintOf, leafOf, leavesOf, clearOf, txGridOf}
+use Rattle.rules.specs.QindexGrid.{superblockOf, qCell, qRow, qGridOf}
+use Rattle.scan.proofs.First.{all-nothing, found-unless-not}
+use Rattle.grid.proofs.Turns.{turns-keep, turns-hit}
+use Rattle.grid.proofs.Places.{same-row, same-col}
+use Rattle.grid.proofs.Covers.{Column, stored, vedge-column, hedge-column, sqw-column, sqh-column}
+
+-- ---- stores in a list, at one of its places
+
+-- a property of what is stored and of what was there is one of what is there then
+set-keeps : (P : ℕ → Type 0) (l : List ℕ) (at x i : ℕ) → P x → P (getD l i 0) → P (getD (set l at x) i 0)
+set-keeps P [] at x i p q = q
+set-keeps P (y ∷ l) zero x zero p q = p
+set-keeps P (y ∷ l) zero x (suc i) p q = q
+set-keeps P (y ∷ l) (suc at) x zero p q = q
+set-keeps P (y ∷ l) (suc at) x (suc i) p q = set-keeps P l at x i p q
+
+set-none : (l : List ℕ) (i : ℕ) → getD (set l i 0) i 0 ≡ 0
+set-none [] i = refl
+set-none (y ∷ l) zero = refl
+set-none (y ∷ l) (suc i) = set-none l i
+
+clear-none : (n i : ℕ) (l : List ℕ) → i < n → getD (clearOf n l) i 0 ≡ 0
+unfolding clearOf
+clear-none n i l h =
+    turns-hit (λ x. getD x i 0 ≡ 0) (λ x. Unit) (λ k x. set x k 0) n i l h (λ j x q. tt) tt (λ x q. set-none x i)
+    (λ j x a b p. set-keeps (λ m. m ≡ 0) x j 0 i refl p)
+
+-- ---- the TU grid: one of its four lists, whose numbers are at most top
+
+module _ {look : Marks → List ℕ} {val : Tile → ℕ → ℕ → ℕ} (column : Column look val) (top : ℕ) (most : (a : Tile) (dr dc : ℕ) → val a dr dc ≤ top) (s : TuGrid) (i : ℕ) where
+  abbrev Low : Marks → Type 0
+  Low g = getD (look g) i 0 ≤ top
+
+  cell-low : (a : Tile) (dr dc : ℕ) (g : Marks) → Low g → Low (paintCell s a dr dc g)
+  unfolding paintCell pick
+  cell-low a dr dc g k = go (both (ltb (a .row + dr) (s .rows)) (ltb (a .col + dc) (s .cols)))
+    where
+      go : (b : Bool) → getD (look (pick b (stored a dr dc ((a .row + dr) * s .cols + (a .col + dc)) g) g)) i 0 ≤ top
+      go true = rw (column .writes a dr dc ((a .row + dr) * s .cols + (a .col + dc)) g) (set-keeps (λ m. m ≤ top) (look g) _ (val a dr dc) i (most a dr dc) k)
+      go false = k
+
+  leaves-low : (skip : Bool) (ls : List ℕ) (g : Marks) → Low g → Low (leavesOf s skip ls g)
+  unfolding leavesOf paintOf paintRow
+  leaves-low skip ls g k =
+      turns-keep Low _ (length ls / 4) g
+      (λ j x h. turns-keep Low _ (leafOf s skip ls j .h) x (λ dr y h. turns-keep Low _ (leafOf s skip ls j .w) y (λ dc z h. cell-low (leafOf s skip ls j) dr dc z)))
+      k
+
+  pub built-low : (ls skips : List ℕ) (g : Marks) → i < s .rows * s .cols → Low (txGridOf s ls skips g)
+  unfolding txGridOf
+  built-low ls skips g h =
+      leaves-low true skips _
+      (leaves-low false ls _ (rw (column .clears (s .rows * s .cols) g, clear-none (s .rows * s .cols) i (look g) h) (omega arith)))
+
+mark-most : (d t : ℕ) → markOf d t ≤ 1
+unfolding markOf pick
+mark-most d t = go (eqb (d % t) 0)
+  where
+    go : (b : Bool) → pick b 1 0 ≤ 1
+    go true = omega arith
+    go false = omega arith
+
+pick-most : (b : Bool) (m n top : ℕ) → m ≤ top → n ≤ top → pick b m n ≤ top
+unfolding pick
+pick-most true m n top p q = p
+pick-most false m n top p q = q
+
+log2-most : (n : ℕ) → log2Of n ≤ 6
+unfolding log2Of
+log2-most n =
+    pick-most _ _ _ 6 (omega arith)
+    (pick-most _ _ _ 6 (omega arith)
+    (pick-most _ _ _ 6 (omega arith)
+    (pick-most _ _ _ 6 (omega arith)
+    (pick-most _ _ _ 6 (omega arith)
+    (pick-most _ _ _ 6 (omega arith) (omega arith))))))
+
+-- a built cell has marks 0 or 1 and indices 0..6
+pub cell-good : (s : TuGrid) (ls skips : List ℕ) (g : Marks) (q : List ℕ) (k : ℕ) → k < s .rows * s .cols → cellGood (grid (txGridOf s ls skips g .vedge) (txGridOf s ls skips g .hedge) (txGridOf s ls skips g .sqw) (txGridOf s ls skips g .sqh) q) k ≡ true
+unfolding cellGood all
+cell-good s ls skips g q k h =
+    rw
+    (le-leb _ _ (built-low vedge-column 1 (λ a dr dc. mark-most dc (a .tw)) s k ls skips g h),
+    le-leb _ _ (built-low hedge-column 1 (λ a dr dc. mark-most dr (a .th)) s k ls skips g h),
+    le-leb _ _ (built-low sqw-column 6 (λ a dr dc. log2-most (a .tw)) s k ls skips g h),
+    le-leb _ _ (built-low sqh-column 6 (λ a dr dc. log2-most (a .th)) s k ls skips g h))
+
+-- so a plane of these cells has no bad one
+pub no-bad-cell : (p : Plane) (s : TuGrid) (ls skips : List ℕ) (g : Marks) (q : List ℕ) → p .rows ≡ s .rows → p .cols ≡ s .cols → badCell p (grid (txGridOf s ls skips g .vedge) (txGridOf s ls skips g .hedge) (txGridOf s ls skips g .sqw) (txGridOf s ls skips g .sqh) q) ≡ Nothing
+unfolding badCell
+no-bad-cell p s ls skips g q er ec =
+    rw (er, ec) (all-nothing _ (s .rows * s .cols) (λ k h. sym (found-unless-not _ k (sym (cell-good s ls skips g q k h)))))
+
+-- ---- the qindex grid
+
+module _ (s : QindexGrid) (sbq : List ℕ) (r c : ℕ) (hr : r < s .rows) (hc : c < s .cols) where
+  abbrev Is : ℕ → List ℕ → Type 0
+  Is x l = getD l (r * s .cols + c) 0 ≡ x
+
+  abbrev Has : List ℕ → Type 0
+  Has l = r * s .cols + c < length l
+
+  q-has : (r' c' : ℕ) (l : List ℕ) → Has l → Has (qCell s sbq r' c' l)
+  unfolding qCell
+  q-has r' c' l h = rw length-set h
+
+  q-miss : (r' c' x : ℕ) (l : List ℕ) → c' < s .cols → (r' ≡ r → c' ≡ c → ⊥) → Is x l → Is x (qCell s sbq r' c' l)
+  unfolding qCell
+  q-miss r' c' x l hc' off k =
+      getD-set-other l (r' * s .cols + c') (r * s .cols + c) _ 0
+      (λ q. off (sym (same-row r r' c c' (s .cols) hc hc' q)) (sym (same-col r r' c c' (s .cols) hc hc' q)))
+      ∙ k
+
+  q-hit : (l : List ℕ) → Has l → Is (getD sbq (superblockOf s (length sbq) r c) 0) (qCell s sbq r c l)
+  unfolding qCell
+  q-hit l h = getD-set-same l (r * s .cols + c) _ 0 h
+
+  -- a cell holds its superblock's entry
+  pub q-cell-is : (l : List ℕ) → Has l → Is (getD sbq (superblockOf s (length sbq) r c) 0) (qGridOf s sbq l)
+  unfolding qGridOf qRow
+  q-cell-is l k =
+      turns-hit (Is (getD sbq (superblockOf s (length sbq) r c) 0)) Has (λ j. qRow s sbq j) (s .rows) r l hr
+      (λ j y q. turns-keep Has _ (s .cols) y (λ c' z h. q-has j c' z) q) k
+      (λ y q. turns-hit (Is (getD sbq (superblockOf s (length sbq) r c) 0)) Has (λ j. qCell s sbq r j) (s .cols) c y hc (λ j z. q-has r j z) q q-hit (λ j z lt h. q-miss r j _ z h (λ a b. omega arith)))
+      (λ j y lt h. turns-keep (Is (getD sbq (superblockOf s (length sbq) r c) 0)) (λ c'. qCell s sbq j c') (s .cols) y (λ c' z h'. q-miss j c' _ z h' (λ a b. omega arith)))

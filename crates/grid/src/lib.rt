@@ -1,0 +1,21 @@
+// The TU grid and the qindex grid of a plane, and both entries.
+
+// A leaf's four numbers: its flag, its sizes, and whether they are in range.
+mod leaf;
+
+// A leaf on a plane's cells.
+mod tile;
+
+// Painting tiles into the four lists.
+mod paint;
+
+// Sizes, lengths and caps in range.
+mod checks;
+
+// The TU grid and its entry.
+pub mod tx_grid;
+
+// The qindex grid and its entry.
+pub mod qindex_grid;
+
+

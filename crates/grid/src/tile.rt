@@ -1,0 +1,103 @@
+// A leaf on a plane's cells: its place and size shifted by the subsampling, and its TU size.
+ghost use mathlib.Core.Path.{_≡_};
+ghost use Prim.Native.Nat.{_≤_, _<_, _/_};
+ghost use lib.ListN.{length};
+ghost use lib.Dec.{eqb};
+ghost use Rattle.laws.specs.Choose.{both};
+ghost use Rattle.rules.specs.Numbers.{down};
+ghost use Rattle.rules.specs.TuGrid.{sizeOf, wholeOf, tuOf, tileOf, leafOf};
+ghost use Rattle.grid.specs.Fit.{Cut};
+use rules::settings::TuGrid;
+use rules::settings::Tile;
+use super::leaf::flag;
+use super::leaf::bare;
+
+fn wide(n: u16) -> usize
+    ensures { λ r. ⌜ r ≡ n ⌝ }
+{
+    n as usize
+}
+
+// A number shifted right by a subsampling.
+fn shift(ss: usize, n: u16) -> usize
+    requires { ⌜ ss ≤ 1 ⌝ }
+    ensures { λ r. ⌜ r ≡ down ss n ⌝ }
+{
+    if ss == 0 { wide(n) } else { wide(n) / 2 }
+}
+
+// A leaf's size on the plane's cells.
+fn size(ss: usize, w: u16) -> usize
+    requires { ⌜ ss ≤ 1 ⌝ }
+    ensures { λ r. ⌜ r ≡ sizeOf ss w ⌝ }
+{
+    let n = shift(ss, bare(w));
+    if n < 1 {
+        return 1;
+    }
+    n
+}
+
+fn is_pair(bw: usize, bh: usize, w: usize, h: usize) -> bool
+    ensures { λ r. ⌜ r ≡ both (eqb bw w) (eqb bh h) ⌝ }
+{
+    if bw == w {
+        return bh == h;
+    }
+    false
+}
+
+// Whether a leaf is one TU.
+fn is_whole(skip: bool, w: u16, bw: usize, bh: usize) -> bool
+    ensures { λ r. ⌜ r ≡ wholeOf skip w bw bh ⌝ }
+{
+    if skip {
+        return true;
+    }
+    if flag(w) {
+        return true;
+    }
+    if is_pair(bw, bh, 4, 16) {
+        return true;
+    }
+    is_pair(bw, bh, 16, 4)
+}
+
+fn tu(whole: bool, size: usize, cap: usize) -> usize
+    ensures { λ r. ⌜ r ≡ tuOf whole size cap ⌝ }
+{
+    if whole {
+        return size;
+    }
+    if size < cap {
+        return size;
+    }
+    cap
+}
+
+pub fn tile_of(s: TuGrid, skip: bool, row: u16, col: u16, w: u16, h: u16) -> Tile
+    requires { ⌜ Cut s ⌝ }
+    ensures { λ r. ⌜ r ≡ tileOf s skip row col w h ⌝ }
+{
+    let bw = size(s.ssx, w);
+    let bh = size(s.ssy, h);
+    let whole = is_whole(skip, w, bw, bh);
+    Tile {
+        row: shift(s.ssy, row),
+        col: shift(s.ssx, col),
+        w: bw,
+        h: bh,
+        tw: tu(whole, bw, s.capw),
+        th: tu(whole, bh, s.caph),
+    }
+}
+
+// Leaf k of a list of four numbers a leaf.
+pub fn leaf(leaves: &[u16], s: TuGrid, skip: bool, k: usize) -> Tile
+    requires { ⌜ k < length (now leaves) / 4 ⌝ }
+    requires { ⌜ Cut s ⌝ }
+    ensures { λ r. ⌜ r ≡ leafOf s skip (now (leaves .entry)) k ⌝ }
+{
+    let at = k * 4;
+    tile_of(s, skip, leaves[at], leaves[at + 1], leaves[at + 2], leaves[at + 3])
+}

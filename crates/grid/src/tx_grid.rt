@@ -1,0 +1,95 @@
+// The TU grid and its entry: the checks in document 01's order, then four lists that start at 0, the leaves, and the skip leaves over them.
+ghost use mathlib.Core.Path.{_≡_};
+ghost use mathlib.Core.Bool.{true, false};
+ghost use lib.ListN.{length};
+ghost use Rattle.laws.specs.Choose.{both};
+ghost use Rattle.rules.specs.Numbers.{subsamplingOk};
+ghost use Rattle.rules.specs.Refusals.{orElse, found};
+ghost use Rattle.rules.specs.TuGrid.{marks, cellsOk, capOk, badLeaf, txGridOf, txGridCheck, txGridAfter};
+ghost use Rattle.rules.specs.declared.refusals.Refusal.the-variants.{Leaf};
+ghost use Rattle.grid.specs.Fit.{Fit, Cut, AllGood, TxChecked};
+use rules::settings::TuGrid;
+use rules::refusals::Answer;
+use rules::refusals::Refusal;
+use rules::refusals::Found;
+use super::checks::cells_ok;
+use super::checks::subsampling_ok;
+use super::checks::cap_ok;
+use super::checks::lists_ok;
+use super::leaf::bad_leaf;
+use super::paint::blank;
+use super::paint::leaves;
+
+// The grid of settings and leaves that the checks have passed.
+pub fn tx_grid(ls: &[u16], skips: &[u16], vedge: &mut [u8], hedge: &mut [u8], sqw: &mut [u8], sqh: &mut [u8], s: TuGrid)
+    requires { ⌜ Fit s (length (now vedge)) (length (now hedge)) (length (now sqw)) (length (now sqh)) ⌝ }
+    requires { ⌜ Cut s ⌝ }
+    requires { ⌜ AllGood (now ls) ⌝ }
+    requires { ⌜ AllGood (now skips) ⌝ }
+    ensures { λ _. ⌜ marks (now (vedge .exit)) (now (hedge .exit)) (now (sqw .exit)) (now (sqh .exit)) ≡ txGridOf s (now (ls .entry)) (now (skips .entry)) (marks (now (vedge .entry)) (now (hedge .entry)) (now (sqw .entry)) (now (sqh .entry))) ⌝ }
+{
+    blank(vedge, hedge, sqw, sqh, s.rows * s.cols);
+    leaves(vedge, hedge, sqw, sqh, ls, s, false);
+    leaves(vedge, hedge, sqw, sqh, skips, s, true);
+}
+
+fn sizes_ok(s: TuGrid) -> bool
+    ensures { λ r. ⌜ r ≡ both (cellsOk (s .cols) (s .rows)) (subsamplingOk (s .ssx) (s .ssy)) ⌝ }
+{
+    if !cells_ok(s.cols, s.rows) {
+        return false;
+    }
+    subsampling_ok(s.ssx, s.ssy)
+}
+
+fn caps_ok(s: TuGrid) -> bool
+    ensures { λ r. ⌜ r ≡ both (capOk (s .capw)) (capOk (s .caph)) ⌝ }
+{
+    if !cap_ok(s.capw) {
+        return false;
+    }
+    cap_ok(s.caph)
+}
+
+// Refusal 9 of the leaves, and then of the skip leaves.
+fn leaves_ok(ls: &[u16], skips: &[u16]) -> Answer
+    ensures { λ r. ⌜ r ≡ orElse (found (badLeaf false (now (ls .entry))) Leaf) (found (badLeaf true (now (skips .entry))) Leaf) ⌝ }
+{
+    let f = bad_leaf(ls, false);
+    if let Found::At(k) = f {
+        return Answer::Refused(Refusal::Leaf(k));
+    }
+    let g = bad_leaf(skips, true);
+    if let Found::At(k) = g {
+        return Answer::Refused(Refusal::Leaf(k));
+    }
+    Answer::Accepted
+}
+
+// The checks, for four lists of these lengths.
+fn tx_check(ls: &[u16], skips: &[u16], v: usize, h: usize, w: usize, t: usize, s: TuGrid) -> Answer
+    ensures { λ r. ⌜ TxChecked s (now (ls .entry)) (now (skips .entry)) v h w t r ⌝ }
+{
+    if !sizes_ok(s) {
+        return Answer::Refused(Refusal::Size);
+    }
+    if !lists_ok(s.rows * s.cols, v, h, w, t, ls.len(), skips.len()) {
+        return Answer::Refused(Refusal::Length);
+    }
+    if !caps_ok(s) {
+        return Answer::Refused(Refusal::Setting);
+    }
+    leaves_ok(ls, skips)
+}
+
+// The TU grid of any settings and lists, or why there is none.
+pub fn build_tx_grid(ls: &[u16], skips: &[u16], vedge: &mut [u8], hedge: &mut [u8], sqw: &mut [u8], sqh: &mut [u8], s: TuGrid) -> Answer
+    ensures { λ r. ⌜ (r ≡ txGridCheck s (now (ls .entry)) (now (skips .entry)) (marks (now (vedge .entry)) (now (hedge .entry)) (now (sqw .entry)) (now (sqh .entry)))) × (marks (now (vedge .exit)) (now (hedge .exit)) (now (sqw .exit)) (now (sqh .exit)) ≡ txGridAfter s (now (ls .entry)) (now (skips .entry)) (marks (now (vedge .entry)) (now (hedge .entry)) (now (sqw .entry)) (now (sqh .entry)))) ⌝ }
+{
+    let a = tx_check(ls, skips, vedge.len(), hedge.len(), sqw.len(), sqh.len(), s);
+    if let Answer::Refused(r) = a {
+        return Answer::Refused(r);
+    }
+    tx_grid(ls, skips, vedge, hedge, sqw, sqh, s);
+    Answer::Accepted
+}
