@@ -8,3 +8,6 @@ pub mod answers;
 
 // Both thresholds of an edge.
 pub mod two_blocks;
+
+// One segment on a window.
+pub mod window;
