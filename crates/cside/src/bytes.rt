@@ -37,13 +37,20 @@ pub fn steps(bytes: &[u8]) -> [u32; 352]
     t
 }
 
+// A number of two bytes.
+fn two(low: u8, high: u8) -> u16
+    ensures { λ r. ⌜ r ≡ low + 256 * high ⌝ }
+{
+    (wide(low) + 256 * wide(high)) as u16
+}
+
 // Sample k of a window.
 fn sample(bytes: &[u8], k: usize) -> u16
     requires { ⌜ (k < 72) × (length (now bytes) ≡ 144) ⌝ }
     ensures { λ r. ⌜ r ≡ sampleOf (now (bytes .entry)) k ⌝ }
 {
     let at = 2 * k;
-    (wide(bytes[at]) + 256 * wide(bytes[at + 1])) as u16
+    two(bytes[at], bytes[at + 1])
 }
 
 // The window's 72 samples.

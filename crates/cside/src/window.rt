@@ -11,7 +11,13 @@ ghost use Rattle.rules.specs.CSide.{cSegment, cWindow};
 
 // The width, or minus the refusal number.
 #[no_mangle]
-pub extern "C" fn bihargesh_segment(window: &mut [u8], depth: u32, pair: u32, q: u32, side: u32) -> i32
+pub extern "C" fn bihargesh_segment(
+    window: &mut [u8],
+    depth: u32,
+    pair: u32,
+    q: u32,
+    side: u32,
+) -> i32
     ensures { λ r. ⌜ (r ≡ cSegment depth pair q side (now (window .entry))) × (now (window .exit) ≡ cWindow depth pair q side (now (window .entry))) ⌝ }
 {
     if !Depth::is(depth) {

@@ -1,5 +1,4 @@
 -- `sample` is two bytes, low first. Assumes nothing.
-use native.Mathlib.Omega.{arith}
 use Rattle.rules.specs.CSide.{sampleOf}
 use borrow.Author.Needs.{needs}
 use Rattle.cside.proofs.bytes.sample.Statement.{statement}
@@ -8,45 +7,23 @@ use Rattle.cside.proofs.bytes.sample.Tie as tie
 mul-at : tie.Need-mul-at
 mul-at c = search needs
 
-shared-slice-read-wide : tie.Need-shared-slice-read-wide
-shared-slice-read-wide c = search needs
+shared-slice-read-two : tie.Need-shared-slice-read-two
+shared-slice-read-two c = search needs
 
-wide-requires : tie.Need-wide-requires
-wide-requires c κs = search needs
+add-two : tie.Need-add-two
+add-two c = search needs
 
-add-wide : tie.Need-add-wide
-add-wide c = search needs
+shared-slice-read-two-2 : tie.Need-shared-slice-read-two-2
+shared-slice-read-two-2 c = search needs
 
-shared-slice-read-wide-2 : tie.Need-shared-slice-read-wide-2
-shared-slice-read-wide-2 c = search needs
-
-wide-requires-2 : tie.Need-wide-requires-2
-wide-requires-2 c κs = search needs
-
-mul-result : tie.Need-mul-result
-mul-result c = search needs
-
-add-result : tie.Need-add-result
-add-result c = search needs
-
-cast-result : tie.Need-cast-result
-cast-result c = search needs
+two-requires : tie.Need-two-requires
+two-requires c κs = search needs
 
 returns : tie.Need-returns
 unfolding sampleOf
-returns c = omega arith
+returns c = c .two .ensures
 
 pub sample-spec : {M : Type 1} → statement M
 sample-spec =
     tie.close
-    (tie.spec
-    mul-at
-    shared-slice-read-wide
-    wide-requires
-    add-wide
-    shared-slice-read-wide-2
-    wide-requires-2
-    mul-result
-    add-result
-    cast-result
-    returns)
+    (tie.spec mul-at shared-slice-read-two add-two shared-slice-read-two-2 two-requires returns)
