@@ -1,9 +1,9 @@
 -- Both thresholds as C is answered them: from the entry's answer on the steps that the bytes hold.
 -- Assumes nothing.
-use mathlib.Core.Path.{_≡_, refl, sym, ap, ap₂, _∙_, subst}
-use mathlib.Core.Bool.{Bool, true, false}
+use mathlib.Core.Path.{_≡_, refl, sym, ap, ap₂, _∙_}
+use mathlib.Core.Bool.{true, false}
 use mathlib.Core.List.{List}
-use Prim.Native.Nat.{ℕ, _+_, _*_, _≤_, _<_}
+use Prim.Native.Nat.{ℕ, _+_, _*_, _≤_}
 use native.Mathlib.Omega.{arith}
 use borrow.Author.Tests.{eq-eqb, ne-eqb}
 use lib.ListN.{length}
@@ -17,9 +17,9 @@ use Rattle.rules.specs.declared.refusals.Thresholds.{Thresholds}
 use Rattle.rules.specs.declared.refusals.Thresholds.the-variants.{Both, Refused as «NoThresholds»}
 use Rattle.rules.specs.Numbers.{depthOk}
 use Rattle.rules.specs.Refusals.{numberOf, orElse, unless}
-use Rattle.rules.specs.Thresholds.{qThreshold, sideThreshold, stepsCheck, deltasCheck, thresholdsCheck, answerThresholds, thresholdsOf}
+use Rattle.rules.specs.Thresholds.{qThreshold, sideThreshold, thresholdsCheck, answerThresholds, thresholdsOf}
 use Rattle.rules.specs.CSide.{cAnswer, stepsIn, cThresholdsCheck, cThresholds}
-use Rattle.scan.proofs.Checks.{go-on, unless-good, else-parts}
+use Rattle.scan.proofs.Checks.{else-parts}
 use Rattle.thresholds.proofs.Unique.{q-range, side-range}
 use Rattle.cside.proofs.Numbers.{held, held-minus, answer-refused, answer-accepted}
 

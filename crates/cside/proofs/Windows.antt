@@ -1,16 +1,15 @@
 -- One segment as C is answered it: from the lone segment's answer and plane on the samples that the bytes hold.
 -- Assumes nothing.
 use mathlib.Core.Path.{_≡_, refl, sym, ap, _∙_}
-use mathlib.Core.Bool.{Bool, true, false}
+use mathlib.Core.Bool.{true, false}
 use mathlib.Core.List.{List}
-use Prim.Native.Nat.{ℕ, _+_, _*_, _≤_, _<_}
+use Prim.Native.Nat.{ℕ, _≤_, _<_}
 use native.Mathlib.Omega.{arith}
 use borrow.Author.Tests.{eq-eqb, ne-eqb}
 use lib.ListN.{length}
 use lib.IntN.{ℤ, pos, negsuc, negℤ}
 use mir.Syntax.{w32}
 use mir.Val.{toZ, ofZ}
-use Rattle.rules.specs.declared.settings.Lone.{Lone}
 use Rattle.rules.specs.declared.refusals.Refusal.{Refusal}
 use Rattle.rules.specs.declared.refusals.Answer.{Answer}
 use Rattle.rules.specs.declared.refusals.Answer.the-variants.{Accepted, Refused}
@@ -18,7 +17,6 @@ use Rattle.rules.specs.declared.refusals.Width.{Width}
 use Rattle.rules.specs.declared.refusals.Width.the-variants.{Samples, Refused as «NoWidth»}
 use Rattle.rules.specs.Numbers.{depthOk}
 use Rattle.rules.specs.Refusals.{numberOf, orElse, unless, settle}
-use Rattle.rules.specs.Lengths.{mostAfter}
 use Rattle.rules.specs.Segment.{placeOf, windowOf, chosenOf, widthAt}
 use Rattle.rules.specs.Lone.{edgeOf, loneCheck, lonePlane, answerWidth, loneWidth}
 use Rattle.rules.specs.CSide.{cAnswer, samplesIn, bytesOf, windowEdge, cSegmentCheck, cSegment, cWindow}

@@ -1,5 +1,4 @@
 -- `byte` is the low byte at even places and the high byte at odd ones. Assumes nothing.
-use native.Mathlib.Omega.{arith}
 use borrow.Author.Tests.{eq-eqb, ne-eqb}
 use Rattle.laws.specs.Choose.{pick}
 use Rattle.rules.specs.CSide.{byteAt}

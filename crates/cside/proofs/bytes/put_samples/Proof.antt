@@ -1,10 +1,10 @@
 -- `put_samples` fills the window with the bytes of its samples. Assumes nothing.
 use native.Mathlib.Omega.{arith}
-use Prim.Native.Nat.{ℕ, _+_, _-_, _≤_}
+use Prim.Native.Nat.{_-_, _≤_}
 use mathlib.Core.Path.{_≡_}
 use lib.ListN.{length}
 use Rattle.laws.specs.Loops.{filled}
-use Rattle.rules.specs.CSide.{stepAt, stepsIn, sampleOf, samplesIn, byteAt, bytesOf}
+use Rattle.rules.specs.CSide.{byteAt, bytesOf}
 use Rattle.cside.proofs.Fills.{fills, whole-end}
 use Rattle.cside.proofs.bytes.put_samples.Statement.{statement}
 use Rattle.cside.proofs.bytes.put_samples.Tie as tie

@@ -1,10 +1,10 @@
 -- `samples` are all 72 of the window. Assumes nothing.
 use native.Mathlib.Omega.{arith}
-use Prim.Native.Nat.{ℕ, _+_, _-_, _≤_}
+use Prim.Native.Nat.{_-_, _≤_}
 use mathlib.Core.Path.{_≡_}
 use lib.ListN.{length}
 use Rattle.laws.specs.Loops.{filled}
-use Rattle.rules.specs.CSide.{stepAt, stepsIn, sampleOf, samplesIn, byteAt, bytesOf}
+use Rattle.rules.specs.CSide.{sampleOf, samplesIn}
 use Rattle.cside.proofs.Fills.{fills, whole-end}
 use Rattle.cside.proofs.bytes.samples.Statement.{statement}
 use Rattle.cside.proofs.bytes.samples.Tie as tie
