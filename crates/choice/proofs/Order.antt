@@ -1,6 +1,6 @@
 -- The width choice in the order and the grouping of the code: the same width.
 -- Assumes nothing.
-use mathlib.Core.Path.{_≡_, refl, sym, ap, _∙_}
+use mathlib.Core.Path.{_≡_, refl, sym, _∙_}
 use mathlib.Core.Bool.{Bool, true, false}
 use mathlib.Core.List.{List}
 use Prim.Native.Nat.{ℕ, _+_, _*_, _/_, _≤_, _<_, max}
@@ -26,7 +26,7 @@ either-max s e f = out (ltb s e) (ltb s f) refl refl
     out false true p q = let l : s < max e f = omega (arith, ltb-true s f q) in rw (p, q, lt-ltb _ _ l)
     out false false p q = let l : max e f ≤ s = omega (arith, ltb-false s e p, ltb-false s f q) in rw (p, q, le-ltb _ _ l)
 
--- two tests with the same outcome
+-- two tests with the same outcome, and three tests in one
 two-picks : (a b : Bool) (u v : ℕ) → pick (either a b) u v ≡ pick a u (pick b u v)
 unfolding pick either
 two-picks true b u v = refl
@@ -61,7 +61,7 @@ pub off-none : (ls : List Line) (n p q side : ℕ) {r : Bool} → r ≡ offOf q 
 unfolding widthOf
 off-none ls n p q side h y = said-yes _ _ _ _ _ h y refl ∙ sym (grouped ls n p q side _ _ _)
 
--- and others
+-- thresholds that are not 0
 pub by-tests : (ls : List Line) (n p q side : ℕ) {e g z : ℕ} → e ≡ max (dm2Of ls) (d1Of ls) → g ≡ dm1Of ls + d0Of ls → offOf q side ≡ false → z ≡ byTests ls n p q side e g → z ≡ widthOf ls n p q side
 unfolding widthOf pick
 by-tests ls n p q side he hg ho hz = rw (he, hg) at hz ∙ sym (grouped ls n p q side _ _ _ ∙ rw ho)

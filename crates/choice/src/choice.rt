@@ -46,7 +46,7 @@ fn two_wide(q: u32, side: u32, e: u32, g: u32) -> bool
     3 * q < g
 }
 
-// The width by thresholds that are not 0.
+// The width by thresholds that are not 0; a function of its own, so that what it calls is inlined.
 fn width_of(a: Line, b: Line, n: usize, p: usize, q: u32, side: u32) -> usize
     requires { ⌜ (p ≤ 8) × (q ≤ 2048) × (side ≤ 839) × (offOf q side ≡ false) ⌝ }
     ensures { λ r. ⌜ r ≡ widthOf (ends a b) n p q side ⌝ }
