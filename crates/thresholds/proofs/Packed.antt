@@ -1,25 +1,24 @@
 -- Laws of the packed thresholds: from qindex 1415 on nothing changes, and an edge's thresholds from two packed numbers.
 -- Assumes nothing.
-use mathlib.Core.Path.{_≡_, refl, sym, ap, _∙_}
-use mathlib.Core.Bool.{Bool, true, false}
+use mathlib.Core.Path.{_≡_, sym, ap, _∙_}
+use mathlib.Core.Bool.{true, false}
 use mathlib.Core.List.{List}
-use Prim.Native.Nat.{ℕ, _+_, _*_, _-_, _/_, _%_, _≤_, _<_, min, max}
+use Prim.Native.Nat.{ℕ, _+_, _*_, _-_, _/_, _%_, _≤_, min}
 use native.Mathlib.Decide.{decLe}
 use native.Mathlib.Omega.{arith}
 use lib.ListN.{getD, length}
-use lib.IntN.{ℤ, pos, negsuc, _-ℤ_}
+use lib.IntN.{ℤ, pos, _-ℤ_}
 use Rattle.laws.specs.Choose.{pick}
 use Rattle.laws.specs.Loops.{filled, filled-at}
 use Rattle.laws.specs.Whole.{Is, over, under, self, count, plus, minus, scale, between, between-is}
 use Rattle.laws.specs.declared.whole.Gap.{Gap}
 use Rattle.rules.specs.declared.refusals.Answer.the-variants.{Accepted}
 use Rattle.rules.specs.Numbers.{depthOk, deltaOk, highestOf, offsetOf}
-use Rattle.rules.specs.SideTable.{sideTable}
 use Rattle.rules.specs.Thresholds.{indexOf, isZero, stepOf, quantOf, lowered, sideOf, bothOf, stepsCheck, qThreshold, sideThreshold}
 use Rattle.thresholds.specs.Index.{whole, IndexIs}
 use Rattle.thresholds.specs.ByQindex.{packedOf, ByQindex}
 use Rattle.thresholds.proofs.Indices.{small}
-use Rattle.thresholds.proofs.Quants.{highest, not-zero, q-most}
+use Rattle.thresholds.proofs.Quants.{highest, not-zero}
 use Rattle.thresholds.proofs.SideRule.{entry}
 use Rattle.thresholds.proofs.Sides.{offset-most, side-most}
 
