@@ -10,7 +10,7 @@ use lib.Dec.{T, leb, leb→le}
 use lib.ListN.{getD, length}
 use lib.IntN.{ℤ, pos, negsuc, natAbs, subℕ, _+ℤ_, _-ℤ_, _*ℤ_}
 use Rattle.laws.specs.Whole.{Is, recast, self, over, under, count, minus, plus, times, limit-is, limit-plus, limit-minus, limit}
-use Rattle.laws.specs.Table.{at, both}
+use Rattle.laws.specs.Table.{at}
 use Rattle.rules.specs.Taps.{weights, weightOf, move, before, after}
 use Rattle.taps.proofs.Signs.{before-count, after-count}
 use Rattle.taps.specs.Weights.{nearUnit}
