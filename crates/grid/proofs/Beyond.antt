@@ -66,9 +66,9 @@ pub tx-beyond : (s : TuGrid) (ls skips : List ℕ) (g : Marks) (i : ℕ) → s .
 unfolding txGridOf
 tx-beyond s ls skips g i far =
     let k =
-        leaves-keep s i far _ _ _ _ true skips _
-        (leaves-keep s i far _ _ _ _ false ls _
-        (clear-keeps _ i _ (g .vedge) far refl, clear-keeps _ i _ (g .hedge) far refl, clear-keeps _ i _ (g .sqw) far refl, clear-keeps _ i _ (g .sqh) far refl))
+    leaves-keep s i far _ _ _ _ true skips _
+    (leaves-keep s i far _ _ _ _ false ls _
+    (clear-keeps _ i _ (g .vedge) far refl, clear-keeps _ i _ (g .hedge) far refl, clear-keeps _ i _ (g .sqw) far refl, clear-keeps _ i _ (g .sqh) far refl))
     in
     record { at-vedge = k .0; at-hedge = k .1; at-sqw = k .2; at-sqh = k .3 }
 

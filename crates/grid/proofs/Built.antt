@@ -98,11 +98,12 @@ log2-most n =
 pub cell-good : (s : TuGrid) (ls skips : List ℕ) (g : Marks) (q : List ℕ) (k : ℕ) → k < s .rows * s .cols → cellGood (grid (txGridOf s ls skips g .vedge) (txGridOf s ls skips g .hedge) (txGridOf s ls skips g .sqw) (txGridOf s ls skips g .sqh) q) k ≡ true
 unfolding cellGood all
 cell-good s ls skips g q k h =
-    rw
-    (le-leb _ _ (built-low vedge-column 1 (λ a dr dc. mark-most dc (a .tw)) s k ls skips g h),
-    le-leb _ _ (built-low hedge-column 1 (λ a dr dc. mark-most dr (a .th)) s k ls skips g h),
-    le-leb _ _ (built-low sqw-column 6 (λ a dr dc. log2-most (a .tw)) s k ls skips g h),
-    le-leb _ _ (built-low sqh-column 6 (λ a dr dc. log2-most (a .th)) s k ls skips g h))
+    rw (
+      le-leb _ _ (built-low vedge-column 1 (λ a dr dc. mark-most dc (a .tw)) s k ls skips g h),
+      le-leb _ _ (built-low hedge-column 1 (λ a dr dc. mark-most dr (a .th)) s k ls skips g h),
+      le-leb _ _ (built-low sqw-column 6 (λ a dr dc. log2-most (a .tw)) s k ls skips g h),
+      le-leb _ _ (built-low sqh-column 6 (λ a dr dc. log2-most (a .th)) s k ls skips g h),
+    )
 
 -- so a plane of these cells has no bad one
 pub no-bad-cell : (p : Plane) (s : TuGrid) (ls skips : List ℕ) (g : Marks) (q : List ℕ) → p .rows ≡ s .rows → p .cols ≡ s .cols → badCell p (grid (txGridOf s ls skips g .vedge) (txGridOf s ls skips g .hedge) (txGridOf s ls skips g .sqw) (txGridOf s ls skips g .sqh) q) ≡ Nothing
