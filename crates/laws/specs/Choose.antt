@@ -63,6 +63,8 @@ told-yes-not t u e f = told-yes t u e (not-false u f)
 pub told-no-not : (t u : Bool) → u ≡ t → not u ≡ true → false ≡ t
 told-no-not t u e f = told-no t u e (not-true u f)
 
+pub ruleset told = (told-yes, told-no, told-yes-not, told-no-not)
+
 -- ---- choices
 
 pub pick-yes : {A : Type 0} (t : Bool) (a b x : A) → true ≡ t → x ≡ a → x ≡ pick t a b
@@ -109,7 +111,7 @@ all-none = refl
 
 -- the code at each of its ways out, with no test left for later (a test that holds is asked before one that fails)
 pub ruleset tests =
-    (needs, all-bad, all-ok, all-last, all-none, both-bad, both-ok, either-first, either-second, pick-yes, pick-no, is-le, not-le, is-lt, not-lt, is-eq, not-eq, told-yes, told-no, told-yes-not, told-no-not)
+    (needs, all-bad, all-ok, all-last, all-none, both-bad, both-ok, either-first, either-second, pick-yes, pick-no, is-le, not-le, is-lt, not-lt, is-eq, not-eq, told)
 
 -- a test that fails after tests of which nothing is known
 pub both-later : (a b : Bool) → false ≡ b → false ≡ both a b

@@ -1,6 +1,13 @@
-pub mod Whole
-pub mod Table
-pub mod Machine
 pub mod Choose
+pub mod Tests
+pub mod Whole
+pub mod Machine
+pub mod Table
 pub mod Loops
+pub mod Lists
 pub mod Stores
+pub mod Footprints
+pub mod Boxes
+pub mod Trace
+pub mod Schedules
+pub mod Reorder

@@ -1,17 +1,46 @@
--- An i32 as the machine holds it, read as a difference of two counts.
+-- A signed number as the machine holds it, in w bits, read as a difference of two counts: at any width, and then at 32.
 -- Assumes nothing.
-use mathlib.Core.Path.{_≡_, refl, sym, ap, _∙_, subst}
-use mathlib.Core.Bool.{Bool, true, false}
-use Prim.Native.Nat.{ℕ, zero, suc, _+_, _-_, _≤_, _<_, _^_}
+use mathlib.Core.Path.{_≡_}
+use mathlib.Core.Bool.{true, false}
+use Prim.Native.Nat.{ℕ, _+_, _≤_, _<_, _^_}
 use native.Mathlib.Omega.{arith}
 use borrow.Author.Tests.{ltb-true, ltb-false}
 use lib.IntN.{ℤ, pos, negsuc}
 use lib.Signed.{ltZ, nonNeg, mag}
-use lib.Dec.{T}
-use mir.Syntax.{w32}
-use mir.Val.{SFits, toZ, ofZ}
-use mir.Facts.{toZ-ofZ}
-use Rattle.laws.specs.Whole.{Is, count}
+use lib.Dec.{T, leb}
+use mir.Syntax.{Width, w32}
+use mir.Val.{SFits, toZ, ofZ, hbits}
+use mir.Facts.{toZ-ofZ, sfits-widen}
+use Rattle.laws.specs.Whole.{Is, count, over, under}
+
+-- ---- at any width
+
+-- a number of that range fits
+pub fits-at : (w : Width) (z : ℤ) {a b : ℕ} → Is z a b → a < b + 2 ^ hbits w → b ≤ a + 2 ^ hbits w → SFits w z
+fits-at w (pos n) h p q = record { sfits = omega arith }
+fits-at w (negsuc n) h p q = record { sfits = omega arith }
+
+-- one that fits has that range
+pub below-at : (w : Width) (z : ℤ) → SFits w z → over z < 2 ^ hbits w
+below-at w (pos n) f = f .sfits
+below-at w (negsuc n) f = omega (arith, f .sfits)
+
+pub above-at : (w : Width) (z : ℤ) → SFits w z → under z ≤ 2 ^ hbits w
+above-at w (pos n) f = omega arith
+above-at w (negsuc n) f = f .sfits
+
+-- a number that was stored and read back
+pub word-at : (w : Width) (z : ℤ) {a b : ℕ} → Is z a b → a < b + 2 ^ hbits w → b ≤ a + 2 ^ hbits w → Is (toZ w (ofZ w z)) a b
+word-at w z h p q = rw (toZ-ofZ (fits-at w z h p q)) h
+
+-- a number of w bits that is cast to more bits: it fits, and is the same
+pub widened : (w v : Width) {z : ℤ} → T (leb (hbits w) (hbits v)) → SFits w z → SFits v (toZ w (ofZ w z))
+widened w v t f = rw (toZ-ofZ f) (sfits-widen t f)
+
+pub wide-same : (w v : Width) {z : ℤ} → T (leb (hbits w) (hbits v)) → SFits w z → toZ v (ofZ v (toZ w (ofZ w z))) ≡ z
+wide-same w v t f = rw (toZ-ofZ f) (toZ-ofZ (sfits-widen t f))
+
+-- ---- at 32 bits
 
 pub fits : (z : ℤ) {a b : ℕ} → Is z a b → a ≤ b + 2147483647 → b ≤ a + 2147483647 → SFits w32 z
 fits (pos n) h p q = record { sfits = omega arith }

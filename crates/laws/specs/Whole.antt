@@ -1,9 +1,9 @@
 -- Whole numbers (ℤ of lib.IntN) read as differences of two counts, so that `omega`, which reads ℕ alone, can decide facts on them.
 -- `Is z a b` says z = a - b. Each operation has a law that keeps the form, and `same` closes an equation of ℤ by one of ℕ.
 -- Assumes nothing.
-use mathlib.Core.Path.{_≡_, refl, sym, ap, _∙_}
+use mathlib.Core.Path.{_≡_, refl, ap, _∙_}
 use mathlib.Core.Bool.{Bool, true, false, not, cond}
-use Prim.Native.Nat.{ℕ, zero, suc, _+_, _*_, _-_, _/_, _%_, _≤_, _<_, min, max}
+use Prim.Native.Nat.{ℕ, zero, suc, _+_, _*_, _-_, _/_, _≤_, _<_, min, max}
 use native.Mathlib.Omega.{arith}
 use native.Mathlib.Nat.{mul-add, add-mul}
 use lib.Dec.{T, ltb, ltb→lt, nltb→le}
@@ -31,6 +31,19 @@ same (negsuc m) (negsuc n) h k e = ap negsuc (omega arith)
 
 pub self : (z : ℤ) → Is z (over z) (under z)
 self z = record { eq = refl }
+
+-- what `split` gives
+pub parted : (z : ℤ) {a b : ℕ} → (a ≡ over z) × (b ≡ under z) → Is z a b
+parted z e = record { eq = omega arith }
+
+-- a number is not both above 0 and below it
+pub none-over : (z : ℤ) → over z < under z → 0 ≡ over z
+none-over (pos n) h = absurd (omega arith)
+none-over (negsuc n) h = refl
+
+pub none-under : (z : ℤ) → under z ≤ over z → 0 ≡ under z
+none-under (pos n) h = refl
+none-under (negsuc n) h = absurd (omega arith)
 
 pub count : (n : ℕ) → Is (pos n) n 0
 count n = record { eq = refl }

@@ -1,17 +1,14 @@
-// Mathematics that knows nothing of pictures: the definitions and laws stand in specs/.
+// Mathematics that knows nothing of pictures: the definitions and laws stand in specs/, a file a subject.
 
-// A whole number, up - down, as the code holds it.
-pub struct Gap {
-    pub up: u32,
-    pub down: u32,
-}
+// Whole numbers as differences of two counts.
+mod whole;
 
-// The smaller of two.
-pub fn least(a: usize, b: usize) -> usize
-    ensures { λ r. ⌜ r ≡ min a b ⌝ }
-{
-    if a < b { a } else { b }
-}
+// The smaller and the larger of two.
+mod order;
 
-ghost use mathlib.Core.Path.{_≡_};
-ghost use Prim.Native.Nat.{min};
+pub use order::least;
+pub use order::most;
+pub use whole::Gap;
+pub use whole::split;
+pub use whole::split8;
+pub use whole::split16;

@@ -14,3 +14,4 @@ pub mod QindexGrid
 pub mod Frame
 pub mod Ccso
 pub mod CSide
+pub mod Figures

@@ -1,6 +1,6 @@
 -- Checks in their order: at each way out of the code, that its answer is the one that the rules give.
 -- Where the code asked a callee or a test, the premises are the callee's promise and how its answer came out. Assumes nothing.
-use mathlib.Core.Path.{_≡_, refl, sym, ap, _∙_}
+use mathlib.Core.Path.{_≡_, refl, sym, _∙_}
 use mathlib.Core.Bool.{Bool, true, false}
 use Prim.Native.Nat.{ℕ}
 use native.Mathlib.Omega.{arith}

@@ -9,9 +9,9 @@ use native.Mathlib.Nat.{eq-or-lt-of-le, le-of-suc-le-suc, not-suc-le-zero, le-an
 use native.Mathlib.Numerals.{add-one}
 use native.Mathlib.Omega.{arith}
 use lib.ListN.{getD}
-use lib.Dec.{ltb}
 use borrow.Author.Needs.{needs}
-use borrow.Author.Tests.{lt-ltb, le-ltb, ltb-true, ltb-false}
+use borrow.Author.Tests.{lt-ltb, le-ltb, ltb-false}
+use Rattle.laws.specs.Choose.{told}
 use Rattle.rules.specs.declared.refusals.Found.{Found}
 use Rattle.rules.specs.declared.refusals.Found.the-variants.{At, Nothing}
 use Rattle.rules.specs.Refusals.{sooner, first, foundIf, foundUnless, over}
@@ -92,7 +92,7 @@ unfolding over foundIf
 over-good top xs k h = rw (le-ltb _ _ h)
 
 pub ruleset firsts =
-    (needs, first-none, first-more, first-found, first-end, first-more-by, first-found-by, sooner-first, sooner-second, sooner-first-by, sooner-second-by, found-if, found-if-not, found-unless, found-unless-not, over-bad, over-good)
+    (needs, first-none, first-more, first-found, first-end, first-more-by, first-found-by, sooner-first, sooner-second, sooner-first-by, sooner-second-by, found-if, found-if-not, found-unless, found-unless-not, over-bad, over-good, told)
 
 -- ---- what an answer says
 

@@ -1,0 +1,20 @@
+-- `ends_here` says whether a number may end: each test picks a case of `ends`. Assumes nothing.
+use borrow.Author.Tests.{lt-ltb, le-ltb}
+use Rattle.cases.specs.Numbers.{ends}
+use borrow.Author.Needs.{needs}
+use Rattle.cases.proofs.number.ends_here.Statement.{statement}
+use Rattle.cases.proofs.number.ends_here.Tie as tie
+
+shared-slice-read-result : tie.Need-shared-slice-read-result
+shared-slice-read-result c = search needs
+
+returns : tie.Need-returns
+unfolding ends
+returns c = rw (lt-ltb _ _ (c .before .if1 .taken))
+
+returns-2 : tie.Need-returns-2
+unfolding ends
+returns-2 c = rw (le-ltb _ _ (c .if1 .left))
+
+pub ends-here-spec : {M : Type 1} → statement M
+ends-here-spec = tie.close (tie.spec shared-slice-read-result returns returns-2)

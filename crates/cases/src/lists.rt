@@ -1,0 +1,220 @@
+// Lists of a line, their length first: read into lent lists, or held against lists that are there.
+ghost use mathlib.Core.Path.{_≡_};
+ghost use Prim.Native.Nat.{_≤_};
+ghost use lib.ListN.{length};
+ghost use Rattle.cases.specs.Lists.{Fills};
+use crate::number::Cursor;
+use crate::typed::read_signed;
+use crate::typed::read_unsigned;
+
+// How many entries a list has, and what follows it.
+pub struct Listed {
+    pub length: usize,
+    pub rest: Cursor,
+}
+
+// Whether the next entries are those of a list, the first place that differs, and what follows.
+pub struct Held {
+    pub same: bool,
+    pub place: usize,
+    pub rest: Cursor,
+}
+
+// A list's length, where that many entries fit; else none, and the line is given up.
+fn read_length(text: &[u8], c: Cursor, most: usize) -> Listed
+    ensures { λ r. ⌜ r .length ≤ most ⌝ }
+{
+    let n = read_unsigned(text, c, most);
+    let length = n.value;
+    let rest = n.rest;
+    Listed { length, rest }
+}
+
+// The next n entries, a u8 each.
+fn fill_u8s(text: &[u8], c: Cursor, list: &mut [u8], n: usize) -> Cursor
+    requires { ⌜ n ≤ length (now list) ⌝ }
+    ensures { λ r. ⌜ length (now (list .exit)) ≡ length (now (list .entry)) ⌝ }
+{
+    let mut at = c;
+    let mut i = 0;
+    while i < n {
+        let e = read_unsigned(text, at, 255);
+        let v = e.value;
+        list[i] = v as u8;
+        at = e.rest;
+        i += 1;
+    }
+    at
+}
+
+// A list of u8 entries, to the front of a lent list.
+pub fn read_u8s(text: &[u8], c: Cursor, list: &mut [u8]) -> Listed
+    ensures { λ r. ⌜ Fills (r .length) (now (list .entry)) (now (list .exit)) ⌝ }
+{
+    let n = read_length(text, c, list.len());
+    let length = n.length;
+    let rest = fill_u8s(text, n.rest, list, length);
+    Listed { length, rest }
+}
+
+// The next n entries, a u16 each.
+fn fill_u16s(text: &[u8], c: Cursor, list: &mut [u16], n: usize) -> Cursor
+    requires { ⌜ n ≤ length (now list) ⌝ }
+    ensures { λ r. ⌜ length (now (list .exit)) ≡ length (now (list .entry)) ⌝ }
+{
+    let mut at = c;
+    let mut i = 0;
+    while i < n {
+        let e = read_unsigned(text, at, 65535);
+        let v = e.value;
+        list[i] = v as u16;
+        at = e.rest;
+        i += 1;
+    }
+    at
+}
+
+// A list of u16 entries, to the front of a lent list.
+pub fn read_u16s(text: &[u8], c: Cursor, list: &mut [u16]) -> Listed
+    ensures { λ r. ⌜ Fills (r .length) (now (list .entry)) (now (list .exit)) ⌝ }
+{
+    let n = read_length(text, c, list.len());
+    let length = n.length;
+    let rest = fill_u16s(text, n.rest, list, length);
+    Listed { length, rest }
+}
+
+// The next n entries, a u32 each.
+fn fill_u32s(text: &[u8], c: Cursor, list: &mut [u32], n: usize) -> Cursor
+    requires { ⌜ n ≤ length (now list) ⌝ }
+    ensures { λ r. ⌜ length (now (list .exit)) ≡ length (now (list .entry)) ⌝ }
+{
+    let mut at = c;
+    let mut i = 0;
+    while i < n {
+        let e = read_unsigned(text, at, 4294967295);
+        let v = e.value;
+        list[i] = v as u32;
+        at = e.rest;
+        i += 1;
+    }
+    at
+}
+
+// A list of u32 entries, to the front of a lent list.
+pub fn read_u32s(text: &[u8], c: Cursor, list: &mut [u32]) -> Listed
+    ensures { λ r. ⌜ Fills (r .length) (now (list .entry)) (now (list .exit)) ⌝ }
+{
+    let n = read_length(text, c, list.len());
+    let length = n.length;
+    let rest = fill_u32s(text, n.rest, list, length);
+    Listed { length, rest }
+}
+
+// The next n entries, a usize each.
+fn fill_usizes(text: &[u8], c: Cursor, list: &mut [usize], n: usize) -> Cursor
+    requires { ⌜ n ≤ length (now list) ⌝ }
+    ensures { λ r. ⌜ length (now (list .exit)) ≡ length (now (list .entry)) ⌝ }
+{
+    let mut at = c;
+    let mut i = 0;
+    while i < n {
+        let e = read_unsigned(text, at, 4294967295);
+        let v = e.value;
+        list[i] = v;
+        at = e.rest;
+        i += 1;
+    }
+    at
+}
+
+// A list of usize entries, to the front of a lent list.
+pub fn read_usizes(text: &[u8], c: Cursor, list: &mut [usize]) -> Listed
+    ensures { λ r. ⌜ Fills (r .length) (now (list .entry)) (now (list .exit)) ⌝ }
+{
+    let n = read_length(text, c, list.len());
+    let length = n.length;
+    let rest = fill_usizes(text, n.rest, list, length);
+    Listed { length, rest }
+}
+
+// The next n entries, an i32 each.
+fn fill_i32s(text: &[u8], c: Cursor, list: &mut [i32], n: usize) -> Cursor
+    requires { ⌜ n ≤ length (now list) ⌝ }
+    ensures { λ r. ⌜ length (now (list .exit)) ≡ length (now (list .entry)) ⌝ }
+{
+    let mut at = c;
+    let mut i = 0;
+    while i < n {
+        let e = read_signed(text, at);
+        let v = e.value;
+        list[i] = v;
+        at = e.rest;
+        i += 1;
+    }
+    at
+}
+
+// A list of i32 entries, to the front of a lent list.
+pub fn read_i32s(text: &[u8], c: Cursor, list: &mut [i32]) -> Listed
+    ensures { λ r. ⌜ Fills (r .length) (now (list .entry)) (now (list .exit)) ⌝ }
+{
+    let n = read_length(text, c, list.len());
+    let length = n.length;
+    let rest = fill_i32s(text, n.rest, list, length);
+    Listed { length, rest }
+}
+
+// Holds the next entries against those of a list, up to the first that differs.
+pub fn hold_u8s(text: &[u8], c: Cursor, list: &[u8]) -> Held {
+    let mut at = c;
+    let mut i = 0;
+    while i < list.len() {
+        let e = read_unsigned(text, at, 255);
+        at = e.rest;
+        if e.value != wide_u8(list[i]) {
+            return Held {
+                same: false,
+                place: i,
+                rest: at,
+            };
+        }
+        i += 1;
+    }
+    Held {
+        same: true,
+        place: i,
+        rest: at,
+    }
+}
+
+fn wide_u8(v: u8) -> usize {
+    v as usize
+}
+
+// Holds the next entries against those of a list, up to the first that differs.
+pub fn hold_u16s(text: &[u8], c: Cursor, list: &[u16]) -> Held {
+    let mut at = c;
+    let mut i = 0;
+    while i < list.len() {
+        let e = read_unsigned(text, at, 65535);
+        at = e.rest;
+        if e.value != wide_u16(list[i]) {
+            return Held {
+                same: false,
+                place: i,
+                rest: at,
+            };
+        }
+        i += 1;
+    }
+    Held {
+        same: true,
+        place: i,
+        rest: at,
+    }
+}
+
+fn wide_u16(v: u16) -> usize {
+    v as usize
+}

@@ -1,0 +1,120 @@
+// The next number of a line as a type of its own.
+ghost use mathlib.Core.Path.{_≡_};
+ghost use Prim.Native.Nat.{_≤_, _<_};
+ghost use lib.IntN.{pos, negℤ};
+ghost use Rattle.cases.specs.Numbers.{numberAt};
+ghost use Rattle.cases.specs.Typed.{failed, unsignedOf, belowZero, fromZero, signedOf};
+use crate::number::Cursor;
+use crate::number::next_number;
+
+pub struct Unsigned {
+    pub value: usize,
+    pub rest: Cursor,
+}
+
+pub struct Signed {
+    pub value: i32,
+    pub rest: Cursor,
+}
+
+// A cursor from which nothing more is read.
+fn give_up(c: Cursor) -> Cursor
+    ensures { λ r. ⌜ r ≡ failed c ⌝ }
+{
+    let end = c.end;
+    Cursor {
+        at: end,
+        end,
+        good: false,
+    }
+}
+
+// The next number, where it has no sign and is at most `most`.
+pub fn read_unsigned(text: &[u8], c: Cursor, most: usize) -> Unsigned
+    ensures { λ r. ⌜ r ≡ unsignedOf most (numberAt (now (text .entry)) c) ⌝ }
+    ensures { λ r. ⌜ r .value ≤ most ⌝ }
+{
+    let n = next_number(text, c);
+    let rest = n.rest;
+    let size = n.size;
+    if n.negative {
+        let stop = give_up(rest);
+        return Unsigned {
+            value: 0,
+            rest: stop,
+        };
+    }
+    if most < size {
+        let stop = give_up(rest);
+        return Unsigned {
+            value: 0,
+            rest: stop,
+        };
+    }
+    Unsigned { value: size, rest }
+}
+
+// A count below zero.
+fn minus(size: usize) -> i32
+    requires { ⌜ size ≤ 2147483648 ⌝ }
+    ensures { λ r. ⌜ r ≡ negℤ (pos size) ⌝ }
+{
+    if size == 0 {
+        return 0;
+    }
+    -1 - (size - 1) as i32
+}
+
+fn plus(size: usize) -> i32
+    requires { ⌜ size ≤ 2147483647 ⌝ }
+    ensures { λ r. ⌜ r ≡ pos size ⌝ }
+{
+    size as i32
+}
+
+// A number below zero, where it is an i32.
+fn below_zero(size: usize, rest: Cursor) -> Signed
+    ensures { λ r. ⌜ r ≡ belowZero size rest ⌝ }
+{
+    if 2147483648 < size {
+        let stop = give_up(rest);
+        return Signed {
+            value: 0,
+            rest: stop,
+        };
+    }
+    Signed {
+        value: minus(size),
+        rest,
+    }
+}
+
+// A number from zero on, where it is an i32.
+fn from_zero(size: usize, rest: Cursor) -> Signed
+    ensures { λ r. ⌜ r ≡ fromZero size rest ⌝ }
+{
+    if 2147483647 < size {
+        let stop = give_up(rest);
+        return Signed {
+            value: 0,
+            rest: stop,
+        };
+    }
+    Signed {
+        value: plus(size),
+        rest,
+    }
+}
+
+// The next number, where it is an i32.
+pub fn read_signed(text: &[u8], c: Cursor) -> Signed
+    ensures { λ r. ⌜ r ≡ signedOf (numberAt (now (text .entry)) c) ⌝ }
+{
+    let n = next_number(text, c);
+    let rest = n.rest;
+    let size = n.size;
+    if n.negative {
+        return below_zero(size, rest);
+    }
+    from_zero(size, rest)
+}

@@ -1,0 +1,8 @@
+pub mod Picks
+pub mod Lengths
+pub mod Differences
+pub mod Averages
+pub mod Stands
+pub mod Order
+pub mod Most
+pub mod Agree

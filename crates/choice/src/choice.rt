@@ -1,0 +1,75 @@
+// The width choice: how many samples after the edge are filtered.
+use crate::bends::across;
+use crate::bends::beside;
+use crate::distances::far;
+use crate::ramps::steep;
+use rules::edge::Line;
+ghost use mathlib.Core.Path.{_≡_};
+ghost use Prim.Native.Nat.{_≤_};
+ghost use Rattle.rules.specs.Width.{widthOf};
+ghost use Rattle.choice.specs.Tests.{offOf, oneOf, twoOf};
+
+// Whether a threshold is 0.
+fn off(q: u32, side: u32) -> bool
+    ensures { λ r. ⌜ r ≡ offOf q side ⌝ }
+{
+    if q == 0 {
+        return true;
+    }
+    side == 0
+}
+
+// Whether one sample is the most, or the bends allow no more; e is the larger of dm2 and d1, g is dm1 + d0.
+fn one_wide(p: usize, q: u32, side: u32, e: u32, g: u32) -> bool
+    requires { ⌜ q ≤ 2048 ⌝ }
+    ensures { λ r. ⌜ r ≡ oneOf p q side e g ⌝ }
+{
+    if p == 1 {
+        return true;
+    }
+    if side / 4 < e {
+        return true;
+    }
+    4 * q < g
+}
+
+// Whether the bends allow no more than two samples.
+fn two_wide(q: u32, side: u32, e: u32, g: u32) -> bool
+    requires { ⌜ q ≤ 2048 ⌝ }
+    ensures { λ r. ⌜ r ≡ twoOf q side e g ⌝ }
+{
+    if side / 8 < e {
+        return true;
+    }
+    3 * q < g
+}
+
+// How many samples to filter after the edge, of at most n before it and p after it.
+pub fn filt_choice(lines: [Line; 4], n: usize, p: usize, q: u32, side: u32) -> usize
+    requires { ⌜ (p ≤ 8) × (q ≤ 2048) × (side ≤ 839) ⌝ }
+    ensures { λ r. ⌜ r ≡ widthOf lines n p q side ⌝ }
+{
+    if off(q, side) {
+        return 0;
+    }
+    let a = lines[0];
+    let b = lines[3];
+    let e = beside(a, b);
+    if side < e {
+        return 0;
+    }
+    let g = across(a, b);
+    if one_wide(p, q, side, e, g) {
+        return 1;
+    }
+    if two_wide(q, side, e, g) {
+        return 2;
+    }
+    if steep(a, b, n, 3, 3 * side / 16) {
+        return 2;
+    }
+    if p == 3 {
+        return 3;
+    }
+    far(a, b, n, p, q, side, g)
+}

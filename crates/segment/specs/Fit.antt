@@ -1,0 +1,53 @@
+-- What an edge needs of a plane, and what it makes of one.
+-- Assumes nothing.
+use mathlib.Core.Path.{_≡_}
+use mathlib.Core.Bool.{true}
+use mathlib.Core.List.{List}
+use Prim.Native.Nat.{ℕ, _+_, _*_, _-_, _≤_, _<_}
+use Rattle.laws.specs.Stores.{puts}
+use Rattle.rules.specs.declared.edge.Edge.{Edge}
+use Rattle.rules.specs.declared.edge.Place.{Place}
+use Rattle.rules.specs.Lengths.{reachBefore, reachAfter}
+use Rattle.rules.specs.Segment.{hasRoom, windowOf, chosenOf, storesOf, widthAt, segmentOf}
+
+-- b samples before the edge and a after it lie in the plane, on four lines
+pub record Room (at step line b a size : ℕ) : Type 0 where
+  pub low : b * step ≤ at
+  pub high : at + 3 * line + (a - 1) * step < size
+  pub some : 1 ≤ a
+  pub most-before : b ≤ 8
+  pub most-after : a ≤ 8
+
+-- one line of these
+pub record Reach (at step b a size : ℕ) : Type 0 where
+  pub low : b * step ≤ at
+  pub high : at + (a - 1) * step < size
+  pub some : 1 ≤ a
+  pub most-before : b ≤ 8
+  pub most-after : a ≤ 8
+
+-- an edge by offsets, of accepted numbers, that has room in a plane of so many samples
+pub record Fit (e : Place) (size : ℕ) : Type 0 where
+  pub pair-is : e .pair < 8
+  pub q-most : e .q ≤ 2048
+  pub side-most : e .side ≤ 839
+  pub room : Room (e .at) (e .step) (e .line) (reachBefore (e .pair)) (reachAfter (e .pair)) size
+
+-- what it answers, and what it leaves of a plane l
+pub record Filtered (top : ℕ) (e : Place) (l : List ℕ) (r : ℕ) (m : List ℕ) : Type 0 where
+  pub width : r ≡ chosenOf e (windowOf e l)
+  pub plane : m ≡ puts (storesOf top e (windowOf e l)) l
+
+-- an edge of a plane of columns by rows samples, of accepted numbers, that has room there
+pub record InPlane (stride columns rows : ℕ) (e : Edge) (size : ℕ) : Type 0 where
+  pub pair-is : e .pair < 8
+  pub q-most : e .q ≤ 2048
+  pub side-most : e .side ≤ 839
+  pub row : columns ≤ stride
+  pub plane : rows * stride ≤ size
+  pub room : hasRoom columns rows e ≡ true
+
+-- what it answers, and what it leaves of a plane l
+pub record EdgeFiltered (top stride : ℕ) (e : Edge) (l : List ℕ) (r : ℕ) (m : List ℕ) : Type 0 where
+  pub width : r ≡ widthAt stride e l
+  pub plane : m ≡ segmentOf top stride e l

@@ -1,0 +1,13 @@
+// Document 01, "Segment": one edge of a lent plane, in either direction. The rules stand in rules' Segment and Lone.
+
+// The samples of an edge's four lines.
+mod read;
+
+// What an edge stores.
+mod store;
+
+// One edge by its offsets, and by its place in a plane.
+mod segment;
+
+pub use segment::filter_edge;
+pub use segment::filter_segment;

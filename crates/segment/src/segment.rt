@@ -1,0 +1,77 @@
+// One edge on a lent plane: the width chosen from its window, and its taps.
+use super::read::read_lines;
+use super::store::store_lines;
+use choice::choice::filt_choice;
+use choice::pairs::most_after;
+use choice::pairs::most_before;
+use choice::pairs::reach_after;
+use choice::pairs::reach_before;
+use laws::least;
+use rules::edge::Edge;
+use rules::edge::Place;
+ghost use mathlib.Core.Path.{_≡_};
+ghost use Prim.Native.Nat.{_+_, _*_, _<_};
+ghost use lib.ListN.{length};
+ghost use Rattle.rules.specs.Segment.{placeOf};
+ghost use Rattle.segment.specs.Fit.{Fit, Filtered, InPlane, EdgeFiltered};
+
+// Filters an edge that is given by offsets, and answers how many samples after it were filtered.
+pub fn filter_segment(plane: &mut [u16], e: Place, top: u16) -> usize
+    requires { ⌜ Fit e (length (now plane)) ⌝ }
+    ensures { λ r. ⌜ Filtered top e (now (plane .entry)) r (now (plane .exit)) ⌝ }
+{
+    let at = e.at;
+    let step = e.step;
+    let line = e.line;
+    let pair = e.pair;
+    let lines = read_lines(plane, at, step, line, reach_before(pair), reach_after(pair));
+    let n = most_before(pair);
+    let w = filt_choice(lines, n, most_after(pair), e.q, e.side);
+    if w == 0 {
+        return 0;
+    }
+    store_lines(plane, at, step, line, least(w, n), w, e.q, top, lines);
+    w
+}
+
+// Where an edge stands in rows of stride samples.
+fn locate(e: Edge, stride: usize) -> Place
+    requires { ⌜ e .y * stride + e .x < 18446744073709551616 ⌝ }
+    ensures { λ r. ⌜ r ≡ placeOf stride e ⌝ }
+{
+    let at = e.y * stride + e.x;
+    if e.dir == 0 {
+        Place {
+            at: at,
+            step: 1,
+            line: stride,
+            pair: e.pair,
+            q: e.q,
+            side: e.side,
+        }
+    } else {
+        Place {
+            at: at,
+            step: stride,
+            line: 1,
+            pair: e.pair,
+            q: e.q,
+            side: e.side,
+        }
+    }
+}
+
+// Filters an edge of columns by rows samples that lie in rows of stride samples.
+pub fn filter_edge(
+    plane: &mut [u16],
+    stride: usize,
+    columns: usize,
+    rows: usize,
+    e: Edge,
+    top: u16,
+) -> usize
+    requires { ⌜ InPlane stride columns rows e (length (now plane)) ⌝ }
+    ensures { λ r. ⌜ EdgeFiltered top stride e (now (plane .entry)) r (now (plane .exit)) ⌝ }
+{
+    filter_segment(plane, locate(e, stride), top)
+}

@@ -1,0 +1,72 @@
+//! Numbers outside document 01's ranges, each just outside or far outside.
+
+use crate::random::Random;
+
+const FAR: u64 = u32::MAX as u64;
+
+pub fn depth(random: &Random) -> u64 {
+    random.one_of(&[0, 1, 7, 9, 11, 13, 14, 16, 32, 64, FAR])
+}
+
+/// A count just above `high`, or 0, or far above.
+pub fn count(random: &Random, high: u64) -> u64 {
+    random.one_of(&[0, high + 1, FAR])
+}
+
+/// A number just above `high`, or far above.
+pub fn above(random: &Random, high: u64) -> u64 {
+    random.one_of(&[high + 1, high + 2, FAR])
+}
+
+/// A signed number outside `low..=high`.
+pub fn signed(random: &Random, low: i64, high: i64) -> i64 {
+    random.one_of(&[low - 1, high + 1, i32::MIN as i64, i32::MAX as i64])
+}
+
+pub fn delta(random: &Random) -> i64 {
+    signed(random, -128, 127)
+}
+
+pub fn stride(random: &Random, least: u64) -> u64 {
+    random.one_of(&[0, least.saturating_sub(1), 8193, FAR])
+}
+
+pub fn subsampling(random: &Random) -> (u64, u64) {
+    random.one_of(&[(0, 1), (2, 0), (0, 2), (1, 2), (2, 1), (2, 2), (FAR, 0), (1, FAR), (FAR, FAR)])
+}
+
+pub fn cap(random: &Random) -> u64 {
+    random.one_of(&[0, 3, 5, 6, 7, 9, 12, 15, 17, 32, 64, 4096, FAR])
+}
+
+/// Leaves out the end of a list of which `needed` entries are used.
+pub fn shorten<T>(random: &Random, list: &mut Vec<T>, needed: u64) {
+    let keep = random.one_of(&[needed.saturating_sub(1), needed / 2, 0]);
+    list.truncate(keep as usize);
+}
+
+/// A step table with one to three faults.
+pub fn steps(random: &Random, steps: &mut Vec<u32>) {
+    for _ in 0..random.size(1, 3) {
+        match random.below(6) {
+            0 => steps.truncate(random.one_of(&[0, 1, 255, 351])),
+            1 => steps.push(64),
+            2 if !steps.is_empty() => steps[0] = random.one_of(&[0, 63, 65, u32::MAX]),
+            _ if !steps.is_empty() => {
+                let at = random.below(steps.len() as u64) as usize;
+                steps[at] = random.one_of(&[1_048_577, u32::MAX]);
+            }
+            _ => (),
+        }
+    }
+}
+
+/// Some samples above top, at places below `limit`.
+pub fn samples(random: &Random, plane: &mut [u16], limit: usize, top: u64) {
+    for _ in 0..random.size(1, 3) {
+        let at = random.below(limit.max(1) as u64) as usize;
+        if at < plane.len() {
+            plane[at] = random.one_of(&[top + 1, 65535]) as u16;
+        }
+    }
+}

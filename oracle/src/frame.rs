@@ -1,0 +1,328 @@
+//! A whole frame: kind 2, answered by the Rust's deblock_frame.
+
+use crate::grid::{self, size, SUBSAMPLINGS};
+use crate::line::Line;
+use crate::plane::tuples;
+use crate::random::Random;
+use crate::refusals::{self, Layout};
+use crate::rust::deblock::{self, Frame, Marks};
+use crate::thresholds::{delta, DEPTHS};
+use crate::{damage, picture, rust, Made};
+
+/// A plane kind's five lists.
+pub struct Grid {
+    pub marks: Marks,
+    pub qindex: Vec<u16>,
+}
+
+pub struct Case {
+    pub size: (u64, u64),
+    pub sub: (u64, u64),
+    pub chroma: (bool, bool),
+    pub depth: u64,
+    pub deltas: (i64, i64),
+    pub strides: (u64, u64),
+    pub cap: (u64, u64),
+    pub chroma_cap: (u64, u64),
+    pub entries: Vec<u16>,
+    pub leaves: Vec<u32>,
+    pub chroma_leaves: Vec<u32>,
+    pub skips: Vec<u32>,
+    pub planes: [Vec<u16>; 3],
+    pub luma_grid: Grid,
+    pub chroma_grid: Grid,
+    pub steps: Vec<u32>,
+}
+
+/// A size rounded up to 8, over 4.
+fn cells(n: u64) -> u64 {
+    n.div_ceil(8) * 2
+}
+
+impl Case {
+    pub fn luma_cells(&self) -> (u64, u64) {
+        (cells(self.size.0), cells(self.size.1))
+    }
+
+    pub fn chroma_cells(&self) -> (u64, u64) {
+        (cells((self.size.0 + self.sub.0) >> self.sub.0), cells((self.size.1 + self.sub.1) >> self.sub.1))
+    }
+
+    fn uses_chroma(&self) -> bool {
+        self.chroma.0 && self.chroma.1
+    }
+
+    /// The grids that the leaves and entries build, for one plane kind.
+    pub fn build(&self, chroma: bool) -> Grid {
+        let (cells, sub, cap, leaves) = if chroma {
+            (self.chroma_cells(), self.sub, self.chroma_cap, &self.chroma_leaves)
+        } else {
+            (self.luma_cells(), (0, 0), self.cap, &self.leaves)
+        };
+        let sb_cols = self.size.0.div_ceil(64) as usize;
+        Grid {
+            marks: deblock::tx_grid(&tuples(leaves), &tuples(&self.skips), size(cells), size(sub), size(cap)),
+            qindex: deblock::qindex_grid(&self.entries, sb_cols, size(cells), size(sub)),
+        }
+    }
+
+    /// The plane kind's edges: the border is luma's size rounded up to 8, shifted for chroma.
+    pub fn layout<'a>(&self, grid: &'a Grid, chroma: bool) -> Layout<'a> {
+        let sub = if chroma { self.sub } else { (0, 0) };
+        let border = |n: u64, shift: u64| (n.div_ceil(8) * 8) >> shift;
+        Layout {
+            cells: if chroma { self.chroma_cells() } else { self.luma_cells() },
+            size: (border(self.size.0, sub.0), border(self.size.1, sub.1)),
+            superblock_height: 16 >> sub.1,
+            chroma,
+            vertical: &grid.marks.vertical,
+            horizontal: &grid.marks.horizontal,
+            width: &grid.marks.width,
+            height: &grid.marks.height,
+        }
+    }
+}
+
+fn length(random: &Random) -> u64 {
+    match random.below(60) {
+        0 => random.size(1, 300) as u64,
+        1..=5 => random.size(1, 140) as u64,
+        _ => random.size(1, 48) as u64,
+    }
+}
+
+fn lent_grid(random: &Random, cells: (u64, u64)) -> Grid {
+    let n = (cells.0 * cells.1) as usize;
+    let spare = picture::spare(random);
+    Grid {
+        marks: grid::contents(random, n),
+        qindex: random.list(n + spare, 65536).iter().map(|&q| q as u16).collect(),
+    }
+}
+
+fn empty_grid() -> Grid {
+    let none = Marks { vertical: Vec::new(), horizontal: Vec::new(), width: Vec::new(), height: Vec::new() };
+    Grid { marks: none, qindex: Vec::new() }
+}
+
+/// Leaves of a partition that are coded as skipped.
+fn skips(random: &Random, leaves: &[u32]) -> Vec<u32> {
+    let often = random.one_of(&[2, 5, 1000]);
+    leaves.chunks_exact(4).filter(|_| random.once_in(often)).flat_map(|l| [l[0], l[1], l[2] & !4096, l[3] & !4096]).collect()
+}
+
+fn stride(random: &Random, least: u64) -> u64 {
+    least + random.one_of(&[0, 0, 1, 4, 7])
+}
+
+fn good(random: &Random) -> Case {
+    let mut c = Case {
+        size: (length(random), length(random)),
+        sub: random.one_of(&SUBSAMPLINGS),
+        chroma: (!random.once_in(6), !random.once_in(6)),
+        depth: random.one_of(&DEPTHS),
+        deltas: (delta(random), delta(random)),
+        strides: (0, 0),
+        cap: (grid::cap(random), grid::cap(random)),
+        chroma_cap: (grid::cap(random), grid::cap(random)),
+        entries: Vec::new(),
+        leaves: Vec::new(),
+        chroma_leaves: Vec::new(),
+        skips: Vec::new(),
+        planes: [Vec::new(), Vec::new(), Vec::new()],
+        luma_grid: empty_grid(),
+        chroma_grid: empty_grid(),
+        steps: rust::quant::steps(),
+    };
+    fill_luma(random, &mut c);
+    fill_chroma(random, &mut c);
+    c
+}
+
+fn fill_luma(random: &Random, c: &mut Case) {
+    let cells = c.luma_cells();
+    c.strides.0 = stride(random, 4 * cells.0);
+    let blocks = (c.size.0.div_ceil(64) * c.size.1.div_ceil(64)) as usize;
+    let spare = picture::spare(random);
+    c.entries = picture::qindices(random, blocks + spare);
+    c.leaves = picture::tiling(random, cells.0, cells.1);
+    c.skips = skips(random, &c.leaves);
+    c.planes[0] = picture::samples(random, c.strides.0 as usize, 4 * cells.1 as usize, c.depth, spare);
+    c.luma_grid = lent_grid(random, cells);
+}
+
+/// Chroma's lists; where the frame leaves chroma alone they may be empty, and its stride anything.
+fn fill_chroma(random: &Random, c: &mut Case) {
+    let luma = c.luma_cells();
+    c.chroma_leaves = if random.once_in(2) { c.leaves.clone() } else { picture::tiling(random, luma.0, luma.1) };
+    if !c.uses_chroma() && random.once_in(2) {
+        c.strides.1 = random.one_of(&[0, 1, 8193, u32::MAX as u64]);
+        return;
+    }
+    let cells = c.chroma_cells();
+    c.strides.1 = stride(random, 4 * cells.0);
+    for plane in 1..3 {
+        let spare = picture::spare(random);
+        c.planes[plane] = picture::samples(random, c.strides.1 as usize, 4 * cells.1 as usize, c.depth, spare);
+    }
+    c.chroma_grid = lent_grid(random, cells);
+}
+
+/// One of the five lists of a grid, cut short.
+fn shorten_grid(random: &Random, g: &mut Grid) {
+    let n = g.marks.vertical.len() as u64;
+    match random.below(5) {
+        0 => damage::shorten(random, &mut g.marks.vertical, n),
+        1 => damage::shorten(random, &mut g.marks.horizontal, n),
+        2 => damage::shorten(random, &mut g.marks.width, n),
+        3 => damage::shorten(random, &mut g.marks.height, n),
+        _ => damage::shorten(random, &mut g.qindex, n),
+    }
+}
+
+/// Large leaves where no partition puts them, so that edges lack room; luma's, chroma's or both.
+fn crowd(random: &Random, c: &mut Case) {
+    let (columns, rows) = c.luma_cells();
+    for _ in 0..random.size(1, 4) {
+        let from_end = |n: u64| n.saturating_sub(1 + random.below(3));
+        let (row, column) = random.one_of(&[(0, random.below(4)), (random.below(4), 0), (0, from_end(columns)), (from_end(rows), 0)]);
+        let leaf = [row as u32, column as u32, 1 << random.size(1, 4), 1 << random.size(1, 4)];
+        let before = [row as u32, 0, 4, 16];
+        match random.below(3) {
+            0 => c.leaves.extend(leaf),
+            1 => c.chroma_leaves.extend(leaf),
+            _ => c.skips.extend([before, leaf].concat()),
+        }
+    }
+}
+
+fn damaged(random: &Random, c: &mut Case) {
+    for _ in 0..random.one_of(&[1, 1, 2, 3]) {
+        if random.once_in(2) {
+            damaged_settings(random, c);
+        } else {
+            damaged_lists(random, c);
+        }
+    }
+}
+
+fn damaged_settings(random: &Random, c: &mut Case) {
+    match random.below(12) {
+        0 => c.depth = damage::depth(random),
+        1 => c.size.0 = damage::count(random, 4096),
+        2 => c.size.1 = damage::count(random, 4096),
+        3 => c.sub = damage::subsampling(random),
+        4 => c.strides.0 = random.one_of(&[0, c.strides.0 - c.strides.0 % 8 - 1, 8193]),
+        5 => c.strides.1 = random.one_of(&[0, (c.strides.1 - c.strides.1 % 8).saturating_sub(1), 8193]),
+        6 => c.deltas.0 = damage::delta(random),
+        7 => c.deltas.1 = damage::delta(random),
+        8 => c.cap.0 = damage::cap(random),
+        9 => c.cap.1 = damage::cap(random),
+        10 => c.chroma_cap.0 = damage::cap(random),
+        _ => c.chroma_cap.1 = damage::cap(random),
+    }
+}
+
+fn damaged_lists(random: &Random, c: &mut Case) {
+    let which = random.below(3) as usize;
+    let leaf = if which == 2 && random.once_in(2) { grid::whole_skip(random) } else { picture::bad_leaf(random) };
+    // A leaf that no partition has: its edges may lack room.
+    let stray = picture::stray_leaf(random, 4, 4).map(|n| n & !4096);
+    let top = refusals::top(c.depth.min(12));
+    match random.below(14) {
+        0 => {
+            let needed = c.entries.len() as u64;
+            damage::shorten(random, &mut c.entries, needed);
+        }
+        1 => damage::steps(random, &mut c.steps),
+        2 => grid::rag(random, [&mut c.leaves, &mut c.chroma_leaves, &mut c.skips][which]),
+        3 | 4 => grid::spoil_leaves(random, [&mut c.leaves, &mut c.chroma_leaves, &mut c.skips][which], leaf),
+        5 | 6 | 10 | 11 => [&mut c.leaves, &mut c.chroma_leaves, &mut c.skips][which].extend(stray),
+        7 => {
+            let needed = c.planes[which].len() as u64;
+            damage::shorten(random, &mut c.planes[which], needed);
+        }
+        8 => shorten_grid(random, if random.once_in(2) { &mut c.luma_grid } else { &mut c.chroma_grid }),
+        _ => {
+            let limit = c.planes[which].len();
+            damage::samples(random, &mut c.planes[which], limit, top);
+        }
+    }
+}
+
+pub fn make(random: &Random, refused: bool, _: Option<&[u32]>) -> Made {
+    let mut c = good(random);
+    if refused && random.once_in(3) {
+        crowd(random, &mut c);
+    } else if refused {
+        damaged(random, &mut c);
+    }
+    answered(c)
+}
+
+fn filtered(c: &Case) -> [Vec<u16>; 3] {
+    let (leaves, chroma_leaves, skips) = (tuples(&c.leaves), tuples(&c.chroma_leaves), tuples(&c.skips));
+    let frame = Frame {
+        size: size(c.size),
+        sub: size(c.sub),
+        chroma: c.chroma,
+        depth: c.depth,
+        deltas: c.deltas,
+        strides: size(c.strides),
+        cap: size(c.cap),
+        chroma_cap: size(c.chroma_cap),
+        entries: &c.entries,
+        leaves: &leaves,
+        chroma_leaves: &chroma_leaves,
+        skips: &skips,
+    };
+    deblock::frame(&frame, &c.planes)
+}
+
+fn write_grid(line: &mut Line, g: &Grid) {
+    line.list(&g.marks.vertical).list(&g.marks.horizontal).list(&g.marks.width).list(&g.marks.height).list(&g.qindex);
+}
+
+/// A grid's five lists as the frame leaves them.
+fn write_built(line: &mut Line, c: &Case, chroma: bool) {
+    let lent = if chroma { &c.chroma_grid } else { &c.luma_grid };
+    let (marks, qindex) = if chroma && !c.uses_chroma() {
+        (lent.marks.clone(), lent.qindex.clone())
+    } else {
+        let built = c.build(chroma);
+        (grid::marks_over(&built.marks, &lent.marks), grid::qindex_over(&built.qindex, &lent.qindex))
+    };
+    line.entries(&marks.vertical).entries(&marks.horizontal).entries(&marks.width).entries(&marks.height).entries(&qindex);
+}
+
+fn answered(c: Case) -> Made {
+    let refusal = refusals::of_frame(&c);
+    let mut line = Line::new(2);
+    line.unsigned(&[c.size.0, c.size.1, c.sub.0, c.sub.1, c.chroma.0 as u64, c.chroma.1 as u64, c.depth])
+        .signed(&[c.deltas.0, c.deltas.1])
+        .unsigned(&[c.strides.0, c.strides.1, c.cap.0, c.cap.1, c.chroma_cap.0, c.chroma_cap.1])
+        .list(&c.entries)
+        .list(&c.leaves)
+        .list(&c.chroma_leaves)
+        .list(&c.skips);
+    for plane in &c.planes {
+        line.list(plane);
+    }
+    write_grid(&mut line, &c.luma_grid);
+    write_grid(&mut line, &c.chroma_grid);
+    let (no, place) = refusal.map_or((0, 0), |r| (r.no, r.place));
+    line.unsigned(&[no, place]);
+    let mut changed = false;
+    if refusal.is_none() {
+        let planes = filtered(&c);
+        changed = planes != c.planes;
+        for plane in &planes {
+            line.entries(plane);
+        }
+    }
+    if refusal.is_none_or(|r| r.no == 7 || r.no == 8) {
+        write_built(&mut line, &c, false);
+        write_built(&mut line, &c, true);
+    }
+    Made { line, refusal, width: None, changed, steps: Some(c.steps) }
+}

@@ -1,0 +1,120 @@
+//! The oracle's commands: cases of one part of the port, answered by the published Rust, on standard output.
+
+mod ccso;
+mod damage;
+mod frame;
+mod grid;
+mod line;
+mod picture;
+mod plane;
+mod random;
+mod refusals;
+mod rust;
+mod segment;
+mod summary;
+mod thresholds;
+
+// The published files name each other below `crate::av2`.
+use rust as av2;
+
+use line::Line;
+use random::Random;
+use refusals::Refusal;
+use std::io::{self, BufWriter, Write};
+use std::process::exit;
+use summary::Summary;
+
+/// A case with its answer.
+pub struct Made {
+    pub line: Line,
+    pub refusal: Option<Refusal>,
+    pub width: Option<usize>,
+    /// Whether some lent sample or grid entry ends otherwise than it was.
+    pub changed: bool,
+    /// The step table that the case is asked with, where its part has one.
+    pub steps: Option<Vec<u32>>,
+}
+
+/// Makes a case, one to be refused if asked so; it is given the step table of the case before.
+type Make = fn(&Random, bool, Option<&[u32]>) -> Made;
+
+const USAGE: &str = "oracle thresholds|segment|plane|grid|frame|ccso N SEED [--only accepted|refused]";
+
+fn part(name: &str) -> Option<Make> {
+    match name {
+        "thresholds" => Some(thresholds::make),
+        "segment" => Some(segment::make),
+        "plane" => Some(plane::make),
+        "grid" => Some(grid::make),
+        "frame" => Some(frame::make),
+        "ccso" => Some(ccso::make),
+        _ => None,
+    }
+}
+
+/// The answers that are wanted: all, or only the refused ones, or only the accepted ones.
+fn wanted(words: &[String]) -> Option<Option<bool>> {
+    match words {
+        [] => Some(None),
+        [flag, which] if flag == "--only" && which == "refused" => Some(Some(true)),
+        [flag, which] if flag == "--only" && which == "accepted" => Some(Some(false)),
+        _ => None,
+    }
+}
+
+fn run(make: Make, n: u64, seed: u64, only: Option<bool>, out: &mut impl Write) -> io::Result<Summary> {
+    let random = Random::new(seed);
+    let mut summary = Summary::default();
+    let mut last: Option<Vec<u32>> = None;
+    let mut written: Option<Vec<u32>> = None;
+    let mut left = n;
+    while left > 0 {
+        let refused = only.unwrap_or_else(|| random.once_in(3));
+        let made = make(&random, refused, last.as_deref());
+        last = made.steps.clone();
+        if only.is_some_and(|wanted| wanted != made.refusal.is_some()) {
+            continue;
+        }
+        if made.steps != written {
+            let steps = made.steps.as_deref().unwrap_or(&[]);
+            out.write_all(Line::new(1).list(steps).bytes())?;
+            out.write_all(b"\n")?;
+            written = made.steps;
+        }
+        out.write_all(made.line.bytes())?;
+        out.write_all(b"\n")?;
+        summary.count(made.refusal, made.width, made.changed);
+        left -= 1;
+    }
+    out.flush()?;
+    Ok(summary)
+}
+
+fn main() {
+    let words: Vec<String> = std::env::args().skip(1).collect();
+    let asked = match words.as_slice() {
+        [name, n, seed, rest @ ..] => match (part(name), n.parse(), seed.parse(), wanted(rest)) {
+            (Some(make), Ok(n), Ok(seed), Some(only)) => Some((make, n, seed, only)),
+            _ => None,
+        },
+        _ => None,
+    };
+    let Some((make, n, seed, only)) = asked else {
+        eprintln!("{USAGE}");
+        exit(2);
+    };
+    let mut out = BufWriter::with_capacity(1 << 20, io::stdout().lock());
+    match run(make, n, seed, only, &mut out) {
+        Ok(summary) => {
+            summary.print(&words[0], seed);
+            if summary.impossible() {
+                eprintln!("a width of 5 or 7 occurred");
+                exit(1);
+            }
+        }
+        Err(error) => {
+            eprintln!("writing stopped: {error}");
+            exit(1);
+        }
+    }
+}

@@ -1,0 +1,230 @@
+//! A whole plane: kind 2, answered by the Rust's deblock_plane in both directions.
+
+use crate::line::Line;
+use crate::random::Random;
+use crate::refusals::{self, Layout};
+use crate::rust::deblock::{self, Leaf, Marks, Settings};
+use crate::thresholds::{delta, DEPTHS};
+use crate::{damage, picture, rust, Made};
+
+pub struct Case {
+    pub cells: (u64, u64),
+    pub stride: u64,
+    pub size: (u64, u64),
+    pub superblock: (u64, u64),
+    pub chroma: bool,
+    pub depth: u64,
+    pub delta_q: i64,
+    pub delta_side: i64,
+    pub marks: Marks,
+    pub qindex: Vec<u16>,
+    pub plane: Vec<u16>,
+    pub steps: Vec<u32>,
+}
+
+impl Case {
+    pub fn layout(&self) -> Layout<'_> {
+        Layout {
+            cells: self.cells,
+            size: self.size,
+            superblock_height: self.superblock.1,
+            chroma: self.chroma,
+            vertical: &self.marks.vertical,
+            horizontal: &self.marks.horizontal,
+            width: &self.marks.width,
+            height: &self.marks.height,
+        }
+    }
+
+    fn settings(&self) -> Settings {
+        let pair = |p: (u64, u64)| (p.0 as usize, p.1 as usize);
+        Settings {
+            cells: pair(self.cells),
+            stride: self.stride as usize,
+            size: pair(self.size),
+            superblock: pair(self.superblock),
+            chroma: self.chroma,
+            depth: self.depth,
+            delta_q: self.delta_q,
+            delta_side: self.delta_side,
+        }
+    }
+}
+
+/// Leaves as the Rust takes them.
+pub fn tuples(leaves: &[u32]) -> Vec<Leaf> {
+    leaves.chunks_exact(4).map(|l| (l[0] as usize, l[1] as usize, l[2] as usize, l[3] as usize)).collect()
+}
+
+/// A number of cells each way: small mostly, now and then up to 300 samples, rarely all there are.
+pub fn cells(random: &Random) -> (u64, u64) {
+    let small = (random.size(1, 10) as u64, random.size(1, 10) as u64);
+    match random.below(100) {
+        0 => (random.size(1, 75) as u64, small.1),
+        1 => (small.0, random.size(1, 75) as u64),
+        2..=9 => (random.size(1, 36) as u64, random.size(1, 36) as u64),
+        _ => small,
+    }
+}
+
+/// Marks as a coder's grid has them.
+fn tiled(random: &Random, cells: (u64, u64)) -> Marks {
+    let leaves = tuples(&picture::tiling(random, cells.0, cells.1));
+    let cap = random.one_of(&[(8, 8), (16, 16), (8, 16), (2, 4), (1, 1)]);
+    deblock::tx_grid(&leaves, &[], (cells.0 as usize, cells.1 as usize), (0, 0), cap)
+}
+
+/// Marks and indices with no plan behind them.
+fn scattered(random: &Random, cells: (u64, u64)) -> Marks {
+    let n = (cells.0 * cells.1) as usize;
+    let highest = random.one_of(&[1, 2, 3, 4, 7]);
+    let often = random.one_of(&[1, 2, 5]);
+    let marks = |random: &Random| (0..n).map(|_| random.once_in(often) as u8).collect();
+    let (vertical, horizontal) = (marks(random), marks(random));
+    let indices = |random: &Random| random.list(n, highest).iter().map(|&i| i as u8).collect();
+    Marks { vertical, horizontal, width: indices(random), height: indices(random) }
+}
+
+/// Takes off the marks of edges that lack room.
+fn make_room(c: &mut Case) {
+    for direction in 0..2 {
+        for i in 0..c.cells.0 * c.cells.1 {
+            if c.layout().lacks_room(direction, i / c.cells.0, i % c.cells.0) {
+                let marks = if direction == 0 { &mut c.marks.vertical } else { &mut c.marks.horizontal };
+                marks[i as usize] = 0;
+            }
+        }
+    }
+}
+
+/// A size for the border test: near the plane's own mostly.
+fn border(random: &Random, most: u64) -> u64 {
+    match random.below(6) {
+        0 => random.size(1, most as usize) as u64,
+        _ => (most - random.below(8).min(most - 1)).max(1),
+    }
+}
+
+fn good(random: &Random) -> Case {
+    let cells = if random.once_in(1500) { random.one_of(&[(1024, 1), (1, 1024)]) } else { cells(random) };
+    let stride = if random.once_in(500) && cells.1 < 3 { 8192 } else { 4 * cells.0 + random.one_of(&[0, 0, 1, 4, 7]) };
+    let depth = random.one_of(&DEPTHS);
+    let spare = picture::spare(random);
+    let n = (cells.0 * cells.1) as usize;
+    let marks = if random.once_in(2) { tiled(random, cells) } else { scattered(random, cells) };
+    let mut c = Case {
+        cells,
+        stride,
+        size: (border(random, 4 * cells.0), border(random, 4 * cells.1)),
+        superblock: (random.one_of(&[8, 16]), random.one_of(&[8, 16])),
+        chroma: random.once_in(2),
+        depth,
+        delta_q: delta(random),
+        delta_side: delta(random),
+        marks,
+        qindex: picture::qindices(random, n + spare),
+        plane: picture::samples(random, stride as usize, 4 * cells.1 as usize, depth, spare),
+        steps: rust::quant::steps(),
+    };
+    lengthen(random, &mut c.marks);
+    wild_padding(random, &mut c);
+    c
+}
+
+/// Lists longer than needed, with anything in what is not used.
+fn lengthen(random: &Random, marks: &mut Marks) {
+    for list in [&mut marks.vertical, &mut marks.horizontal, &mut marks.width, &mut marks.height] {
+        let spare = picture::spare(random);
+        list.extend(random.list(spare, 256).iter().map(|&n| n as u8));
+    }
+}
+
+/// Samples between the rows may be above top.
+fn wild_padding(random: &Random, c: &mut Case) {
+    let used = (4 * c.cells.0) as usize;
+    for i in 0..c.plane.len() {
+        if i % c.stride as usize >= used && random.once_in(4) {
+            c.plane[i] = 65535;
+        }
+    }
+}
+
+fn damaged(random: &Random, c: &mut Case) {
+    let n = c.cells.0 * c.cells.1;
+    for _ in 0..random.one_of(&[1, 1, 2, 3]) {
+        match random.below(24) {
+            0 => c.depth = damage::depth(random),
+            1 => c.cells.0 = damage::count(random, 1024),
+            2 => c.cells.1 = damage::count(random, 1024),
+            3 => c.stride = damage::stride(random, 4 * c.cells.0),
+            4 => c.size.0 = damage::count(random, 4 * c.cells.0),
+            5 => c.size.1 = damage::count(random, 4 * c.cells.1),
+            6 => c.superblock.0 = random.one_of(&[0, 1, 4, 7, 9, 15, 17, 32]),
+            7 => c.superblock.1 = random.one_of(&[0, 1, 4, 7, 9, 15, 17, 32]),
+            8 => damage::shorten(random, &mut c.marks.vertical, n),
+            9 => damage::shorten(random, &mut c.marks.horizontal, n),
+            10 => damage::shorten(random, &mut c.marks.width, n),
+            11 => damage::shorten(random, &mut c.marks.height, n),
+            12 => damage::shorten(random, &mut c.qindex, n),
+            13 => damage::shorten(random, &mut c.plane, c.stride.saturating_mul(4).saturating_mul(c.cells.1)),
+            14 => damage::steps(random, &mut c.steps),
+            15 => c.delta_q = damage::delta(random),
+            16 => c.delta_side = damage::delta(random),
+            17 | 18 | 19 => bad_cells(random, &mut c.marks, n),
+            _ => {
+                let limit = c.plane.len();
+                damage::samples(random, &mut c.plane, limit, refusals::top(c.depth.min(12)));
+            }
+        }
+    }
+}
+
+/// Some marks and indices out of range.
+fn bad_cells(random: &Random, marks: &mut Marks, n: u64) {
+    for _ in 0..random.size(1, 3) {
+        let at = random.below(n) as usize;
+        let (list, value) = match random.below(4) {
+            0 => (&mut marks.vertical, random.one_of(&[2, 255])),
+            1 => (&mut marks.horizontal, random.one_of(&[2, 255])),
+            2 => (&mut marks.width, random.one_of(&[7, 255])),
+            _ => (&mut marks.height, random.one_of(&[7, 255])),
+        };
+        if at < list.len() {
+            list[at] = value;
+        }
+    }
+}
+
+pub fn make(random: &Random, refused: bool, _: Option<&[u32]>) -> Made {
+    let mut c = good(random);
+    // A third of the refused cases lack room alone, a third lack nothing else.
+    let kind = if refused { random.below(3) } else { 2 };
+    if kind == 2 {
+        make_room(&mut c);
+    }
+    if refused && kind > 0 {
+        damaged(random, &mut c);
+    }
+    answered(c)
+}
+
+fn answered(c: Case) -> Made {
+    let refusal = refusals::of_plane(&c);
+    let mut line = Line::new(2);
+    line.unsigned(&[c.cells.0, c.cells.1, c.stride, c.size.0, c.size.1, c.superblock.0, c.superblock.1])
+        .unsigned(&[c.chroma as u64, c.depth])
+        .signed(&[c.delta_q, c.delta_side])
+        .list(&c.marks.vertical)
+        .list(&c.marks.horizontal)
+        .list(&c.marks.width)
+        .list(&c.marks.height)
+        .list(&c.qindex)
+        .list(&c.plane);
+    if let Some(r) = refusal {
+        line.unsigned(&[r.no, r.place]);
+        return Made { line, refusal, width: None, changed: false, steps: Some(c.steps) };
+    }
+    let plane = deblock::plane(&c.settings(), &c.marks, &c.qindex, &c.plane);
+    line.unsigned(&[0, 0]).entries(&plane);
+    Made { line, refusal, width: None, changed: plane != c.plane, steps: Some(c.steps) }
+}
