@@ -1,2 +1,7 @@
 pub mod Edges
 pub mod Runs
+pub mod Superblocks
+pub mod Accepting
+pub mod Everywhere
+pub mod Unique
+pub mod Samples
