@@ -1,6 +1,5 @@
-use Rattle.rules.specs.declared.refusals.Refusal.the-variants.{Sample}
 -- What was found, as a check.
-use Rattle.scan.proofs.Checks.{checks, found-bad-by}
+use Rattle.scan.proofs.Checks.{checks}
 use borrow.Author.Needs.{needs}
 use Rattle.segment.proofs.lone.over_check.Statement.{statement}
 use Rattle.segment.proofs.lone.over_check.Tie as tie
@@ -15,7 +14,7 @@ enum-told : tie.Need-enum-told
 enum-told c = search needs
 
 returns : tie.Need-returns
-returns c = found-bad-by _ _ Sample (c .before .before .before .over-edge .ensures) (search needs)
+returns c = search checks
 
 returns-2 : tie.Need-returns-2
 returns-2 c = search checks
