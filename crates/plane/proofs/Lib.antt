@@ -5,3 +5,4 @@ pub mod Accepting
 pub mod Everywhere
 pub mod Unique
 pub mod Samples
+pub mod Beyond
