@@ -1,0 +1,5 @@
+pub mod Signed
+pub mod Classes
+pub mod Offsets
+pub mod Places
+pub mod Blocks
