@@ -70,7 +70,7 @@ module _ {s : Ccso} {k : Counts} (u : Raised s k) where
   down-some = rw (u .down) (by-one (λ n. 0 < 2 ^ n) (omega arith) (omega arith) (s .ssy) (u .ranges .ssy-most))
 
 -- the target is no larger than luma
-halved-most : (ss size : ℕ) → ss ≤ 1 → 1 ≤ size → halved ss size ≤ size
+pub halved-most : (ss size : ℕ) → ss ≤ 1 → 1 ≤ size → halved ss size ≤ size
 unfolding halved down
 halved-most ss size h l = by-one (λ k. (size + k) / 2 ^ k ≤ size) (omega arith) (omega arith) ss h
 

@@ -4,7 +4,8 @@ use mathlib.Core.Path.{_≡_, refl, sym, ap, _∙_}
 use mathlib.Core.Bool.{Bool, true, false}
 use Prim.Native.Nat.{ℕ, zero, suc, _+_, _-_, _≤_, _<_}
 use native.Mathlib.Omega.{arith}
-use borrow.Author.Tests.{lt-ltb, le-ltb, le-leb, lt-leb}
+use borrow.Author.Tests.{lt-ltb, le-ltb, le-leb, lt-leb, leb-true}
+use Rattle.laws.specs.Choose.{true-not-false}
 use lib.IntN.{ℤ, pos, negsuc, _+ℤ_, _-ℤ_}
 use lib.Signed.{ltZ, leZ}
 use mir.Syntax.{w8, w32}
@@ -50,6 +51,13 @@ module _ (z w : ℤ) {a b c d : ℕ} where
       go (pos m) (negsuc n) h k = refl
       go (negsuc m) (pos n) h k = absurd (omega arith)
       go (negsuc m) (negsuc n) h k = sym (lt-leb n m (omega arith))
+
+-- what a test that passed says of the counts
+pub le-counts : (z w : ℤ) {a b c d : ℕ} → Is z a b → Is w c d → leZ z w ≡ true → a + d ≤ c + b
+le-counts (pos m) (pos n) h k t = omega (arith, leb-true m n t)
+le-counts (pos m) (negsuc n) h k t = true-not-false t
+le-counts (negsuc m) (pos n) h k t = omega arith
+le-counts (negsuc m) (negsuc n) h k t = omega (arith, leb-true n m t)
 
 -- the difference of two counts
 pub differ : (a b : ℕ) → Is (pos a -ℤ pos b) a b

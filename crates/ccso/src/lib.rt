@@ -11,3 +11,6 @@ pub mod sample;
 
 // The rows of the target.
 pub mod rows;
+
+// The checks in their order.
+pub mod check;
