@@ -14,3 +14,6 @@ pub mod rows;
 
 // The checks in their order.
 pub mod check;
+
+// The entry.
+pub mod apply;
