@@ -55,11 +55,13 @@ module _ (s : Plane) {t : List ℕ} (marks sizes qindex : List ℕ) (dir r c : �
 
   pub visit-edge : not u ≡ false → {e : Edge} {top w : ℕ} {p q : List ℕ} → IsEdgeAt s t (oneWay [] sizes qindex) dir r c e → top ≡ topOf (s .depth) → EdgeFiltered top (s .stride) e p w q → Ran s t (λ steps. visitOf s steps (oneWay marks sizes qindex) dir r c) p q
   unfolding visitOf isEdge marksOf edgeAt indexAt indicesOf runEdges
-  visit-edge there {e} {top} {w} {p} {q} is deep done = record { is = λ steps of.
-    done .plane
-    ∙ ap (λ (n : ℕ). segmentOf n (s .stride) e p) deep
-    ∙ ap (λ (x : Edge). segmentOf (topOf (s .depth)) (s .stride) x p) (is .is steps of)
-    ∙ ap (λ (es : List Edge). runEdges (topOf (s .depth)) (s .stride) es p) (pick-yes _ _ _ (edgeAt s steps (oneWay [] sizes qindex) dir r c ∷ []) (told-yes-not _ u edge there) refl) }
+  visit-edge there {e} {top} {w} {p} {q} is deep done = record {
+    is = λ steps of.
+        done .plane
+        ∙ ap (λ (n : ℕ). segmentOf n (s .stride) e p) deep
+        ∙ ap (λ (x : Edge). segmentOf (topOf (s .depth)) (s .stride) x p) (is .is steps of)
+        ∙ ap (λ (es : List Edge). runEdges (topOf (s .depth)) (s .stride) es p) (pick-yes _ _ _ (edgeAt s steps (oneWay [] sizes qindex) dir r c ∷ []) (told-yes-not _ u edge there) refl);
+  }
 
 pub ruleset visits = (needs, visit-none, visit-edge)
 

@@ -2,13 +2,15 @@
 use cells::grid::bad_cell;
 use cells::room::no_room;
 use cells::samples::over_plane;
-use cells::sizes::{lengths_ok, sizes_ok};
+use cells::sizes::lengths_ok;
+use cells::sizes::sizes_ok;
 use rules::depth::Depth;
 use rules::refusals::Answer;
 use rules::refusals::Found;
 use rules::refusals::Refusal;
 use rules::settings::Plane;
-use thresholds::checks::{deltas_check, steps_check};
+use thresholds::checks::deltas_check;
+use thresholds::checks::steps_check;
 ghost use mathlib.Core.Path.{_≡_};
 ghost use mathlib.Core.Bool.{true};
 ghost use mathlib.Core.List.{List};
@@ -40,7 +42,16 @@ fn grid_check(plane: &[u16], vedge: &[u8], hedge: &[u8], sqw: &[u8], sqh: &[u8],
 }
 
 // The first refusal of a plane, or none.
-pub fn plane_check(plane: &[u16], vedge: &[u8], hedge: &[u8], sqw: &[u8], sqh: &[u8], qindex: &[u16], steps: &[u32], s: Plane) -> Answer
+pub fn plane_check(
+    plane: &[u16],
+    vedge: &[u8],
+    hedge: &[u8],
+    sqw: &[u8],
+    sqh: &[u8],
+    qindex: &[u16],
+    steps: &[u32],
+    s: Plane,
+) -> Answer
     ensures { λ a. ⌜ a ≡ planeCheck s (now (steps .entry)) (grid (now (vedge .entry)) (now (hedge .entry)) (now (sqw .entry)) (now (sqh .entry)) (now (qindex .entry))) (now (plane .entry)) ⌝ }
 {
     if !Depth::is(s.depth) {
