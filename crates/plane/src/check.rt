@@ -12,13 +12,10 @@ use rules::settings::Plane;
 use thresholds::checks::deltas_check;
 use thresholds::checks::steps_check;
 ghost use mathlib.Core.Path.{_≡_};
-ghost use mathlib.Core.Bool.{true};
 ghost use mathlib.Core.List.{List};
 ghost use Prim.Native.Nat.{ℕ};
 ghost use lib.ListN.{length};
-ghost use Rattle.rules.specs.Numbers.{depthOk};
-ghost use Rattle.rules.specs.Plane.{grid, planeLengthsOk, planeCheck};
-ghost use Rattle.cells.specs.Fit.{Sizes};
+ghost use Rattle.rules.specs.Plane.{grid, planeCheck};
 ghost use Rattle.plane.specs.Checked.{Sized, gridCheck};
 
 // The checks of what the lists hold, 6, 7 and 8, whatever the qindex.

@@ -1,3 +1,4 @@
+-- `grid_check` meets its contract. Assumes nothing.
 use borrow.Author.Needs.{needs}
 use mathlib.Core.Path.{refl}
 use Rattle.scan.proofs.Checks.{stop, go-on, found-bad-by, found-good-by}

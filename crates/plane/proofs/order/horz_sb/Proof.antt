@@ -1,3 +1,4 @@
+-- `horz_sb` meets its contract: the invariant says that the columns passed have run. Assumes nothing.
 use native.Mathlib.Omega.{arith}
 use borrow.Author.Needs.{needs}
 use Prim.Native.Nat.{_+_, _-_, _≤_}

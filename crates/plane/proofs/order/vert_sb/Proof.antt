@@ -1,6 +1,6 @@
-use native.Mathlib.Omega.{arith}
+-- `vert_sb` meets its contract: the invariant says that the rows passed have run. Assumes nothing.
 use borrow.Author.Needs.{needs}
-use Prim.Native.Nat.{_+_, _-_, _≤_}
+use Prim.Native.Nat.{_-_, _≤_}
 use lib.ListN.{length}
 use mathlib.Core.Path.{_≡_, refl}
 use Rattle.laws.specs.Loops.{each}

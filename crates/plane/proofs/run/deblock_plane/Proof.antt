@@ -1,3 +1,4 @@
+-- `deblock_plane` meets its contract. Assumes nothing.
 use borrow.Author.Needs.{needs}
 use Rattle.plane.proofs.Accepting.{stated-refused, stated-run, checked-by}
 use Rattle.plane.proofs.run.deblock_plane.Statement.{statement}

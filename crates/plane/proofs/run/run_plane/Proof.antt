@@ -1,3 +1,4 @@
+-- `run_plane` meets its contract. Assumes nothing.
 use mir.Syntax.{w32}
 use mir.Facts.{toZ-ofZ}
 use borrow.Author.Needs.{needs}
