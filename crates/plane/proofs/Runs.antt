@@ -3,12 +3,11 @@
 use mathlib.Core.Path.{_≡_, refl, sym, ap, _∙_}
 use mathlib.Core.Bool.{Bool, true, false, not}
 use mathlib.Core.List.{List, [], _∷_, _++_}
-use Prim.Native.Nat.{ℕ, zero, suc, _+_, _*_, _-_, _≤_, _<_}
+use Prim.Native.Nat.{ℕ, _+_, _-_, _≤_}
 use native.Mathlib.Nat.{le-antisymm}
 use native.Mathlib.Numerals.{add-one}
-use native.Mathlib.Omega.{arith}
 use borrow.Author.Needs.{needs}
-use Rattle.laws.specs.Choose.{pick, pick-yes, pick-no, told-yes-not, told-no-not}
+use Rattle.laws.specs.Choose.{pick-yes, pick-no, told-yes-not, told-no-not}
 use Rattle.laws.specs.Loops.{each}
 use Rattle.rules.specs.declared.edge.Edge.{Edge}
 use Rattle.rules.specs.declared.settings.Plane.{Plane}
@@ -17,7 +16,7 @@ use Rattle.rules.specs.Segment.{runEdges, segmentOf}
 use Rattle.rules.specs.Plane.{marksOf, indicesOf, indexAt, isEdge, edgeAt, visitOf}
 use Rattle.segment.specs.Fit.{EdgeFiltered}
 use Rattle.cells.specs.Fit.{oneWay, marked}
-use Rattle.plane.specs.Run.{Table, IsEdgeAt, Ran, Field}
+use Rattle.plane.specs.Run.{IsEdgeAt, Ran, Field}
 
 -- ---- lists of edges
 
