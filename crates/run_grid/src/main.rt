@@ -19,7 +19,8 @@ fn room() -> [u8; 1048576] {
 fn replay(text: &[u8], c: Cursor, t: Tally) -> Tally {
     let kind = cases::read_unsigned(text, c, 2);
     let rest = kind.rest;
-    match kind.value {
+    let number = kind.value;
+    match number {
         1 => tx::replay(text, rest, t),
         2 => qindex::replay(text, rest, t),
         _ => tally::unread(t),

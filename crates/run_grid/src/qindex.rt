@@ -1,4 +1,6 @@
 // One qindex grid: what the entry is asked, and what the stream says that it answers.
+ghost use Prim.Native.Nat.{_≤_};
+ghost use lib.ListN.{length};
 use crate::tally;
 use crate::tally::Tally;
 use cases::Cursor;
@@ -16,7 +18,9 @@ struct Case {
     rest: Cursor,
 }
 
-fn read(text: &[u8], c: Cursor, sbq: &mut [u16], qindex: &mut [u16]) -> Case {
+fn read(text: &[u8], c: Cursor, sbq: &mut [u16], qindex: &mut [u16]) -> Case
+    ensures { λ r. ⌜ (r .entries ≤ length (now (sbq .entry))) × (r .cells ≤ length (now (qindex .entry))) ⌝ }
+{
     let cols = cases::read_unsigned(text, c, 4294967295);
     let rows = cases::read_unsigned(text, cols.rest, 4294967295);
     let ssx = cases::read_unsigned(text, rows.rest, 4294967295);
@@ -68,7 +72,7 @@ pub fn replay(text: &[u8], c: Cursor, t: Tally) -> Tally {
     let rest = case.rest;
     let entries = case.entries;
     let cells = case.cells;
-    if !rest.good || 16384 < entries || 16384 < cells {
+    if !rest.good {
         return tally::unread(t);
     }
     tally::case(

@@ -1,4 +1,6 @@
 // One TU grid: what the entry is asked, and what the stream says that it answers.
+ghost use Prim.Native.Nat.{_≤_};
+ghost use lib.ListN.{length};
 use crate::tally;
 use crate::tally::Tally;
 use cases::Cursor;
@@ -7,24 +9,26 @@ use grid::tx_grid::build_tx_grid;
 use rules::settings::TuGrid;
 
 // The settings and what follows them.
-struct Settings {
+struct Asked {
     s: TuGrid,
     rest: Cursor,
 }
 
-// Where the four lists start, how long they are, the answer, and what follows it.
-struct Lists {
-    lent: Cursor,
-    v: usize,
-    h: usize,
-    w: usize,
-    t: usize,
+// How long two lists are, and what follows them.
+struct Two {
+    a: usize,
+    b: usize,
+    rest: Cursor,
+}
+
+// The answer, and what follows it.
+struct Told {
     number: usize,
     place: usize,
     rest: Cursor,
 }
 
-fn settings(text: &[u8], c: Cursor) -> Settings {
+fn settings(text: &[u8], c: Cursor) -> Asked {
     let cols = cases::read_unsigned(text, c, 4294967295);
     let rows = cases::read_unsigned(text, cols.rest, 4294967295);
     let ssx = cases::read_unsigned(text, rows.rest, 4294967295);
@@ -32,7 +36,7 @@ fn settings(text: &[u8], c: Cursor) -> Settings {
     let capw = cases::read_unsigned(text, ssy.rest, 4294967295);
     let caph = cases::read_unsigned(text, capw.rest, 4294967295);
     let rest = caph.rest;
-    Settings {
+    Asked {
         s: TuGrid {
             cols: cols.value,
             rows: rows.value,
@@ -51,7 +55,10 @@ fn narrow(n: u32) -> u16 {
 }
 
 // A list of leaves.
-fn read_leaves(text: &[u8], c: Cursor, to: &mut [u16; 16384]) -> Listed {
+fn read_leaves(text: &[u8], c: Cursor, to: &mut [u16]) -> Listed
+    requires { ⌜ 16384 ≤ length (now to) ⌝ }
+    ensures { λ r. ⌜ r .length ≤ length (now (to .exit)) ⌝ }
+{
     let mut wide = [0u32; 16384];
     let l = cases::read_u32s(text, c, &mut wide);
     for i in 0..16384 {
@@ -60,27 +67,25 @@ fn read_leaves(text: &[u8], c: Cursor, to: &mut [u16; 16384]) -> Listed {
     l
 }
 
-fn read_lists(
-    text: &[u8],
-    lent: Cursor,
-    vedge: &mut [u8],
-    hedge: &mut [u8],
-    sqw: &mut [u8],
-    sqh: &mut [u8],
-) -> Lists {
-    let v = cases::read_u8s(text, lent, vedge);
-    let h = cases::read_u8s(text, v.rest, hedge);
-    let w = cases::read_u8s(text, h.rest, sqw);
-    let t = cases::read_u8s(text, w.rest, sqh);
-    let number = cases::read_unsigned(text, t.rest, 9);
+// Two lists of marks or size indices.
+fn read_two(text: &[u8], c: Cursor, a: &mut [u8], b: &mut [u8]) -> Two
+    ensures { λ r. ⌜ (r .a ≤ length (now (a .entry))) × (r .b ≤ length (now (b .entry))) ⌝ }
+{
+    let x = cases::read_u8s(text, c, a);
+    let y = cases::read_u8s(text, x.rest, b);
+    let rest = y.rest;
+    Two {
+        a: x.length,
+        b: y.length,
+        rest,
+    }
+}
+
+fn read_told(text: &[u8], c: Cursor) -> Told {
+    let number = cases::read_unsigned(text, c, 9);
     let place = cases::read_unsigned(text, number.rest, 4294967295);
     let rest = place.rest;
-    Lists {
-        lent,
-        v: v.length,
-        h: h.length,
-        w: w.length,
-        t: t.length,
+    Told {
         number: number.value,
         place: place.value,
         rest,
@@ -116,8 +121,9 @@ fn held(
 // The entry's answer and its lists, held against the stream's: the new ones of an accepted case, the lent ones of a refused case.
 fn compare(
     text: &[u8],
+    lent: Cursor,
+    told: Told,
     s: TuGrid,
-    c: Lists,
     leaves: &[u16],
     skips: &[u16],
     vedge: &mut [u8],
@@ -126,54 +132,63 @@ fn compare(
     sqh: &mut [u8],
 ) -> bool {
     let answer = build_tx_grid(leaves, skips, vedge, hedge, sqw, sqh, s);
-    let from = if c.number == 0 { c.rest } else { c.lent };
-    tally::same(answer, c.number, c.place)
-        && held(text, from, c.number != 0, vedge, hedge, sqw, sqh)
+    let number = told.number;
+    if !tally::same(answer, number, told.place) {
+        return false;
+    }
+    if number == 0 {
+        return held(text, told.rest, false, vedge, hedge, sqw, sqh);
+    }
+    held(text, lent, true, vedge, hedge, sqw, sqh)
 }
 
-// All that was read fits its room.
-fn fits(leaves: usize, skips: usize, c: Lists) -> bool {
-    let rest = c.rest;
-    rest.good
-        && leaves <= 16384
-        && skips <= 16384
-        && c.v <= 16384
-        && c.h <= 16384
-        && c.w <= 16384
-        && c.t <= 16384
+// The lists after the leaves, and the answer.
+fn replay_lists(
+    text: &[u8],
+    lent: Cursor,
+    s: TuGrid,
+    leaves: &[u16],
+    skips: &[u16],
+    t: Tally,
+) -> Tally {
+    let mut vedge = [0u8; 16384];
+    let mut hedge = [0u8; 16384];
+    let mut sqw = [0u8; 16384];
+    let mut sqh = [0u8; 16384];
+    let marks = read_two(text, lent, &mut vedge, &mut hedge);
+    let indices = read_two(text, marks.rest, &mut sqw, &mut sqh);
+    let told = read_told(text, indices.rest);
+    let rest = told.rest;
+    if !rest.good {
+        return tally::unread(t);
+    }
+    let v = marks.a;
+    let h = marks.b;
+    let w = indices.a;
+    let n = indices.b;
+    let same = compare(
+        text,
+        lent,
+        told,
+        s,
+        leaves,
+        skips,
+        &mut vedge[..v],
+        &mut hedge[..h],
+        &mut sqw[..w],
+        &mut sqh[..n],
+    );
+    tally::case(t, told.number, same)
 }
 
 // A line after its kind.
 pub fn replay(text: &[u8], c: Cursor, t: Tally) -> Tally {
     let mut leaves = [0u16; 16384];
     let mut skips = [0u16; 16384];
-    let mut vedge = [0u8; 16384];
-    let mut hedge = [0u8; 16384];
-    let mut sqw = [0u8; 16384];
-    let mut sqh = [0u8; 16384];
-    let s = settings(text, c);
-    let l = read_leaves(text, s.rest, &mut leaves);
+    let asked = settings(text, c);
+    let l = read_leaves(text, asked.rest, &mut leaves);
     let k = read_leaves(text, l.rest, &mut skips);
-    let lists = read_lists(text, k.rest, &mut vedge, &mut hedge, &mut sqw, &mut sqh);
     let a = l.length;
     let b = k.length;
-    let v = lists.v;
-    let h = lists.h;
-    let w = lists.w;
-    let n = lists.t;
-    if !fits(a, b, lists) {
-        return tally::unread(t);
-    }
-    let same = compare(
-        text,
-        s.s,
-        lists,
-        &leaves[..a],
-        &skips[..b],
-        &mut vedge[..v],
-        &mut hedge[..h],
-        &mut sqw[..w],
-        &mut sqh[..n],
-    );
-    tally::case(t, lists.number, same)
+    replay_lists(text, k.rest, asked.s, &leaves[..a], &skips[..b], t)
 }
