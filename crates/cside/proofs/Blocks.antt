@@ -8,6 +8,8 @@ use native.Mathlib.Omega.{arith}
 use borrow.Author.Tests.{eq-eqb, ne-eqb}
 use lib.ListN.{length}
 use lib.IntN.{ℤ, pos, negsuc, negℤ}
+use mir.Syntax.{w32}
+use mir.Val.{toZ, ofZ}
 use Rattle.rules.specs.declared.refusals.Refusal.{Refusal}
 use Rattle.rules.specs.declared.refusals.Answer.{Answer}
 use Rattle.rules.specs.declared.refusals.Answer.the-variants.{Accepted, Refused}
@@ -19,7 +21,7 @@ use Rattle.rules.specs.Thresholds.{qThreshold, sideThreshold, stepsCheck, delta
 use Rattle.rules.specs.CSide.{cAnswer, stepsIn, cThresholdsCheck, cThresholds}
 use Rattle.scan.proofs.Checks.{go-on, unless-good, else-parts}
 use Rattle.thresholds.proofs.Unique.{q-range, side-range}
-use Rattle.cside.proofs.Numbers.{answer-refused, answer-accepted}
+use Rattle.cside.proofs.Numbers.{held, held-minus, answer-refused, answer-accepted}
 
 -- what an answer of both kinds says of the check behind it
 from-both : (a : Answer) (Q S : ℕ) {q s : ℕ} → Both q s ≡ answerThresholds a Q S → (Accepted ≡ a) × (q ≡ Q) × (s ≡ S)
@@ -62,12 +64,17 @@ module _ (curr prev : ℕ) (deltaq deltaside : ℤ) (depth : ℕ) (bytes : List 
           let rest = else-parts _ _ (sym (p .0)) .1 in
           (omega (arith, p .1, q-range depth curr prev deltaq (sym d) steps (else-parts _ _ rest .0)), omega (arith, p .2, side-range depth curr prev deltaside (sym d)))
 
-      pub told-both : {q s : ℕ} → t ≡ Both q s → pos (q * 65536 + s) ≡ cThresholds curr prev deltaq deltaside depth bytes
+      -- at the way out with both: the number that the machine holds
+      pub told-both : {q s : ℕ} {z : ℤ} → t ≡ Both q s → z ≡ pos (q * 65536 + s) → toZ w32 (ofZ w32 z) ≡ cThresholds curr prev deltaq deltaside depth bytes
       unfolding cThresholds
-      told-both e =
+      told-both {q} {s} {z} e f =
           let p = parts e in
-          answer-accepted _ _ (check-is Accepted (rw table at (p .0))) (rw (← table) (ap₂ (λ (q s : ℕ). q * 65536 + s) (p .1) (p .2)))
+          let r = both-range e in
+          held z (q * 65536 + s) f (omega arith)
+          ∙ answer-accepted _ _ (check-is Accepted (rw table at (p .0))) (rw (← table) (ap₂ (λ (q s : ℕ). q * 65536 + s) (p .1) (p .2)))
 
-      pub told-refused : {r : Refusal} → t ≡ «NoThresholds» r → negℤ (pos (numberOf r)) ≡ cThresholds curr prev deltaq deltaside depth bytes
+      -- at the way out with a refusal
+      pub told-refused : {r : Refusal} {z : ℤ} → t ≡ «NoThresholds» r → z ≡ negℤ (pos (numberOf r)) → toZ w32 (ofZ w32 z) ≡ cThresholds curr prev deltaq deltaside depth bytes
       unfolding cThresholds thresholdsOf
-      told-refused {r} e = answer-refused _ _ (check-is (Refused r) (rw table at (from-refused _ _ _ (sym e ∙ told))))
+      told-refused {r} {z} e f =
+          held-minus z r f ∙ answer-refused _ _ (check-is (Refused r) (rw table at (from-refused _ _ _ (sym e ∙ told))))

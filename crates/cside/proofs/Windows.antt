@@ -8,6 +8,8 @@ use native.Mathlib.Omega.{arith}
 use borrow.Author.Tests.{eq-eqb, ne-eqb}
 use lib.ListN.{length}
 use lib.IntN.{ℤ, pos, negsuc, negℤ}
+use mir.Syntax.{w32}
+use mir.Val.{toZ, ofZ}
 use Rattle.rules.specs.declared.settings.Lone.{Lone}
 use Rattle.rules.specs.declared.refusals.Refusal.{Refusal}
 use Rattle.rules.specs.declared.refusals.Answer.{Answer}
@@ -24,7 +26,7 @@ use Rattle.choice.proofs.Lengths.{pair-facts}
 use Rattle.choice.proofs.Most.{pair-most}
 use Rattle.scan.proofs.Checks.{settle-refused, settle-accepted}
 use Rattle.segment.proofs.Accepted.{passed}
-use Rattle.cside.proofs.Numbers.{answer-refused, answer-accepted}
+use Rattle.cside.proofs.Numbers.{held, held-minus, answer-refused, answer-accepted}
 
 -- what an answer of either kind says of the check behind it
 from-samples : (a : Answer) (w : ℕ) {n : ℕ} → Samples n ≡ answerWidth a w → (Accepted ≡ a) × (n ≡ w)
@@ -77,15 +79,19 @@ module _ (depth pair q side : ℕ) (bytes : List ℕ) where
           let h = passed _ _ (sym (p .0)) .inside .pair-is in
           omega (arith, p .1, width-most depth pair q side (samplesIn bytes) h)
 
-      pub told-width : {n : ℕ} → w ≡ Samples n → (pos n ≡ cSegment depth pair q side bytes) × (bytesOf m ≡ cWindow depth pair q side bytes)
+      -- at the way out with a width: the number that the machine holds, and the bytes of what the segment left
+      pub told-width : {n : ℕ} {z : ℤ} {after : List ℕ} → w ≡ Samples n → z ≡ pos n → after ≡ bytesOf m
+          → (toZ w32 (ofZ w32 z) ≡ cSegment depth pair q side bytes) × (after ≡ cWindow depth pair q side bytes)
       unfolding cSegment cWindow
-      told-width e =
+      told-width {n} {z} e f g =
           let p = parts e in
           let a = check-is Accepted (p .0) in
-          (answer-accepted _ _ a (p .1), settle-accepted _ _ _ (bytesOf m) a (ap bytesOf left))
+          (held z n f (omega (arith, width-range e)) ∙ answer-accepted _ _ a (p .1), g ∙ settle-accepted _ _ _ (bytesOf m) a (ap bytesOf left))
 
-      pub told-refused : {r : Refusal} → w ≡ «NoWidth» r → (negℤ (pos (numberOf r)) ≡ cSegment depth pair q side bytes) × (bytes ≡ cWindow depth pair q side bytes)
+      -- at the way out with a refusal
+      pub told-refused : {r : Refusal} {z : ℤ} → w ≡ «NoWidth» r → z ≡ negℤ (pos (numberOf r))
+          → (toZ w32 (ofZ w32 z) ≡ cSegment depth pair q side bytes) × (bytes ≡ cWindow depth pair q side bytes)
       unfolding cSegment cWindow loneWidth
-      told-refused {r} e =
+      told-refused {r} {z} e f =
           let a = check-is (Refused r) (from-refused _ _ (sym e ∙ told)) in
-          (answer-refused _ _ a, settle-refused _ _ _ a)
+          (held-minus z r f ∙ answer-refused _ _ a, settle-refused _ _ _ a)

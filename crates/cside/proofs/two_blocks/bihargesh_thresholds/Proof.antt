@@ -1,9 +1,7 @@
 -- `bihargesh_thresholds` answers as document 01's C side says. Assumes nothing.
 use mir.Facts.{toZ-ofZ}
 use mathlib.Core.Path.{sym, _∙_}
-use native.Mathlib.Omega.{arith}
 use borrow.Author.Tests.{not-true, not-false}
-use Rattle.cside.proofs.Numbers.{held, held-minus}
 use Rattle.cside.proofs.Blocks.{bad-depth, bad-length, both-range, told-both, told-refused}
 use borrow.Author.Needs.{needs}
 use Rattle.cside.proofs.two_blocks.bihargesh_thresholds.Statement.{statement}
@@ -31,7 +29,20 @@ enum-known-q : tie.Need-enum-known-q
 enum-known-q c = search needs
 
 packed-requires : tie.Need-packed-requires
-packed-requires c κs = both-range _ _ _ _ _ _ (sym (not-false _ (c .before .before .before .before .before .before .before .if1 .left)) ∙ c .before .before .before .before .before .before .before .before .is .ensures) (c .before .before .before .before .before .before .if2 .left) (c .before .before .before .before .before .steps .ensures) (c .before .before .before .combine-thresholds .ensures) (toZ-ofZ (c .before .before .before .before .before .before .before .before .before .before .fits .deltaq)) (toZ-ofZ (c .before .before .before .before .before .before .before .before .before .before .fits .deltaside)) (c .before .q .given .1)
+packed-requires c κs =
+    let way = c .before in
+    let combined = way .before .before in
+    let read = combined .before .before in
+    let long = read .before in
+    let fits = long .before .before .before .before .fits in
+    both-range _ _ _ _ _ _
+    (sym (not-false _ (long .before .if1 .left)) ∙ long .before .before .is .ensures)
+    (long .if2 .left)
+    (read .steps .ensures)
+    (combined .combine-thresholds .ensures)
+    (toZ-ofZ (fits .deltaq))
+    (toZ-ofZ (fits .deltaside))
+    (way .q .given .1)
 
 enum-known-r : tie.Need-enum-known-r
 enum-known-r c = search needs
@@ -40,10 +51,38 @@ minus-requires : tie.Need-minus-requires
 minus-requires c κs = search needs
 
 returns-3 : tie.Need-returns-3
-returns-3 c = held _ _ (c .packed .ensures) (omega (arith, both-range _ _ _ _ _ _ (sym (not-false _ (c .before .before .before .before .before .before .before .before .if1 .left)) ∙ c .before .before .before .before .before .before .before .before .before .is .ensures) (c .before .before .before .before .before .before .before .if2 .left) (c .before .before .before .before .before .before .steps .ensures) (c .before .before .before .before .combine-thresholds .ensures) (toZ-ofZ (c .before .before .before .before .before .before .before .before .before .before .before .fits .deltaq)) (toZ-ofZ (c .before .before .before .before .before .before .before .before .before .before .before .fits .deltaside)) (c .before .before .q .given .1))) ∙ told-both _ _ _ _ _ _ (sym (not-false _ (c .before .before .before .before .before .before .before .before .if1 .left)) ∙ c .before .before .before .before .before .before .before .before .before .is .ensures) (c .before .before .before .before .before .before .before .if2 .left) (c .before .before .before .before .before .before .steps .ensures) (c .before .before .before .before .combine-thresholds .ensures) (toZ-ofZ (c .before .before .before .before .before .before .before .before .before .before .before .fits .deltaq)) (toZ-ofZ (c .before .before .before .before .before .before .before .before .before .before .before .fits .deltaside)) (c .before .before .q .given .1)
+returns-3 c =
+    let way = c .before .before in
+    let combined = way .before .before in
+    let read = combined .before .before in
+    let long = read .before in
+    let fits = long .before .before .before .before .fits in
+    told-both _ _ _ _ _ _
+    (sym (not-false _ (long .before .if1 .left)) ∙ long .before .before .is .ensures)
+    (long .if2 .left)
+    (read .steps .ensures)
+    (combined .combine-thresholds .ensures)
+    (toZ-ofZ (fits .deltaq))
+    (toZ-ofZ (fits .deltaside))
+    (way .q .given .1)
+    (c .packed .ensures)
 
 returns-4 : tie.Need-returns-4
-returns-4 c = held-minus _ (c .before .before .r .given .0 .0) (c .minus .ensures) ∙ told-refused _ _ _ _ _ _ (sym (not-false _ (c .before .before .before .before .before .before .before .before .if1 .left)) ∙ c .before .before .before .before .before .before .before .before .before .is .ensures) (c .before .before .before .before .before .before .before .if2 .left) (c .before .before .before .before .before .before .steps .ensures) (c .before .before .before .before .combine-thresholds .ensures) (toZ-ofZ (c .before .before .before .before .before .before .before .before .before .before .before .fits .deltaq)) (toZ-ofZ (c .before .before .before .before .before .before .before .before .before .before .before .fits .deltaside)) (c .before .before .r .given .1)
+returns-4 c =
+    let way = c .before .before in
+    let combined = way .before .before in
+    let read = combined .before .before in
+    let long = read .before in
+    let fits = long .before .before .before .before .fits in
+    told-refused _ _ _ _ _ _
+    (sym (not-false _ (long .before .if1 .left)) ∙ long .before .before .is .ensures)
+    (long .if2 .left)
+    (read .steps .ensures)
+    (combined .combine-thresholds .ensures)
+    (toZ-ofZ (fits .deltaq))
+    (toZ-ofZ (fits .deltaside))
+    (way .r .given .1)
+    (c .minus .ensures)
 
 pub bihargesh-thresholds-spec : {M : Type 1} → statement M
 bihargesh-thresholds-spec =

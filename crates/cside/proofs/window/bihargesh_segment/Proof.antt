@@ -1,9 +1,7 @@
 -- `bihargesh_segment` answers and leaves the window as document 01's C side says. Assumes nothing.
 use mathlib.Core.Path.{sym, _∙_}
-use native.Mathlib.Omega.{arith}
 use borrow.Author.Needs.{needs}
 use borrow.Author.Tests.{not-true, not-false}
-use Rattle.cside.proofs.Numbers.{held, held-minus}
 use Rattle.cside.proofs.Windows.{bad-depth, bad-length, width-range, told-width, told-refused}
 use Rattle.cside.proofs.window.bihargesh_segment.Statement.{statement}
 use Rattle.cside.proofs.window.bihargesh_segment.Tie as tie
@@ -33,7 +31,18 @@ put-samples-requires : tie.Need-put-samples-requires
 put-samples-requires c κs = search needs
 
 width-requires : tie.Need-width-requires
-width-requires c κs = width-range _ _ _ _ _ (sym (not-false _ (c .before .before .before .before .before .before .before .before .before .before .before .before .before .before .if1 .left)) ∙ c .before .before .before .before .before .before .before .before .before .before .before .before .before .before .before .is .ensures) (c .before .before .before .before .before .before .before .before .before .before .before .before .before .if2 .left) (c .before .before .before .before .before .before .before .before .before .before .before .samples .ensures) (c .before .before .before .before .before .before .before .before .before .filter-lone .ensures .0) (c .before .before .before .before .before .before .before .before .before .filter-lone .ensures .1) (c .before .before .before .before .before .before .w .given .1)
+width-requires c κs =
+    let way = c .before .before .before .before .before .before in
+    let filtered = way .before .before .before in
+    let read = filtered .before .before in
+    let long = read .before .before in
+    width-range _ _ _ _ _
+    (sym (not-false _ (long .before .if1 .left)) ∙ long .before .before .is .ensures)
+    (long .if2 .left)
+    (read .samples .ensures)
+    (filtered .filter-lone .ensures .0)
+    (filtered .filter-lone .ensures .1)
+    (way .w .given .1)
 
 enum-known-r : tie.Need-enum-known-r
 enum-known-r c = search needs
@@ -46,17 +55,37 @@ same-length c = search needs
 
 returns-3 : tie.Need-returns-3
 returns-3 c =
-    let most = width-range _ _ _ _ _ (sym (not-false _ (c .before .before .before .before .before .before .before .before .before .before .before .before .before .before .before .if1 .left)) ∙ c .before .before .before .before .before .before .before .before .before .before .before .before .before .before .before .before .is .ensures) (c .before .before .before .before .before .before .before .before .before .before .before .before .before .before .if2 .left) (c .before .before .before .before .before .before .before .before .before .before .before .before .samples .ensures) (c .before .before .before .before .before .before .before .before .before .before .filter-lone .ensures .0) (c .before .before .before .before .before .before .before .before .before .before .filter-lone .ensures .1) (c .before .before .before .before .before .before .before .w .given .1) in
-    let told = told-width _ _ _ _ _ (sym (not-false _ (c .before .before .before .before .before .before .before .before .before .before .before .before .before .before .before .if1 .left)) ∙ c .before .before .before .before .before .before .before .before .before .before .before .before .before .before .before .before .is .ensures) (c .before .before .before .before .before .before .before .before .before .before .before .before .before .before .if2 .left) (c .before .before .before .before .before .before .before .before .before .before .before .before .samples .ensures) (c .before .before .before .before .before .before .before .before .before .before .filter-lone .ensures .0) (c .before .before .before .before .before .before .before .before .before .before .filter-lone .ensures .1) (c .before .before .before .before .before .before .before .w .given .1) in
-    (held _ _ (c .width .ensures) (omega arith) ∙ told .0, c .before .before .before .put-samples .ensures ∙ told .1)
+    let way = c .before .before .before .before .before .before .before in
+    let filtered = way .before .before .before in
+    let read = filtered .before .before in
+    let long = read .before .before in
+    told-width _ _ _ _ _
+    (sym (not-false _ (long .before .if1 .left)) ∙ long .before .before .is .ensures)
+    (long .if2 .left)
+    (read .samples .ensures)
+    (filtered .filter-lone .ensures .0)
+    (filtered .filter-lone .ensures .1)
+    (way .w .given .1)
+    (c .width .ensures)
+    (c .before .before .before .put-samples .ensures)
 
 same-length-2 : tie.Need-same-length-2
 same-length-2 c = search needs
 
 returns-4 : tie.Need-returns-4
 returns-4 c =
-    let told = told-refused _ _ _ _ _ (sym (not-false _ (c .before .before .before .before .before .before .before .before .before .before .if1 .left)) ∙ c .before .before .before .before .before .before .before .before .before .before .before .is .ensures) (c .before .before .before .before .before .before .before .before .before .if2 .left) (c .before .before .before .before .before .before .before .samples .ensures) (c .before .before .before .before .before .filter-lone .ensures .0) (c .before .before .before .before .before .filter-lone .ensures .1) (c .before .before .r .given .1) in
-    (held-minus _ (c .before .before .r .given .0 .0) (c .minus .ensures) ∙ told .0, told .1)
+    let way = c .before .before in
+    let filtered = way .before .before .before in
+    let read = filtered .before .before in
+    let long = read .before .before in
+    told-refused _ _ _ _ _
+    (sym (not-false _ (long .before .if1 .left)) ∙ long .before .before .is .ensures)
+    (long .if2 .left)
+    (read .samples .ensures)
+    (filtered .filter-lone .ensures .0)
+    (filtered .filter-lone .ensures .1)
+    (way .r .given .1)
+    (c .minus .ensures)
 
 pub bihargesh-segment-spec : {M : Type 1} → statement M
 bihargesh-segment-spec =

@@ -1,0 +1,127 @@
+// One case: what the entry is asked, and what the stream says that it answers and leaves.
+use crate::tally;
+use crate::tally::Tally;
+use cases::Cursor;
+use rules::refusals::Width;
+use rules::settings::Lone;
+use segment::filter_lone;
+ghost use mathlib.Core.Path.{_≡_};
+ghost use lib.ListN.{length};
+
+// The segment, its plane's length, the refusal's number or 0, the width or the place, and where the plane's samples stand:
+// as lent, and after the answer.
+pub struct Case {
+    pub s: Lone,
+    pub length: usize,
+    pub number: usize,
+    pub a: usize,
+    pub lent: Cursor,
+    pub after: Cursor,
+}
+
+// A coordinate, and what follows it.
+struct Coordinate {
+    value: u16,
+    rest: Cursor,
+}
+
+// The segment's settings, and what follows them.
+struct Settings {
+    s: Lone,
+    rest: Cursor,
+}
+
+fn read_coordinate(text: &[u8], c: Cursor) -> Coordinate {
+    let n = cases::read_unsigned(text, c, 65535);
+    let rest = n.rest;
+    Coordinate {
+        value: n.value as u16,
+        rest,
+    }
+}
+
+fn read_settings(text: &[u8], c: Cursor) -> Settings {
+    let columns = cases::read_unsigned(text, c, 4294967295);
+    let rows = cases::read_unsigned(text, columns.rest, 4294967295);
+    let stride = cases::read_unsigned(text, rows.rest, 4294967295);
+    let depth = cases::read_unsigned(text, stride.rest, 4294967295);
+    let q = cases::read_unsigned(text, depth.rest, 4294967295);
+    let side = cases::read_unsigned(text, q.rest, 4294967295);
+    let pair = cases::read_unsigned(text, side.rest, 4294967295);
+    let dir = cases::read_unsigned(text, pair.rest, 4294967295);
+    let x = read_coordinate(text, dir.rest);
+    let y = read_coordinate(text, x.rest);
+    let rest = y.rest;
+    Settings {
+        s: Lone {
+            columns: columns.value,
+            rows: rows.value,
+            stride: stride.value,
+            depth: depth.value as u32,
+            q: q.value as u32,
+            side: side.value as u32,
+            pair: pair.value,
+            dir: dir.value,
+            x: x.value,
+            y: y.value,
+        },
+        rest,
+    }
+}
+
+// A line after its kind; the plane to the front of a lent list.
+pub fn read(text: &[u8], c: Cursor, plane: &mut [u16]) -> Case
+    ensures { λ r. ⌜ length (now (plane .exit)) ≡ length (now (plane .entry)) ⌝ }
+{
+    let settings = read_settings(text, c);
+    let s = settings.s;
+    let count = cases::read_unsigned(text, settings.rest, 4294967295);
+    let lent = count.rest;
+    let list = cases::read_u16s(text, settings.rest, plane);
+    let length = list.length;
+    let number = cases::read_unsigned(text, list.rest, 9);
+    let a = cases::read_unsigned(text, number.rest, 4294967295);
+    let after = a.rest;
+    Case {
+        s,
+        length,
+        number: number.value,
+        a: a.value,
+        lent,
+        after,
+    }
+}
+
+// Whether the answer is the stream's.
+fn same(answer: Width, c: Case) -> bool {
+    match answer {
+        Width::Samples(w) => c.number == 0 && w == c.a,
+        Width::Refused(r) => {
+            rules::refusals::number(r) as usize == c.number && rules::refusals::place(r) == c.a
+        }
+    }
+}
+
+// Whether the plane is the stream's: the one after the answer, or where refused the one that was lent.
+fn same_plane(text: &[u8], c: Case, plane: &[u16]) -> bool {
+    let stands = if c.number == 0 { c.after } else { c.lent };
+    let h = cases::hold_u16s(text, stands, plane);
+    let rest = h.rest;
+    h.same && rest.good
+}
+
+// The entry's answer and plane, held against the stream's; the plane is the case's, with nothing beyond it.
+pub fn compare(text: &[u8], c: Case, plane: &mut [u16], t: Tally) -> Tally
+    ensures { λ r. ⌜ length (now (plane .exit)) ≡ length (now (plane .entry)) ⌝ }
+{
+    let after = c.after;
+    if !after.good {
+        return tally::unread(t);
+    }
+    let answer = filter_lone(plane, c.s);
+    let counted = tally::count(t, c.number, c.a);
+    if same(answer, c) && same_plane(text, c, plane) {
+        return counted;
+    }
+    tally::differ(counted)
+}
