@@ -67,7 +67,7 @@ module _ (s : Ccso) (luma flags : List ℕ) (offsets : List ℤ) (t : List ℕ) 
               go-on _ _ _ (unless-good _ _ d)
               (go-on _ _ _ (unless-good _ _ z)
               (go-on _ _ _ (unless-good _ _ l)
-              (go-on _ _ _ (unless-good _ _ o) (stop _ _ (found-bad-by _ f (λ k. Setting) offset-first h)))))
+              (go-on _ _ _ (unless-good _ _ o) (stop _ _ (found-bad-by _ f (λ k. Setting) Setting offset-first h refl)))))
 
           pub answer-samples : (a : Answer) → f ≡ Nothing → a ≡ samplesCheck s luma t → a ≡ ccsoCheck s luma flags offsets t
           unfolding ccsoCheck samplesCheck

@@ -135,12 +135,12 @@ pub ruleset offsets-first = (firsts, offset-word, offset-bad, offset-good)
 module _ (s : Ccso) (luma t : List ℕ) (top : ℕ) (e : top ≡ topOf (s .depth)) (f : Found) (l : f ≡ overRow top luma 0 (s .height * s .width)) where
   pub luma-over : {k : ℕ} → f ≡ At k → Refused (Sample k) ≡ samplesCheck s luma t
   unfolding samplesCheck
-  luma-over h = stop _ _ (found-bad-by _ f _ (rw e at l) h)
+  luma-over h = stop _ _ (found-bad-by _ f _ _ (rw e at l) h refl)
 
   module _ (n : f ≡ Nothing) (a b : ℕ) (high : a ≡ halved (s .ssy) (s .height)) (wide : b ≡ halved (s .ssx) (s .width)) (g : Found) (m : g ≡ overRow top t 0 (a * b)) where
     pub target-over : {k : ℕ} → g ≡ At k → Refused (Sample k) ≡ samplesCheck s luma t
     unfolding samplesCheck targetHeight targetWidth
-    target-over h = go-on _ _ _ (found-good-by _ f _ (rw e at l) n) (found-bad-by _ g _ (rw (e, high, wide) at m) h)
+    target-over h = go-on _ _ _ (found-good-by _ f _ (rw e at l) n) (found-bad-by _ g _ _ (rw (e, high, wide) at m) h refl)
 
     pub none-over : g ≡ Nothing → Accepted ≡ samplesCheck s luma t
     unfolding samplesCheck targetHeight targetWidth
