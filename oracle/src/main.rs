@@ -38,12 +38,13 @@ pub struct Made {
 /// Makes a case, one to be refused if asked so; it is given the step table of the case before.
 type Make = fn(&Random, bool, Option<&[u32]>) -> Made;
 
-const USAGE: &str = "oracle thresholds|segment|plane|grid|frame|ccso N SEED [--only accepted|refused]";
+const USAGE: &str = "oracle thresholds|segment|segment-limits|plane|grid|frame|ccso N SEED [--only accepted|refused]";
 
 fn part(name: &str) -> Option<Make> {
     match name {
         "thresholds" => Some(thresholds::make),
         "segment" => Some(segment::make),
+        "segment-limits" => Some(segment::make_limits),
         "plane" => Some(plane::make),
         "grid" => Some(grid::make),
         "frame" => Some(frame::make),

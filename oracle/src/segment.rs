@@ -230,6 +230,31 @@ pub fn make(random: &Random, refused: bool, _: Option<&[u32]>) -> Made {
     answered(c)
 }
 
+/// Steps of their own across the edge on lines 1 and 2, which don't decide the width, so that D meets its limit there at any width.
+fn step_inside(random: &Random, c: &mut Case) {
+    let top = refusals::top(c.depth);
+    let span = c.span();
+    for line in [1, 2] {
+        let q0 = span.base + line * span.line;
+        for place in [q0 - span.perp, q0] {
+            c.plane[place] = random.one_of(&[0, top, random.below(top + 1)]) as u16;
+        }
+    }
+}
+
+/// As `make`, with D at its limit on two lines of most cases.
+pub fn make_limits(random: &Random, refused: bool, _: Option<&[u32]>) -> Made {
+    let mut c = roomy(random);
+    let p = pattern(random, c.depth);
+    draw(random, &mut c, &p);
+    thresholds(random, &mut c);
+    step_inside(random, &mut c);
+    if refused {
+        damaged(random, &mut c);
+    }
+    answered(c)
+}
+
 fn answered(c: Case) -> Made {
     let refusal = refusals::of_segment(&c);
     let mut line = Line::new(1);

@@ -1,7 +1,7 @@
 // The TU grid and the qindex grid of a plane, and both entries.
 
 // A leaf's four numbers: its flag, its sizes, and whether they are in range.
-mod leaf;
+pub mod leaf;
 
 // A leaf on a plane's cells.
 mod tile;
@@ -17,5 +17,3 @@ pub mod tx_grid;
 
 // The qindex grid and its entry.
 pub mod qindex_grid;
-
-

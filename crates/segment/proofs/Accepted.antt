@@ -31,7 +31,7 @@ use Rattle.scan.specs.Rows.{Box}
 use Rattle.scan.proofs.Rows.{box-inner}
 use Rattle.scan.proofs.Checks.{stop, go-on, unless-bad, unless-good, else-parts, unless-true, found-nothing, settle-refused-by, settle-accepted-by}
 use Rattle.segment.specs.Fit.{InPlane, EdgeFiltered}
-use Rattle.segment.proofs.Edges.{along-of}
+use Rattle.segment.proofs.Cells.{along-of}
 
 -- ---- what a check that passed says
 range-is : (low high n : ℕ) → inRange low high n ≡ true → (low ≤ n) × (n ≤ high)

@@ -1,0 +1,65 @@
+-- `edge_at` meets its contract. Assumes nothing.
+use Rattle.plane.proofs.Edges.{edges}
+use Rattle.plane.proofs.edge.edge_at.Statement.{statement}
+use Rattle.plane.proofs.edge.edge_at.Tie as tie
+
+cell-of-requires : tie.Need-cell-of-requires
+cell-of-requires c κs = search edges
+
+cell-before-requires : tie.Need-cell-before-requires
+cell-before-requires c κs = search edges
+
+mul-entry : tie.Need-mul-entry
+mul-entry c = search edges
+
+shared-slice-read-entry : tie.Need-shared-slice-read-entry
+shared-slice-read-entry c = search edges
+
+entry-requires : tie.Need-entry-requires
+entry-requires c κs = search edges
+
+mul-entry-2 : tie.Need-mul-entry-2
+mul-entry-2 c = search edges
+
+shared-slice-read-entry-2 : tie.Need-shared-slice-read-entry-2
+shared-slice-read-entry-2 c = search edges
+
+entry-requires-2 : tie.Need-entry-requires-2
+entry-requires-2 c κs = search edges
+
+pair-at-requires : tie.Need-pair-at-requires
+pair-at-requires c κs = search edges
+
+q-of-requires : tie.Need-q-of-requires
+q-of-requires c κs = search edges
+
+side-of-requires : tie.Need-side-of-requires
+side-of-requires c κs = search edges
+
+mul-t15 : tie.Need-mul-t15
+mul-t15 c = search edges
+
+mul-t19 : tie.Need-mul-t19
+mul-t19 c = search edges
+
+returns : tie.Need-returns
+returns c = search edges
+
+pub edge-at-spec : {M : Type 1} → statement M
+edge-at-spec =
+    tie.close
+    (tie.spec
+    cell-of-requires
+    cell-before-requires
+    mul-entry
+    shared-slice-read-entry
+    entry-requires
+    mul-entry-2
+    shared-slice-read-entry-2
+    entry-requires-2
+    pair-at-requires
+    q-of-requires
+    side-of-requires
+    mul-t15
+    mul-t19
+    returns)
