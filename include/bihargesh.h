@@ -1,7 +1,9 @@
 /* Bihargesh, the proved AV2 loop filters: what C may call. The functions stand in the static library libcside.a.
  *
- * Each function takes any input. It does its work, or answers minus the number of document 01's refusal and leaves all lent memory as it was:
- * 1 depth is not 8, 10 or 12; 3 a lent list is too short; 4 the step table is bad; 5 a setting is out of range; 8 a used sample exceeds 2^depth - 1.
+ * Each function takes any numbers and lists of any length; a pointer must lead to as many bytes as the length after it says.
+ * It does its work, or answers minus the number of document 01's refusal and leaves all lent memory as it was:
+ * 1 depth is not 8, 10 or 12; 3 the window is not 144 bytes; 4 the step table is not 1,408 bytes, or its steps are bad;
+ * 5 a setting is out of range; 8 a used sample exceeds 2^depth - 1.
  */
 #ifndef BIHARGESH_H
 #define BIHARGESH_H
