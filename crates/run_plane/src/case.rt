@@ -1,0 +1,184 @@
+// One plane: what the entry is asked, and what the stream says that it answers.
+ghost use Prim.Native.Nat.{_≤_};
+ghost use lib.ListN.{length};
+use crate::tally;
+use crate::tally::Tally;
+use cases::Cursor;
+use plane::deblock_plane;
+use rules::settings::Plane;
+
+// The settings and what follows them.
+struct Asked {
+    s: Plane,
+    rest: Cursor,
+}
+
+// How long two lists are, and what follows them.
+struct Two {
+    a: usize,
+    b: usize,
+    rest: Cursor,
+}
+
+// The answer, and what follows it.
+struct Told {
+    number: usize,
+    place: usize,
+    rest: Cursor,
+}
+
+fn settings(text: &[u8], c: Cursor) -> Asked {
+    let cols = cases::read_unsigned(text, c, 4294967295);
+    let rows = cases::read_unsigned(text, cols.rest, 4294967295);
+    let stride = cases::read_unsigned(text, rows.rest, 4294967295);
+    let width = cases::read_unsigned(text, stride.rest, 4294967295);
+    let height = cases::read_unsigned(text, width.rest, 4294967295);
+    let sbw = cases::read_unsigned(text, height.rest, 4294967295);
+    let sbh = cases::read_unsigned(text, sbw.rest, 4294967295);
+    let chroma = cases::read_unsigned(text, sbh.rest, 1);
+    let depth = cases::read_unsigned(text, chroma.rest, 4294967295);
+    let deltaq = cases::read_signed(text, depth.rest);
+    let deltaside = cases::read_signed(text, deltaq.rest);
+    let rest = deltaside.rest;
+    Asked {
+        s: Plane {
+            cols: cols.value,
+            rows: rows.value,
+            stride: stride.value,
+            width: width.value,
+            height: height.value,
+            sbw: sbw.value,
+            sbh: sbh.value,
+            chroma: chroma.value == 1,
+            depth: depth.value as u32,
+            deltaq: deltaq.value,
+            deltaside: deltaside.value,
+        },
+        rest,
+    }
+}
+
+// Two lists of marks or size indices.
+fn read_two(text: &[u8], c: Cursor, a: &mut [u8], b: &mut [u8]) -> Two
+    ensures { λ r. ⌜ (r .a ≤ length (now (a .entry))) × (r .b ≤ length (now (b .entry))) ⌝ }
+{
+    let x = cases::read_u8s(text, c, a);
+    let y = cases::read_u8s(text, x.rest, b);
+    let rest = y.rest;
+    Two {
+        a: x.length,
+        b: y.length,
+        rest,
+    }
+}
+
+fn read_told(text: &[u8], c: Cursor) -> Told {
+    let number = cases::read_unsigned(text, c, 9);
+    let place = cases::read_unsigned(text, number.rest, 4294967295);
+    let rest = place.rest;
+    Told {
+        number: number.value,
+        place: place.value,
+        rest,
+    }
+}
+
+// Whether a line was read whole.
+fn ended(c: Cursor) -> bool {
+    c.good && c.at == c.end
+}
+
+// Whether the plane is the stream's: the new one of an accepted case, the lent one of a refused case.
+fn held(text: &[u8], lent: Cursor, told: Told, plane: &[u16]) -> bool {
+    if told.number == 0 {
+        let new = cases::hold_u16s(text, told.rest, plane);
+        return new.same && ended(new.rest);
+    }
+    let n = cases::read_unsigned(text, lent, 4294967295);
+    let old = cases::hold_u16s(text, n.rest, plane);
+    old.same && ended(told.rest)
+}
+
+// The entry's answer and its plane, held against the stream's.
+fn compare(
+    text: &[u8],
+    lent: Cursor,
+    told: Told,
+    s: Plane,
+    vedge: &[u8],
+    hedge: &[u8],
+    sqw: &[u8],
+    sqh: &[u8],
+    qindex: &[u16],
+    plane: &mut [u16],
+    steps: &[u32],
+) -> bool {
+    let answer = deblock_plane(plane, vedge, hedge, sqw, sqh, qindex, steps, s);
+    tally::same(answer, told.number, told.place) && held(text, lent, told, plane)
+}
+
+// The lists after the grid's marks and size indices, and the answer.
+fn replay_samples(
+    text: &[u8],
+    c: Cursor,
+    s: Plane,
+    vedge: &[u8],
+    hedge: &[u8],
+    sqw: &[u8],
+    sqh: &[u8],
+    steps: &[u32],
+    t: Tally,
+) -> Tally {
+    let mut qindex = [0u16; 16384];
+    let mut plane = [0u16; 131072];
+    let q = cases::read_u16s(text, c, &mut qindex);
+    let lent = q.rest;
+    let p = cases::read_u16s(text, lent, &mut plane);
+    let told = read_told(text, p.rest);
+    let rest = told.rest;
+    if !rest.good {
+        return tally::unread(t);
+    }
+    let cells = q.length;
+    let samples = p.length;
+    let same = compare(
+        text,
+        lent,
+        told,
+        s,
+        vedge,
+        hedge,
+        sqw,
+        sqh,
+        &qindex[..cells],
+        &mut plane[..samples],
+        steps,
+    );
+    tally::case(t, told.number, same)
+}
+
+// A line after its kind.
+pub fn replay(text: &[u8], c: Cursor, steps: &[u32], t: Tally) -> Tally {
+    let mut vedge = [0u8; 16384];
+    let mut hedge = [0u8; 16384];
+    let mut sqw = [0u8; 16384];
+    let mut sqh = [0u8; 16384];
+    let asked = settings(text, c);
+    let marks = read_two(text, asked.rest, &mut vedge, &mut hedge);
+    let indices = read_two(text, marks.rest, &mut sqw, &mut sqh);
+    let v = marks.a;
+    let h = marks.b;
+    let w = indices.a;
+    let n = indices.b;
+    replay_samples(
+        text,
+        indices.rest,
+        asked.s,
+        &vedge[..v],
+        &hedge[..h],
+        &sqw[..w],
+        &sqh[..n],
+        steps,
+        t,
+    )
+}
