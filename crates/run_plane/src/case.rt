@@ -27,12 +27,13 @@ struct Told {
     rest: Cursor,
 }
 
+// Sizes are read past 32 bits: the stream has refused ones of four times a u32.
 fn settings(text: &[u8], c: Cursor) -> Asked {
-    let cols = cases::read_unsigned(text, c, 4294967295);
-    let rows = cases::read_unsigned(text, cols.rest, 4294967295);
-    let stride = cases::read_unsigned(text, rows.rest, 4294967295);
-    let width = cases::read_unsigned(text, stride.rest, 4294967295);
-    let height = cases::read_unsigned(text, width.rest, 4294967295);
+    let cols = cases::read_unsigned(text, c, 1099511627775);
+    let rows = cases::read_unsigned(text, cols.rest, 1099511627775);
+    let stride = cases::read_unsigned(text, rows.rest, 1099511627775);
+    let width = cases::read_unsigned(text, stride.rest, 1099511627775);
+    let height = cases::read_unsigned(text, width.rest, 1099511627775);
     let sbw = cases::read_unsigned(text, height.rest, 4294967295);
     let sbh = cases::read_unsigned(text, sbw.rest, 4294967295);
     let chroma = cases::read_unsigned(text, sbh.rest, 1);
