@@ -1,7 +1,7 @@
 // The TU grid and the qindex grid of a plane, and both entries.
 
 // A leaf's four numbers: its flag, its sizes, and whether they are in range.
-mod leaf;
+pub mod leaf;
 
 // A leaf on a plane's cells.
 mod tile;
@@ -10,7 +10,7 @@ mod tile;
 mod paint;
 
 // Sizes, lengths and caps in range.
-mod checks;
+pub mod checks;
 
 // The TU grid and its entry.
 pub mod tx_grid;
