@@ -1,0 +1,4 @@
+pub mod Accepted
+pub mod Marks
+pub mod Places
+pub mod Reach

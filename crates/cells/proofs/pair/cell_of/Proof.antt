@@ -1,0 +1,15 @@
+use Rattle.cells.proofs.Places.{places}
+use Rattle.cells.proofs.pair.cell_of.Statement.{statement}
+use Rattle.cells.proofs.pair.cell_of.Tie as tie
+
+mul-result : tie.Need-mul-result
+mul-result c = search places
+
+add-result : tie.Need-add-result
+add-result c = search places
+
+returns : tie.Need-returns
+returns c = search places
+
+pub cell-of-spec : {M : Type 1} → statement M
+cell-of-spec = tie.close (tie.spec mul-result add-result returns)

@@ -1,0 +1,19 @@
+use Rattle.rules.specs.Plane.{shortenedAt}
+use Rattle.laws.specs.Choose.{tests}
+use borrow.Author.Needs.{needs}
+use Rattle.cells.proofs.pair.shortened_at.Statement.{statement}
+use Rattle.cells.proofs.pair.shortened_at.Tie as tie
+
+returns : tie.Need-returns
+unfolding shortenedAt
+returns c = search tests
+
+rem-result : tie.Need-rem-result
+rem-result c = search tests
+
+returns-2 : tie.Need-returns-2
+unfolding shortenedAt
+returns-2 c = search tests
+
+pub shortened-at-spec : {M : Type 1} → statement M
+shortened-at-spec = tie.close (tie.spec returns rem-result returns-2)

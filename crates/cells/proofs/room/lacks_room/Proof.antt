@@ -1,0 +1,27 @@
+use Rattle.cells.proofs.Reach.{rooms}
+use borrow.Author.Needs.{needs}
+use Rattle.cells.proofs.room.lacks_room.Statement.{statement}
+use Rattle.cells.proofs.room.lacks_room.Tie as tie
+
+is-edge-requires : tie.Need-is-edge-requires
+is-edge-requires c κs = search rooms
+
+returns : tie.Need-returns
+returns c = search rooms
+
+edge-room-requires : tie.Need-edge-room-requires
+edge-room-requires c κs = search rooms
+
+returns-2 : tie.Need-returns-2
+returns-2 c = search rooms
+
+cell-of-requires : tie.Need-cell-of-requires
+cell-of-requires c κs = search rooms
+
+returns-3 : tie.Need-returns-3
+returns-3 c = search rooms
+
+pub lacks-room-spec : {M : Type 1} → statement M
+lacks-room-spec =
+    tie.close
+    (tie.spec is-edge-requires returns edge-room-requires returns-2 cell-of-requires returns-3)

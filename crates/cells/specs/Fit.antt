@@ -1,0 +1,78 @@
+-- What the functions over a plane's grid ask of its settings and lists, in inequalities, and the grids of which they read one direction.
+-- Assumes nothing.
+use mathlib.Core.List.{List, []}
+use Prim.Native.Nat.{ℕ, _*_, _≤_, _<_}
+use lib.Dec.{eqb}
+use lib.ListN.{length, getD}
+use Rattle.laws.specs.Choose.{pick}
+use Rattle.rules.specs.declared.settings.Plane.{Plane}
+use Rattle.rules.specs.Plane.{Grid, grid, cellGood}
+use Rattle.rules.specs.declared.refusals.Found.{Found}
+use Rattle.rules.specs.Refusals.{first, foundUnless}
+
+-- sizes that a plane's check accepts
+pub record Sizes (s : Plane) : Type 0 where
+  pub some-cols : 1 ≤ s .cols
+  pub cols-most : s .cols ≤ 1024
+  pub some-rows : 1 ≤ s .rows
+  pub rows-most : s .rows ≤ 1024
+  pub wide : 4 * s .cols ≤ s .stride
+  pub stride-most : s .stride ≤ 8192
+  pub some-sbw : 8 ≤ s .sbw
+  pub sbw-most : s .sbw ≤ 16
+  pub some-sbh : 8 ≤ s .sbh
+  pub sbh-most : s .sbh ≤ 16
+
+-- lists of at least count numbers
+pub record Long (count v h w t : ℕ) : Type 0 where
+  pub vedge : count ≤ v
+  pub hedge : count ≤ h
+  pub sqw : count ≤ w
+  pub sqh : count ≤ t
+
+-- the first count numbers are at most n
+pub record Within (n count : ℕ) (l : List ℕ) : Type 0 where
+  pub each-one : (k : ℕ) → k < count → getD l k 0 ≤ n
+
+-- no number of the first count cells is too large
+pub record Good (count : ℕ) (g : Grid) : Type 0 where
+  pub vedge : Within 1 count (g .vedge)
+  pub hedge : Within 1 count (g .hedge)
+  pub sqw : Within 6 count (g .sqw)
+  pub sqh : Within 6 count (g .sqh)
+
+-- the first of count cells that is not good
+unfoldable pub badOf : ℕ → Grid → Found
+badOf count g = first count (λ k. foundUnless (cellGood g k) k)
+
+-- a size index of at most 6 for each cell
+pub record Indices (s : Plane) (sizes : List ℕ) : Type 0 where
+  pub long : s .rows * s .cols ≤ length sizes
+  pub small : Within 6 (s .rows * s .cols) sizes
+
+-- a direction's own lists, in a plane of accepted sizes
+pub record Ready (s : Plane) (marks sizes : List ℕ) : Type 0 where
+  pub sizes-ok : Sizes s
+  pub marks-long : s .rows * s .cols ≤ length marks
+  pub indices : Indices s sizes
+
+-- a cell of the plane
+pub record Cell (s : Plane) (r c : ℕ) : Type 0 where
+  pub in-rows : r < s .rows
+  pub in-cols : c < s .cols
+
+-- a cell that has a cell before it in a direction
+pub record Inner (s : Plane) (dir r c : ℕ) : Type 0 where
+  pub cell : Cell s r c
+  pub later : 0 < pick (eqb dir 0) c r
+
+-- ---- grids with the same lists in both directions: of marks, size indices and qindex; of size indices alone; of marks alone
+
+abbrev pub oneWay : List ℕ → List ℕ → List ℕ → Grid
+oneWay marks sizes qindex = grid marks marks sizes sizes qindex
+
+abbrev pub sized : List ℕ → Grid
+sized sizes = oneWay [] sizes []
+
+abbrev pub marked : List ℕ → Grid
+marked marks = oneWay marks [] []

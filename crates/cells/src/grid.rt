@@ -1,0 +1,87 @@
+// Document 01, "Grid cells: two marks (0 or 1) and two size indices 0..6.": the first cell that has others.
+use rules::refusals::Found;
+use rules::settings::Plane;
+ghost use mathlib.Core.Path.{_≡_};
+ghost use mathlib.Core.Bool.{true};
+ghost use mathlib.Core.List.{List, []};
+ghost use Prim.Native.Nat.{ℕ, _+_, _*_, _≤_};
+ghost use lib.ListN.{length};
+ghost use Rattle.rules.specs.Plane.{grid, cellGood, badCell};
+ghost use Rattle.cells.specs.Fit.{Sizes, Long, Within, Good, badOf};
+
+fn larger(a: u8, b: u8) -> u8
+    ensures { λ r. ⌜ (a ≤ r) × (b ≤ r) ⌝ }
+{
+    if a < b { b } else { a }
+}
+
+// At least the largest of the first count numbers.
+fn most(list: &[u8], count: usize) -> u8
+    requires { ⌜ count ≤ length (now list) ⌝ }
+    ensures { λ r. ⌜ Within r count (now (list .entry)) ⌝ }
+{
+    let mut m: u8 = 0;
+    for k in 0..count {
+        m = larger(m, list[k]);
+    }
+    m
+}
+
+// Whether no number of the grid is too large, by the largest of each list.
+fn all_good(vedge: &[u8], hedge: &[u8], sqw: &[u8], sqh: &[u8], count: usize) -> bool
+    requires { ⌜ Long count (length (now vedge)) (length (now hedge)) (length (now sqw)) (length (now sqh)) ⌝ }
+    ensures { λ r. ⌜ (r ≡ true → Good count (grid (now (vedge .entry)) (now (hedge .entry)) (now (sqw .entry)) (now (sqh .entry)) [])) ⌝ }
+{
+    if 1 < most(vedge, count) {
+        return false;
+    }
+    if 1 < most(hedge, count) {
+        return false;
+    }
+    if 6 < most(sqw, count) {
+        return false;
+    }
+    most(sqh, count) <= 6
+}
+
+// Whether the marks and size indices of one cell are good.
+fn cell_good(vedge: &[u8], hedge: &[u8], sqw: &[u8], sqh: &[u8], k: usize) -> bool
+    requires { ⌜ Long (k + 1) (length (now vedge)) (length (now hedge)) (length (now sqw)) (length (now sqh)) ⌝ }
+    ensures { λ r. ⌜ r ≡ cellGood (grid (now (vedge .entry)) (now (hedge .entry)) (now (sqw .entry)) (now (sqh .entry)) []) k ⌝ }
+{
+    if 1 < vedge[k] {
+        return false;
+    }
+    if 1 < hedge[k] {
+        return false;
+    }
+    if 6 < sqw[k] {
+        return false;
+    }
+    sqh[k] <= 6
+}
+
+// The first of count cells that is not good.
+fn first_bad(vedge: &[u8], hedge: &[u8], sqw: &[u8], sqh: &[u8], count: usize) -> Found
+    requires { ⌜ Long count (length (now vedge)) (length (now hedge)) (length (now sqw)) (length (now sqh)) ⌝ }
+    ensures { λ r. ⌜ r ≡ badOf count (grid (now (vedge .entry)) (now (hedge .entry)) (now (sqw .entry)) (now (sqh .entry)) []) ⌝ }
+{
+    for k in 0..count {
+        if !cell_good(vedge, hedge, sqw, sqh, k) {
+            return Found::At(k);
+        }
+    }
+    Found::Nothing
+}
+
+// The first bad cell of a plane's grid, whatever its qindex: the largest numbers first, since a cell is seldom bad, and the place only where one is.
+pub fn bad_cell(vedge: &[u8], hedge: &[u8], sqw: &[u8], sqh: &[u8], s: Plane) -> Found
+    requires { ⌜ Sizes s × Long (s .rows * s .cols) (length (now vedge)) (length (now hedge)) (length (now sqw)) (length (now sqh)) ⌝ }
+    ensures { λ r. ⌜ ((q : List ℕ) → r ≡ badCell s (grid (now (vedge .entry)) (now (hedge .entry)) (now (sqw .entry)) (now (sqh .entry)) q)) ⌝ }
+{
+    let count = s.rows * s.cols;
+    if all_good(vedge, hedge, sqw, sqh, count) {
+        return Found::Nothing;
+    }
+    first_bad(vedge, hedge, sqw, sqh, count)
+}

@@ -1,0 +1,16 @@
+// What a plane's grid says of its edges, and document 01's checks 2, 3, 6, 7 and 8 of a plane.
+
+// Sizes and lengths: refusals 2 and 3.
+pub mod sizes;
+
+// Marks and size indices: refusal 6.
+pub mod grid;
+
+// The edge of a cell: whether it is there, the cell before it, and its pair of lengths.
+pub mod pair;
+
+// Whether every edge has room: refusal 7.
+pub mod room;
+
+// Samples over top: refusal 8.
+pub mod samples;

@@ -1,0 +1,78 @@
+// Document 01, "Numbers accepted", of a plane: its sizes and the lengths of its lists.
+use rules::settings::Plane;
+ghost use mathlib.Core.Path.{_≡_};
+ghost use lib.Dec.{eqb};
+ghost use lib.ListN.{length};
+ghost use Rattle.laws.specs.Choose.{either};
+ghost use Rattle.rules.specs.Numbers.{inRange};
+ghost use Rattle.rules.specs.Plane.{grid, planeSizesOk, planeLengthsOk};
+ghost use Rattle.cells.specs.Fit.{Sizes};
+
+// low..high.
+fn in_range(low: usize, high: usize, n: usize) -> bool
+    ensures { λ r. ⌜ r ≡ inRange low high n ⌝ }
+{
+    if n < low {
+        return false;
+    }
+    n <= high
+}
+
+// A superblock is 8 or 16 cells wide and high.
+fn superblock_ok(n: usize) -> bool
+    ensures { λ r. ⌜ r ≡ either (eqb n 8) (eqb n 16) ⌝ }
+{
+    if n == 8 {
+        return true;
+    }
+    n == 16
+}
+
+// Every size is in its range; a cell count is tested before it is multiplied.
+pub fn sizes_ok(s: Plane) -> bool
+    ensures { λ r. ⌜ r ≡ planeSizesOk s ⌝ }
+{
+    if !in_range(1, 1024, s.cols) {
+        return false;
+    }
+    if !in_range(1, 1024, s.rows) {
+        return false;
+    }
+    if !in_range(4 * s.cols, 8192, s.stride) {
+        return false;
+    }
+    if !in_range(1, 4 * s.cols, s.width) {
+        return false;
+    }
+    if !in_range(1, 4 * s.rows, s.height) {
+        return false;
+    }
+    if !superblock_ok(s.sbw) {
+        return false;
+    }
+    superblock_ok(s.sbh)
+}
+
+// Every list is long enough.
+pub fn lengths_ok(plane: &[u16], vedge: &[u8], hedge: &[u8], sqw: &[u8], sqh: &[u8], qindex: &[u16], s: Plane) -> bool
+    requires { ⌜ Sizes s ⌝ }
+    ensures { λ r. ⌜ r ≡ planeLengthsOk s (grid (now (vedge .entry)) (now (hedge .entry)) (now (sqw .entry)) (now (sqh .entry)) (now (qindex .entry))) (length (now (plane .entry))) ⌝ }
+{
+    if plane.len() < 4 * s.rows * s.stride {
+        return false;
+    }
+    let cells = s.rows * s.cols;
+    if vedge.len() < cells {
+        return false;
+    }
+    if hedge.len() < cells {
+        return false;
+    }
+    if sqw.len() < cells {
+        return false;
+    }
+    if sqh.len() < cells {
+        return false;
+    }
+    cells <= qindex.len()
+}

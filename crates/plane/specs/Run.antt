@@ -1,0 +1,56 @@
+-- What the functions of a plane's run ask of their lists, and what each makes of the plane.
+-- Assumes nothing.
+use mathlib.Core.Path.{_≡_}
+use mathlib.Core.Bool.{true}
+use mathlib.Core.List.{List, []}
+use Prim.Native.Nat.{ℕ, _+_, _*_, _/_, _%_, _≤_, _<_, min}
+use lib.ListN.{length, getD}
+use Rattle.rules.specs.declared.edge.Edge.{Edge}
+use Rattle.rules.specs.declared.settings.Plane.{Plane}
+use Rattle.rules.specs.declared.refusals.Found.the-variants.{Nothing}
+use Rattle.rules.specs.Numbers.{depthOk, topOf}
+use Rattle.rules.specs.Lengths.{pairOf}
+use Rattle.rules.specs.Thresholds.{indexOf, stepOf, quantOf, sideOf}
+use Rattle.rules.specs.Segment.{runEdges}
+use Rattle.rules.specs.Plane.{Grid, indexAt, shortenedAt, edgeAt, lacksDir}
+use Rattle.cells.specs.Fit.{Ready, oneWay, sized}
+
+-- ---- thresholds by qindex, made once a plane
+
+-- a qindex from which on all give the same thresholds
+abbrev pub LAST : ℕ
+LAST = 1670
+
+-- a table of q·65536 + side of one block, of a step table and a plane's depth and deltas
+pub record Table (s : Plane) (steps t : List ℕ) : Type 0 where
+  pub at : (k : ℕ) → getD t (min k LAST) 0 ≡ quantOf (stepOf (s .depth) steps (indexOf k (s .deltaq))) * 65536 + sideOf (s .depth) (indexOf k (s .deltaside))
+
+-- no threshold of it is too large
+pub record Levels (t : List ℕ) : Type 0 where
+  pub q-most : (k : ℕ) → k ≤ LAST → getD t k 0 / 65536 ≤ 2048
+  pub side-most : (k : ℕ) → k ≤ LAST → getD t k 0 % 65536 ≤ 839
+
+-- ---- an edge, and a run
+
+-- the edge of a cell, by any steps that the table was made of
+pub record IsEdgeAt (s : Plane) (t : List ℕ) (g : Grid) (dir r c : ℕ) (e : Edge) : Type 0 where
+  pub is : (steps : List ℕ) → Table s steps t → e ≡ edgeAt s steps g dir r c
+  pub x-is : e .x ≡ c * 4
+  pub y-is : e .y ≡ r * 4
+  pub dir-is : e .dir ≡ dir
+  pub pair-is : e .pair ≡ pairOf (indexAt s g dir r c) (s .chroma) (shortenedAt s dir r)
+  pub q-most : e .q ≤ 2048
+  pub side-most : e .side ≤ 839
+
+-- the plane q is what a list of edges, by any steps that the table was made of, leaves of the plane p
+pub record Ran (s : Plane) (t : List ℕ) (edges : List ℕ → List Edge) (p q : List ℕ) : Type 0 where
+  pub is : (steps : List ℕ) → Table s steps t → q ≡ runEdges (topOf (s .depth)) (s .stride) (edges steps) p
+
+-- a direction's own lists and the table, for a plane of so many samples: every edge has room
+pub record Field (s : Plane) (marks sizes qindex t : List ℕ) (size dir : ℕ) : Type 0 where
+  pub ready : Ready s marks sizes
+  pub depth : depthOk (s .depth) ≡ true
+  pub qindex-long : s .rows * s .cols ≤ length qindex
+  pub plane-long : 4 * s .rows * s .stride ≤ size
+  pub levels : Levels t
+  pub room : lacksDir s (oneWay marks sizes []) dir ≡ Nothing

@@ -1,0 +1,48 @@
+// Document 01's order of a plane's edges: for each superblock column its vertical edges, rows outer, then the previous column's horizontal
+// edges, columns outer; at the end the last column's.
+use crate::edge::edge_at;
+use cells::pair::is_edge;
+use laws::least;
+use rules::depth::Depth;
+use rules::settings::Plane;
+use segment::filter_edge;
+ghost use mathlib.Core.Path.{_≡_};
+ghost use Prim.Native.Nat.{_+_, _*_, _-_, _≤_, _<_};
+ghost use lib.ListN.{length};
+ghost use Rattle.rules.specs.Plane.{grid, visitOf, startOf, countOf, sbCols, vertRow, vertSb, horzCol, horzSb, turnOf};
+ghost use Rattle.cells.specs.Fit.{Cell, oneWay};
+ghost use Rattle.plane.specs.Run.{Field, Ran};
+
+// The edge of one cell, where it has one.
+fn visit(plane: &mut [u16], marks: &[u8], sizes: &[u8], qindex: &[u16], table: &[u32; 1671], s: Plane, dir: usize, r: usize, c: usize)
+    requires { ⌜ Field s (now marks) (now sizes) (now qindex) (now table) (length (now plane)) dir × Cell s r c ⌝ }
+    ensures { λ _. ⌜ Ran s (now (table .entry)) (λ steps. visitOf s steps (oneWay (now (marks .entry)) (now (sizes .entry)) (now (qindex .entry))) dir r c) (now (plane .entry)) (now (plane .exit)) ⌝ }
+{
+    if !is_edge(marks, s, dir, r, c) {
+        return;
+    }
+    let e = edge_at(sizes, qindex, table, s, dir, r, c);
+    let depth = Depth { bits: s.depth };
+    filter_edge(plane, s.stride, 4 * s.cols, 4 * s.rows, e, depth.top());
+}
+
+// The vertical edges of count columns of row r, from start.
+fn vert_row(plane: &mut [u16], vedge: &[u8], sqw: &[u8], qindex: &[u16], table: &[u32; 1671], s: Plane, start: usize, count: usize, r: usize)
+    requires { ⌜ Field s (now vedge) (now sqw) (now qindex) (now table) (length (now plane)) 0 × (r < s .rows) × (start + count ≤ s .cols) ⌝ }
+    ensures { λ _. ⌜ Ran s (now (table .entry)) (λ steps. vertRow s steps (oneWay (now (vedge .entry)) (now (sqw .entry)) (now (qindex .entry))) start count r) (now (plane .entry)) (now (plane .exit)) ⌝ }
+{
+    for j in 0..count {
+        visit(plane, vedge, sqw, qindex, table, s, 0, r, start + j);
+    }
+}
+
+// The horizontal edges of column c.
+fn horz_col(plane: &mut [u16], hedge: &[u8], sqh: &[u8], qindex: &[u16], table: &[u32; 1671], s: Plane, c: usize)
+    requires { ⌜ Field s (now hedge) (now sqh) (now qindex) (now table) (length (now plane)) 1 × (c < s .cols) ⌝ }
+    ensures { λ _. ⌜ Ran s (now (table .entry)) (λ steps. horzCol s steps (oneWay (now (hedge .entry)) (now (sqh .entry)) (now (qindex .entry))) c) (now (plane .entry)) (now (plane .exit)) ⌝ }
+{
+    let rows = s.rows;
+    for r in 0..rows {
+        visit(plane, hedge, sqh, qindex, table, s, 1, r, c);
+    }
+}
