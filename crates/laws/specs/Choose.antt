@@ -83,6 +83,11 @@ pub either-second : (a b x : Bool) → false ≡ a → x ≡ b → x ≡ either 
 unfolding either
 either-second a b x e f = rw (← e) f
 
+-- as `||` leaves it: the first test is the answer
+pub either-held : (a b : Bool) → true ≡ a → a ≡ either a b
+unfolding either
+either-held a b e = rw (← e)
+
 pub both-bad : (a b : Bool) → false ≡ a → false ≡ both a b
 unfolding both
 both-bad a b e = rw (← e)
@@ -90,6 +95,11 @@ both-bad a b e = rw (← e)
 pub both-ok : (a b x : Bool) → true ≡ a → x ≡ b → x ≡ both a b
 unfolding both
 both-ok a b x e f = rw (← e) f
+
+-- as `&&` leaves it
+pub both-failed : (a b : Bool) → false ≡ a → a ≡ both a b
+unfolding both
+both-failed a b e = rw (← e)
 
 -- one test after the other: one that fails, one that holds, the last, and none
 pub all-bad : (b : Bool) (bs : List Bool) → false ≡ b → false ≡ all (b ∷ bs)
@@ -111,7 +121,7 @@ all-none = refl
 
 -- the code at each of its ways out, with no test left for later (a test that holds is asked before one that fails)
 pub ruleset tests =
-    (needs, all-bad, all-ok, all-last, all-none, both-bad, both-ok, either-first, either-second, pick-yes, pick-no, is-le, not-le, is-lt, not-lt, is-eq, not-eq, told)
+    (needs, all-bad, all-ok, all-last, all-none, both-bad, both-ok, both-failed, either-first, either-second, either-held, pick-yes, pick-no, is-le, not-le, is-lt, not-lt, is-eq, not-eq, told)
 
 -- a test that fails after tests of which nothing is known
 pub both-later : (a b : Bool) → false ≡ b → false ≡ both a b

@@ -3,32 +3,31 @@
 use mathlib.Core.Path.{_≡_}
 use mathlib.Core.Bool.{true}
 use mathlib.Core.List.{List, []}
-use Prim.Native.Nat.{ℕ, _+_, _*_, _/_, _%_, _≤_, _<_, min}
+use Prim.Native.Nat.{ℕ, _*_, _/_, _%_, _≤_}
 use lib.ListN.{length, getD}
 use Rattle.rules.specs.declared.edge.Edge.{Edge}
 use Rattle.rules.specs.declared.settings.Plane.{Plane}
 use Rattle.rules.specs.declared.refusals.Found.the-variants.{Nothing}
 use Rattle.rules.specs.Numbers.{depthOk, topOf}
 use Rattle.rules.specs.Lengths.{pairOf}
-use Rattle.rules.specs.Thresholds.{indexOf, stepOf, quantOf, sideOf}
+use Rattle.rules.specs.declared.refusals.Answer.the-variants.{Accepted}
+use Rattle.rules.specs.Thresholds.{stepsCheck}
+use Rattle.thresholds.specs.ByQindex.{ByQindex}
 use Rattle.rules.specs.Segment.{runEdges}
 use Rattle.rules.specs.Plane.{Grid, indexAt, shortenedAt, edgeAt, lacksDir}
-use Rattle.cells.specs.Fit.{Ready, oneWay, sized}
+use Rattle.cells.specs.Fit.{Ready, oneWay}
 
 -- ---- thresholds by qindex, made once a plane
 
--- a qindex from which on all give the same thresholds
-abbrev pub LAST : ℕ
-LAST = 1670
-
--- a table of q·65536 + side of one block, of a step table and a plane's depth and deltas
+-- a table of both thresholds of a block, for a plane's depth and deltas and an accepted step table
 pub record Table (s : Plane) (steps t : List ℕ) : Type 0 where
-  pub at : (k : ℕ) → getD t (min k LAST) 0 ≡ quantOf (stepOf (s .depth) steps (indexOf k (s .deltaq))) * 65536 + sideOf (s .depth) (indexOf k (s .deltaside))
+  pub entries : ByQindex (s .depth) steps (s .deltaq) (s .deltaside) t
+  pub accepted : stepsCheck steps ≡ Accepted
 
 -- no threshold of it is too large
 pub record Levels (t : List ℕ) : Type 0 where
-  pub q-most : (k : ℕ) → k ≤ LAST → getD t k 0 / 65536 ≤ 2048
-  pub side-most : (k : ℕ) → k ≤ LAST → getD t k 0 % 65536 ≤ 839
+  pub q-most : (k : ℕ) → k ≤ 1415 → getD t k 0 / 65536 ≤ 2048
+  pub side-most : (k : ℕ) → k ≤ 1415 → getD t k 0 % 65536 ≤ 839
 
 -- ---- an edge, and a run
 

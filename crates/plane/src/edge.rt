@@ -1,41 +1,29 @@
 // The edge of a cell: its place, its pair of lengths, and its thresholds from a table by qindex.
 use cells::pair::{cell_before, cell_of, pair_at};
-use laws::least;
 use rules::edge::Edge;
 use rules::settings::Plane;
-use thresholds::combine::both;
+use thresholds::by_qindex::{entry, q_of, side_of};
 ghost use mathlib.Core.Path.{_≡_};
 ghost use mathlib.Core.List.{[]};
-ghost use Prim.Native.Nat.{_+_, _*_, _/_, _%_, _≤_, min};
-ghost use lib.ListN.{length, getD};
+ghost use Prim.Native.Nat.{_*_, _≤_};
+ghost use lib.ListN.{length};
+ghost use mathlib.Core.Bool.{true};
+ghost use Rattle.rules.specs.Numbers.{depthOk};
 ghost use Rattle.cells.specs.Fit.{Sizes, Inner, Indices, oneWay};
-ghost use Rattle.plane.specs.Run.{LAST, Levels, IsEdgeAt};
-
-fn wide(x: u16) -> usize
-    ensures { λ r. ⌜ r ≡ x ⌝ }
-{
-    x as usize
-}
-
-// The thresholds of a block, q·65536 + side.
-fn block(table: &[u32; 1671], qindex: u16) -> u32
-    ensures { λ r. ⌜ r ≡ getD (now (table .entry)) (min qindex LAST) 0 ⌝ }
-{
-    table[least(wide(qindex), 1670)]
-}
+ghost use Rattle.plane.specs.Run.{Levels, IsEdgeAt};
 
 // The edge of a cell that has one.
-pub fn edge_at(sizes: &[u8], qindex: &[u16], table: &[u32; 1671], s: Plane, dir: usize, r: usize, c: usize) -> Edge
-    requires { ⌜ Sizes s × Inner s dir r c × Indices s (now sizes) × (s .rows * s .cols ≤ length (now qindex)) × Levels (now table) ⌝ }
+pub fn edge_at(sizes: &[u8], qindex: &[u16], table: &[u32; 1416], s: Plane, dir: usize, r: usize, c: usize) -> Edge
+    requires { ⌜ Sizes s × Inner s dir r c × Indices s (now sizes) × (s .rows * s .cols ≤ length (now qindex)) × Levels (now table) × (depthOk (s .depth) ≡ true) ⌝ }
     ensures { λ e. ⌜ IsEdgeAt s (now (table .entry)) (oneWay [] (now (sizes .entry)) (now (qindex .entry))) dir r c e ⌝ }
 {
     let i = cell_of(s, r, c);
     let j = cell_before(s, dir, r, c);
-    let a = block(table, qindex[i]);
-    let b = block(table, qindex[j]);
+    let a = entry(table, qindex[i]);
+    let b = entry(table, qindex[j]);
     let pair = pair_at(sizes, s, dir, r, c);
-    let q = both(a / 65536, b / 65536);
-    let side = both(a % 65536, b % 65536);
+    let q = q_of(a, b);
+    let side = side_of(a, b);
     Edge {
         x: c * 4,
         y: r * 4,

@@ -5,3 +5,13 @@ mod edge;
 
 // The order in which the edges run.
 mod order;
+
+// The checks 1 to 8.
+mod check;
+
+// The run of a checked plane, and the entry.
+mod run;
+
+pub use check::plane_check;
+pub use run::deblock_plane;
+pub use run::run_plane;

@@ -1,6 +1,6 @@
 -- Checks in their order: at each way out of the code, that its answer is the one that the rules give.
 -- Where the code asked a callee or a test, the premises are the callee's promise and how its answer came out. Assumes nothing.
-use mathlib.Core.Path.{_≡_, refl, sym, _∙_}
+use mathlib.Core.Path.{_≡_, refl, sym, ap, _∙_}
 use mathlib.Core.Bool.{Bool, true, false}
 use Prim.Native.Nat.{ℕ}
 use native.Mathlib.Omega.{arith}
@@ -49,17 +49,17 @@ pub unless-good : (t : Bool) (r : Refusal) → true ≡ t → Accepted ≡ unles
 unfolding unless
 unless-good t r e = rw (← e)
 
--- a search for a place
-pub found-bad : (f : Found) (r : ℕ → Refusal) {k : ℕ} → At k ≡ f → Refused (r k) ≡ found f r
+-- a search for a place: s is the refusal with the place that was found
+pub found-bad : (f : Found) (r : ℕ → Refusal) (s : Refusal) {k : ℕ} → At k ≡ f → s ≡ r k → Refused s ≡ found f r
 unfolding found
-found-bad f r e = rw (← e)
+found-bad f r s e h = rw (← e) (ap Refused h)
 
 pub found-good : (f : Found) (r : ℕ → Refusal) → Nothing ≡ f → Accepted ≡ found f r
 unfolding found
 found-good f r e = rw (← e)
 
-pub found-bad-by : (f g : Found) (r : ℕ → Refusal) {k : ℕ} → g ≡ f → g ≡ At k → Refused (r k) ≡ found f r
-found-bad-by f g r e h = found-bad f r (sym h ∙ e)
+pub found-bad-by : (f g : Found) (r : ℕ → Refusal) (s : Refusal) {k : ℕ} → g ≡ f → g ≡ At k → s ≡ r k → Refused s ≡ found f r
+found-bad-by f g r s e h i = found-bad f r s (sym h ∙ e) i
 
 pub found-good-by : (f g : Found) (r : ℕ → Refusal) → g ≡ f → g ≡ Nothing → Accepted ≡ found f r
 found-good-by f g r e h = found-good f r (sym h ∙ e)
@@ -114,3 +114,12 @@ found-nothing Nothing r e = refl
 pub only-part : (t : Bool) (a : Answer) → onlyIf t a ≡ Accepted → t ≡ true → a ≡ Accepted
 unfolding onlyIf
 only-part t a e f = rw f at e
+
+-- the first check and the rest: run forwards by `search`
+pub else-left : (a b : Answer) → orElse a b ≡ Accepted → a ≡ Accepted
+else-left a b e = else-parts a b e .0
+
+pub else-right : (a b : Answer) → orElse a b ≡ Accepted → b ≡ Accepted
+else-right a b e = else-parts a b e .1
+
+pub ruleset passed = (else-left, else-right, unless-true, found-nothing)

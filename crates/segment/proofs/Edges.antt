@@ -6,9 +6,8 @@ use mathlib.Core.List.{List, [], _∷_}
 use Prim.Native.Nat.{ℕ, zero, suc, _+_, _-_, _*_, _≤_, _<_, min}
 use native.Mathlib.Nat.{mul-le-mul-right, add-mul}
 use native.Mathlib.Omega.{arith}
-use borrow.Author.Tests.{eq-eqb, ne-eqb, leb-true}
-use lib.Dec.{eqb, leb}
-use Rattle.laws.specs.Choose.{all, all-parts}
+use borrow.Author.Tests.{eq-eqb, ne-eqb}
+use lib.Dec.{eqb}
 use Rattle.laws.specs.Loops.{each}
 use Rattle.laws.specs.Stores.{puts}
 use Rattle.rules.specs.declared.edge.Edge.{Edge}
@@ -16,11 +15,12 @@ use Rattle.rules.specs.declared.edge.Place.{Place}
 use Rattle.rules.specs.declared.edge.Line.{Line}
 use Rattle.rules.specs.Lengths.{mostBefore, mostAfter, reachBefore, reachAfter}
 use Rattle.rules.specs.Width.{widthOf}
-use Rattle.rules.specs.Segment.{placed, placeOf, roomAlong, hasRoom, linesOf, windowOf, chosenOf, storesOf, fourStores, lineStores, widthAt, segmentOf}
+use Rattle.rules.specs.Segment.{placed, placeOf, hasRoom, linesOf, windowOf, chosenOf, storesOf, fourStores, lineStores, widthAt, segmentOf}
 use Rattle.choice.proofs.Lengths.{PairFacts, pair-facts}
 use Rattle.choice.proofs.Most.{width-most}
 use Rattle.segment.specs.Fit.{Room, Fit, Filtered, InPlane, EdgeFiltered}
 use Rattle.segment.proofs.Places.{room-less}
+use Rattle.segment.proofs.Cells.{Along, along-of, spread-of}
 
 -- ---- room
 module _ (e : Place) {size : ℕ} (fit : Fit e size) where
@@ -72,23 +72,6 @@ filtered-some top e l m {n} {w} {k} {ls} hl hw hn hk hm = record {
 }
 
 -- ---- room in a plane, over the direction
-
--- four lines and both reaches along them lie in columns by rows samples
-abbrev pub Along : Bool → ℕ → ℕ → ℕ → ℕ → ℕ → ℕ → Type 0
-Along true columns rows x y b a = (b ≤ x) × (x + a ≤ columns) × (y + 4 ≤ rows)
-Along false columns rows x y b a = (b ≤ y) × (y + a ≤ rows) × (x + 4 ≤ columns)
-
-three : (a b c d e f : ℕ) → all (leb a b ∷ leb c d ∷ leb e f ∷ []) ≡ true → (a ≤ b) × (c ≤ d) × (e ≤ f)
-three a b c d e f h =
-    let p = all-parts _ _ h in
-    let q = all-parts _ _ (p .1) in
-    let r = all-parts _ _ (q .1) in
-    (leb-true a b (p .0), leb-true c d (q .0), leb-true e f (r .0))
-
-pub along-of : (t : Bool) (columns rows x y b a : ℕ) → roomAlong t columns rows x y b a ≡ true → Along t columns rows x y b a
-along-of true columns rows x y b a h = three b x (x + a) columns (y + 4) rows h
-along-of false columns rows x y b a h = three b y (y + a) rows (x + 4) columns h
-
 room-of : (t : Bool) (stride columns rows size : ℕ) (e : Edge) → columns ≤ stride → rows * stride ≤ size → PairFacts (e .pair)
     → Along t columns rows (e .x) (e .y) (reachBefore (e .pair)) (reachAfter (e .pair))
     → Room (placed t stride e .at) (placed t stride e .step) (placed t stride e .line) (reachBefore (e .pair)) (reachAfter (e .pair)) size
@@ -110,8 +93,8 @@ room-of false stride columns rows size e hc hs f r =
 
 fit-at : (t : Bool) (stride columns rows size : ℕ) (e : Edge) → e .pair < 8 → e .q ≤ 2048 → e .side ≤ 839 → columns ≤ stride → rows * stride ≤ size
     → Along t columns rows (e .x) (e .y) (reachBefore (e .pair)) (reachAfter (e .pair)) → Fit (placed t stride e) size
-fit-at true stride columns rows size e hp hq hs hc hz r = record { pair-is = hp; q-most = hq; side-most = hs; room = room-of true stride columns rows size e hc hz (pair-facts (e .pair) hp) r }
-fit-at false stride columns rows size e hp hq hs hc hz r = record { pair-is = hp; q-most = hq; side-most = hs; room = room-of false stride columns rows size e hc hz (pair-facts (e .pair) hp) r }
+fit-at true stride columns rows size e hp hq hs hc hz r = record { pair-is = hp; q-most = hq; side-most = hs; room = room-of true stride columns rows size e hc hz (pair-facts (e .pair) hp) r; spread = spread-of true stride columns rows e hc r }
+fit-at false stride columns rows size e hp hq hs hc hz r = record { pair-is = hp; q-most = hq; side-most = hs; room = room-of false stride columns rows size e hc hz (pair-facts (e .pair) hp) r; spread = spread-of false stride columns rows e hc r }
 
 pub along-in : {stride columns rows size : ℕ} {e : Edge} → InPlane stride columns rows e size → Along (eqb (e .dir) 0) columns rows (e .x) (e .y) (reachBefore (e .pair)) (reachAfter (e .pair))
 unfolding hasRoom

@@ -1,4 +1,9 @@
-pub mod Filling
 pub mod Places
+pub mod Cells
 pub mod Taps
 pub mod Edges
+pub mod Accepted
+pub mod Samples
+pub mod Window
+pub mod Demand
+pub mod Promises

@@ -14,14 +14,15 @@ use Rattle.rules.specs.Segment.{pAt, qAt, storesBefore, storesAfter, difference
 use Rattle.taps.specs.Signed.{signed, along, against}
 use Rattle.taps.proofs.Signs.{before-is, after-is}
 use Rattle.segment.specs.Sides.{alongStores, againstStores}
-use Rattle.segment.proofs.Filling.{puts-then, each-agree}
+use Rattle.laws.specs.Loops.{each-same}
+use Rattle.laws.specs.Stores.{puts-then}
 
 module _ (top at step s size by : ℕ) (plus : Bool) (e : by ≡ size * weightOf s) (x : List ℕ) (k : ℕ) where
   along-is : alongStores top at step s plus by x k ≡ storesBefore top at step s (signed plus size) x k
-  along-is = each-agree k _ _ (λ i h. ap (λ (v : ℕ). (pAt at step i, v) ∷ []) (before-is top (getD x i 0) s i size by plus e))
+  along-is = each-same _ _ k (λ i h. ap (λ (v : ℕ). (pAt at step i, v) ∷ []) (before-is top (getD x i 0) s i size by plus e))
 
   against-is : againstStores top at step s plus by x k ≡ storesAfter top at step s (signed plus size) x k
-  against-is = each-agree k _ _ (λ i h. ap (λ (v : ℕ). (qAt at step i, v) ∷ []) (after-is top (getD x i 0) s i size by plus e))
+  against-is = each-same _ _ k (λ i h. ap (λ (v : ℕ). (qAt at step i, v) ∷ []) (after-is top (getD x i 0) s i size by plus e))
 
 -- both sides of one line; a, b and c are the plane before, between and after
 pub line-both : (top at step n w q size wn ww bn bw m : ℕ) (plus : Bool) (l : Line) (a b c : List ℕ)

@@ -4,11 +4,12 @@ use mathlib.Core.Path.{_≡_}
 use mathlib.Core.Bool.{true}
 use mathlib.Core.List.{List}
 use Prim.Native.Nat.{ℕ, _+_, _*_, _-_, _≤_, _<_}
+use lib.ListN.{getD}
 use Rattle.laws.specs.Stores.{puts}
 use Rattle.rules.specs.declared.edge.Edge.{Edge}
 use Rattle.rules.specs.declared.edge.Place.{Place}
 use Rattle.rules.specs.Lengths.{reachBefore, reachAfter}
-use Rattle.rules.specs.Segment.{hasRoom, windowOf, chosenOf, storesOf, widthAt, segmentOf}
+use Rattle.rules.specs.Segment.{pAt, qAt, hasRoom, windowOf, chosenOf, storesOf, widthAt, segmentOf}
 
 -- b samples before the edge and a after it lie in the plane, on four lines
 pub record Room (at step line b a size : ℕ) : Type 0 where
@@ -26,12 +27,19 @@ pub record Reach (at step b a size : ℕ) : Type 0 where
   pub most-before : b ≤ 8
   pub most-after : a ≤ 8
 
+-- no two of the samples within b before the edge and a after it, on four lines, stand at one place
+pub record Spread (at step line b a : ℕ) : Type 0 where
+  pub befores : (j k i m : ℕ) → j < 4 → k < b → i < 4 → m < b → pAt (at + j * line) step k ≡ pAt (at + i * line) step m → (j ≡ i) × (k ≡ m)
+  pub afters : (j k i m : ℕ) → j < 4 → k < a → i < 4 → m < a → qAt (at + j * line) step k ≡ qAt (at + i * line) step m → (j ≡ i) × (k ≡ m)
+  pub across : (j k i m : ℕ) → j < 4 → k < b → i < 4 → m < a → pAt (at + j * line) step k ≡ qAt (at + i * line) step m → ⊥
+
 -- an edge by offsets, of accepted numbers, that has room in a plane of so many samples
 pub record Fit (e : Place) (size : ℕ) : Type 0 where
   pub pair-is : e .pair < 8
   pub q-most : e .q ≤ 2048
   pub side-most : e .side ≤ 839
   pub room : Room (e .at) (e .step) (e .line) (reachBefore (e .pair)) (reachAfter (e .pair)) size
+  pub spread : Spread (e .at) (e .step) (e .line) (reachBefore (e .pair)) (reachAfter (e .pair))
 
 -- what it answers, and what it leaves of a plane l
 pub record Filtered (top : ℕ) (e : Place) (l : List ℕ) (r : ℕ) (m : List ℕ) : Type 0 where
@@ -51,3 +59,8 @@ pub record InPlane (stride columns rows : ℕ) (e : Edge) (size : ℕ) : Type 0 
 pub record EdgeFiltered (top stride : ℕ) (e : Edge) (l : List ℕ) (r : ℕ) (m : List ℕ) : Type 0 where
   pub width : r ≡ widthAt stride e l
   pub plane : m ≡ segmentOf top stride e l
+
+-- two planes are equal within an edge's reach on its four lines
+pub record Within (e : Place) (l m : List ℕ) : Type 0 where
+  pub before : (j k : ℕ) → j < 4 → k < reachBefore (e .pair) → getD l (pAt (e .at + j * e .line) (e .step) k) 0 ≡ getD m (pAt (e .at + j * e .line) (e .step) k) 0
+  pub after : (j k : ℕ) → j < 4 → k < reachAfter (e .pair) → getD l (qAt (e .at + j * e .line) (e .step) k) 0 ≡ getD m (qAt (e .at + j * e .line) (e .step) k) 0

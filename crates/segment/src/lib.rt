@@ -9,5 +9,13 @@ mod store;
 // One edge by its offsets, and by its place in a plane.
 mod segment;
 
+// Whether an edge has room.
+mod room;
+
+// The lone segment's checks, and its entry.
+mod lone;
+
+pub use lone::filter_lone;
+pub use room::has_room;
 pub use segment::filter_edge;
 pub use segment::filter_segment;

@@ -25,7 +25,7 @@ use Rattle.scan.proofs.Checks.{found-bad-by, else-parts, unless-true, found-not
 -- refusal 4, by the place found
 pub steps-bad : (steps : List ℕ) (f : Found) {k : ℕ} → f ≡ badStep steps → f ≡ At k → Refused (Steps k) ≡ stepsCheck steps
 unfolding stepsCheck
-steps-bad steps f e h = found-bad-by (badStep steps) f Steps e h
+steps-bad steps f e h = found-bad-by (badStep steps) f Steps _ e h refl
 
 -- a step table with no bad entry
 none-bad : (steps : List ℕ) → badStep steps ≡ Nothing → (length steps ≡ 352) × (first 352 (λ k. foundUnless (stepGood steps k) k) ≡ Nothing)

@@ -34,7 +34,7 @@ is-zero : (z : ℤ) {a b : ℕ} → Is z a b → a ≡ b → isZero z ≡ true
 is-zero (pos n) h e = eq-eqb n 0 (omega arith)
 is-zero (negsuc n) h e = absurd (omega arith)
 
-not-zero : (z : ℤ) {a b : ℕ} → Is z a b → (a ≡ b → ⊥) → isZero z ≡ false
+pub not-zero : (z : ℤ) {a b : ℕ} → Is z a b → (a ≡ b → ⊥) → isZero z ≡ false
 not-zero (pos n) h e = ne-eqb n 0 (λ q. e (omega arith))
 not-zero (negsuc n) h e = refl
 

@@ -17,3 +17,6 @@ pub mod checks;
 
 // Two blocks' thresholds, and the entry.
 pub mod combine;
+
+// The thresholds of blocks by qindex, made once for many edges.
+pub mod by_qindex;

@@ -1,46 +1,45 @@
+use Rattle.plane.proofs.Runs.{field-same, ran-more, ran-end}
+use Prim.Native.Nat.{_+_, _-_, _≤_}
+use lib.ListN.{length}
+use mathlib.Core.Path.{_≡_}
+use Rattle.laws.specs.Loops.{each}
+use Rattle.cells.specs.Fit.{oneWay}
+use Rattle.plane.specs.Run.{Ran}
+use Rattle.rules.specs.Plane.{visitOf, vertRow}
+use Rattle.plane.proofs.Runs.{runs}
 use Rattle.plane.proofs.order.vert_row.Statement.{statement}
 use Rattle.plane.proofs.order.vert_row.Tie as tie
-use Rattle.plane.proofs.order.vert_row.Reads as reads
-use Rattle.plane.proofs.order.vert_row.Lts as lts
-use Rattle.plane.proofs.order.visit.Reads as visit-reads
 
 abbrev Inv-loop : tie.InvT-loop
-Inv-loop plane₀ vedge sqw qindex table s start count r j₀ plane j = ?
+Inv-loop plane₀ vedge sqw qindex table s start count r j₀ plane j = (j ≤ count) × Ran s table (λ steps. each j (λ k. visitOf s steps (oneWay vedge sqw qindex) 0 r (start + k))) plane₀ plane × (length plane ≡ length plane₀)
 
 abbrev μ-loop : tie.MeasureT-loop
-μ-loop plane₀ vedge sqw qindex table s start count r j₀ plane j = ?
+μ-loop plane₀ vedge sqw qindex table s start count r j₀ plane j = count - j
 
--- src/order.rt:34:5
 loop-holds : tie.Need-loop-holds Inv-loop μ-loop
-loop-holds c = ?
+loop-holds c = search runs
 
--- src/order.rt:35:58
 add-visit : tie.Need-add-visit Inv-loop μ-loop
-add-visit c = ?
+add-visit c = search runs
 
--- src/order.rt:35:9
 visit-requires : tie.Need-visit-requires Inv-loop μ-loop
-visit-requires c κs = ?
+visit-requires c κs = (field-same (c .before .before .loop .inv .2) (c .before .before .before .before .before .before .before .pre .0), search runs)
 
--- src/order.rt:34:9
 add-j : tie.Need-add-j Inv-loop μ-loop
-add-j c = ?
+add-j c = search runs
 
--- src/order.rt:34:5
 loop-less : tie.Need-loop-less Inv-loop μ-loop
-loop-less c = ?
+loop-less c = search runs
 
--- src/order.rt:34:5
 loop-again : tie.Need-loop-again Inv-loop μ-loop
-loop-again c = ?
+loop-again c = (search runs, ran-more _ _ (c .before .before .before .before .before .loop .inv .1) (c .before .before .visit .ensures), search runs)
 
--- src/order.rt:30:1
 same-length : tie.Need-same-length Inv-loop μ-loop
-same-length c = ?
+same-length c = search runs
 
--- src/order.rt:30:1
 returns : tie.Need-returns Inv-loop μ-loop
-returns c = ?
+unfolding vertRow
+returns c = ran-end _ _ _ (c .before .loop .inv .1) (c .before .loop .inv .0) (search runs)
 
 pub vert-row-spec : {M : Type 1} → statement M
 vert-row-spec =

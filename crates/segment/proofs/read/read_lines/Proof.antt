@@ -4,7 +4,7 @@ use mathlib.Core.Path.{_≡_, refl, sym, ap, _∙_}
 use borrow.Author.Needs.{needs}
 use Rattle.rules.specs.Segment.{lineOf, linesOf, zeroLines}
 use Rattle.laws.specs.Loops.{filled}
-use Rattle.segment.proofs.Filling.{filled-none, filled-more, filled-end}
+use Rattle.laws.specs.Loops.{filled-none, filled-more, filled-end}
 use Rattle.segment.proofs.Places.{line-in, reach-line}
 use lib.ListN.{set}
 use Rattle.rules.specs.declared.edge.Line.{Line}

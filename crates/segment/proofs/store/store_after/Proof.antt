@@ -6,7 +6,7 @@ use borrow.Author.Needs.{needs}
 use lib.ListN.{length, length-set}
 use Rattle.laws.specs.Stores.{puts}
 use Rattle.segment.specs.Sides.{againstStores}
-use Rattle.segment.proofs.Filling.{puts-none, puts-more, puts-one, puts-end}
+use Rattle.laws.specs.Stores.{puts-none, puts-more, puts-one, puts-end}
 use Rattle.segment.proofs.Places.{after-in}
 use Rattle.segment.proofs.store.store_after.Statement.{statement}
 use Rattle.segment.proofs.store.store_after.Tie as tie

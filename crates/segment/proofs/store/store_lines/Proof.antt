@@ -8,7 +8,7 @@ use Rattle.laws.specs.Loops.{each}
 use Rattle.laws.specs.Stores.{puts}
 use Rattle.rules.specs.Width.{blank}
 use Rattle.rules.specs.Segment.{lineStores, fourStores}
-use Rattle.segment.proofs.Filling.{puts-none, puts-more, puts-end, puts-length}
+use Rattle.laws.specs.Stores.{puts-none, puts-more, puts-end, puts-length}
 use Rattle.segment.proofs.Places.{line-in, reach-line}
 use Rattle.segment.proofs.store.store_lines.Statement.{statement}
 use Rattle.segment.proofs.store.store_lines.Tie as tie

@@ -1,0 +1,177 @@
+-- What the checks of a plane give: the statement at each way out, and all that an accepted plane's run asks.
+-- Assumes nothing.
+use mathlib.Core.Path.{_≡_, refl, sym, ap, _∙_}
+use mathlib.Core.Bool.{Bool, true, false, not}
+use mathlib.Core.List.{List, []}
+use Prim.Native.Nat.{ℕ, _+_, _*_, _/_, _%_, _≤_, _<_, min}
+use native.Mathlib.Omega.{arith}
+use borrow.Author.Needs.{needs}
+use borrow.Author.Tests.{leb-true}
+use lib.Dec.{leb}
+use lib.IntN.{ℤ}
+use lib.ListN.{length, getD}
+use Rattle.laws.specs.Choose.{pick, told-yes-not, all-parts, both-parts}
+use Rattle.rules.specs.declared.settings.Plane.{Plane}
+use Rattle.rules.specs.declared.refusals.Refusal.{Refusal}
+use Rattle.rules.specs.declared.refusals.Refusal.the-variants.{Depth, Size, Length, Setting, Cell, Room, Sample}
+use Rattle.rules.specs.declared.refusals.Answer.{Answer}
+use Rattle.rules.specs.declared.refusals.Answer.the-variants.{Accepted, Refused}
+use Rattle.rules.specs.declared.refusals.Found.{Found}
+use Rattle.rules.specs.declared.refusals.Found.the-variants.{At, Nothing}
+use Rattle.rules.specs.Numbers.{depthOk, deltaOk}
+use Rattle.rules.specs.Refusals.{orElse, unless, found, settle}
+use Rattle.rules.specs.Thresholds.{stepsCheck, deltasCheck, quantOf, stepOf, sideOf, indexOf}
+use Rattle.rules.specs.Segment.{runEdges}
+use Rattle.rules.specs.Plane.{Grid, grid, cellGood, edgesOf, marksOf, indicesOf, indexAt, isEdge, edgeRoom, lacksRoom, lacksRow, lacksDir, badCell, noRoom, overPlane, planeSizesOk, planeLengthsOk, planeCheck, planeAfter, runPlane}
+use Rattle.thresholds.specs.ByQindex.{packedOf, ByQindex}
+use Rattle.thresholds.proofs.Quants.{q-most}
+use Rattle.thresholds.proofs.Sides.{side-most}
+use Rattle.scan.proofs.First.{sooner-nothing}
+use Rattle.scan.proofs.Checks.{else-parts, unless-true, found-nothing, settle-refused, settle-accepted}
+use Rattle.cells.specs.Fit.{Sizes, Long, Within, Indices, Ready, badOf, oneWay}
+use Rattle.cells.proofs.Accepted.{sizes, sizes-by}
+use Rattle.cells.proofs.Marks.{none-good}
+use Rattle.plane.specs.Run.{Table, Levels, Field, Ran}
+use Rattle.plane.specs.Checked.{Sized, gridCheck, Checked, Stated}
+
+-- ---- lengths
+
+pub record Lengths (s : Plane) (g : Grid) (n : ℕ) : Type 0 where
+  pub samples : 4 * s .rows * s .stride ≤ n
+  pub lists : Long (s .rows * s .cols) (length (g .vedge)) (length (g .hedge)) (length (g .sqw)) (length (g .sqh))
+  pub qindex : s .rows * s .cols ≤ length (g .qindex)
+
+pub lengths : (s : Plane) (g : Grid) (n : ℕ) → planeLengthsOk s g n ≡ true → Lengths s g n
+unfolding planeLengthsOk
+lengths s g n e =
+    let p1 = all-parts _ _ e in
+    let p2 = all-parts _ _ (p1 .1) in
+    let p3 = all-parts _ _ (p2 .1) in
+    let p4 = all-parts _ _ (p3 .1) in
+    let p5 = all-parts _ _ (p4 .1) in
+    let p6 = all-parts _ _ (p5 .1) in
+    record {
+      samples = leb-true _ _ (p1 .0);
+      lists = record { vedge = leb-true _ _ (p2 .0); hedge = leb-true _ _ (p3 .0); sqw = leb-true _ _ (p4 .0); sqh = leb-true _ _ (p5 .0) };
+      qindex = leb-true _ _ (p6 .0);
+    }
+
+-- as the code's tests found them
+pub sized-by : {s : Plane} {n : ℕ} (v h w t q : List ℕ) {a b c : Bool} → a ≡ depthOk (s .depth) → not a ≡ false → b ≡ planeSizesOk s → not b ≡ false → c ≡ planeLengthsOk s (grid v h w t q) n → not c ≡ false → Sized s n (length v) (length h) (length w) (length t)
+sized-by {s} {n} v h w t q {a} {b} {c} d d' e e' f f' =
+    let l = lengths s (grid v h w t q) n (sym (told-yes-not _ c f f')) in
+    record { depth = sym (told-yes-not _ a d d'); sizes-ok = sizes-by s b e e'; plane-long = l .samples; lists-long = l .lists }
+
+-- ---- cells without a bad number
+
+module _ {s : Plane} (v h w t : List ℕ) (z : Sizes s) (l : Long (s .rows * s .cols) (length v) (length h) (length w) (length t)) (none : badOf (s .rows * s .cols) (grid v h w t []) ≡ Nothing) where
+  pub ready-vert : Ready s v w
+  ready-vert = record {
+    sizes-ok = z;
+    marks-long = l .vedge;
+    indices = record { long = l .sqw; small = record { each-one = λ k b. none-good _ (grid v h w t []) none k b .0 } };
+  }
+
+  pub ready-horz : Ready s h t
+  ready-horz = record {
+    sizes-ok = z;
+    marks-long = l .hedge;
+    indices = record { long = l .sqh; small = record { each-one = λ k b. none-good _ (grid v h w t []) none k b .1 } };
+  }
+
+bad-none : (s : Plane) (v h w t q : List ℕ) → badCell s (grid v h w t q) ≡ Nothing → badOf (s .rows * s .cols) (grid v h w t []) ≡ Nothing
+unfolding badCell badOf cellGood
+bad-none s v h w t q e = e
+
+pub readies-by : {s : Plane} {n : ℕ} (v h w t : List ℕ) {f : Found} → Sized s n (length v) (length h) (length w) (length t) → ((q : List ℕ) → f ≡ badCell s (grid v h w t q)) → f ≡ Nothing → Ready s v w × Ready s h t
+readies-by {s} v h w t z e g =
+    let none = bad-none s v h w t [] (sym (e []) ∙ g) in
+    (ready-vert v h w t (z .sizes-ok) (z .lists-long) none, ready-horz v h w t (z .sizes-ok) (z .lists-long) none)
+
+-- ---- an accepted plane
+
+pub checked : (s : Plane) (steps : List ℕ) (g : Grid) (l : List ℕ) → planeCheck s steps g l ≡ Accepted → Checked s steps g (length l)
+unfolding planeCheck deltasCheck
+checked s steps g l e =
+    let p1 = else-parts _ _ e in
+    let p2 = else-parts _ _ (p1 .1) in
+    let p3 = else-parts _ _ (p2 .1) in
+    let p4 = else-parts _ _ (p3 .1) in
+    let p5 = else-parts _ _ (p4 .1) in
+    let p6 = else-parts _ _ (p5 .1) in
+    let p7 = else-parts _ _ (p6 .1) in
+    let deltas = both-parts _ _ (unless-true _ Setting (p5 .0)) in
+    record {
+      depth = unless-true _ Depth (p1 .0);
+      sizes-ok = sizes s (unless-true _ Size (p2 .0));
+      lengths = unless-true _ Length (p3 .0);
+      steps-ok = p4 .0;
+      deltaq-ok = deltas .0;
+      deltaside-ok = deltas .1;
+      cells = found-nothing _ Cell (p6 .0);
+      room = found-nothing _ Room (p7 .0);
+    }
+
+-- ---- the run
+
+-- a table of accepted steps has small thresholds
+levels : (d : ℕ) (steps t : List ℕ) {deltaq deltaside : ℤ} → depthOk d ≡ true → stepsCheck steps ≡ Accepted → ByQindex d steps deltaq deltaside t → Levels t
+unfolding packedOf
+levels d steps t {deltaq} {deltaside} deep good by = record { q-most = λ k h. one k h .0; side-most = λ k h. one k h .1 }
+  where
+    one : (k : ℕ) → k ≤ 1415 → (getD t k 0 / 65536 ≤ 2048) × (getD t k 0 % 65536 ≤ 839)
+    one k h =
+        let m : min k 1415 ≡ k = omega arith in
+        let e : getD t k 0 ≡ quantOf (stepOf d steps (indexOf k deltaq)) * 65536 + sideOf d (indexOf k deltaside) = ap (λ (j : ℕ). getD t j 0) (sym m) ∙ by .at k in
+        let q = q-most d steps (indexOf k deltaq) deep good in
+        let side = side-most d (indexOf k deltaside) deep in
+        (omega arith, omega arith)
+
+module _ {s : Plane} {steps : List ℕ} (v h w t q : List ℕ) {n : ℕ} {table : List ℕ} (k : Checked s steps (grid v h w t q) n) (by : ByQindex (s .depth) steps (s .deltaq) (s .deltaside) table) where
+  no-lack : (lacksDir s (oneWay v w []) 0 ≡ Nothing) × (lacksDir s (oneWay h t []) 1 ≡ Nothing)
+  unfolding noRoom lacksDir lacksRow lacksRoom isEdge marksOf edgeRoom indexAt indicesOf pick
+  no-lack = sooner-nothing _ _ (k .room)
+
+  pub field-vert : Field s v w q table n 0
+  field-vert =
+      let l = lengths s (grid v h w t q) n (k .lengths) in
+      record {
+        ready = ready-vert v h w t (k .sizes-ok) (l .lists) (bad-none s v h w t q (k .cells));
+        depth = k .depth;
+        qindex-long = l .qindex;
+        plane-long = l .samples;
+        levels = levels (s .depth) steps table (k .depth) (k .steps-ok) by;
+        room = no-lack .0;
+      }
+
+  pub field-horz : Field s h t q table n 1
+  field-horz =
+      let l = lengths s (grid v h w t q) n (k .lengths) in
+      record {
+        ready = ready-horz v h w t (k .sizes-ok) (l .lists) (bad-none s v h w t q (k .cells));
+        depth = k .depth;
+        qindex-long = l .qindex;
+        plane-long = l .samples;
+        levels = levels (s .depth) steps table (k .depth) (k .steps-ok) by;
+        room = no-lack .1;
+      }
+
+  pub ran-plane : {a b : List ℕ} → Ran s table (λ st. edgesOf s st (grid v h w t q)) a b → b ≡ runPlane s steps (grid v h w t q) a
+  unfolding runPlane
+  ran-plane g = g .is steps (record { entries = by; accepted = k .steps-ok })
+
+-- ---- the entry
+
+module _ (s : Plane) (steps : List ℕ) (g : Grid) (l : List ℕ) {a : Answer} (is : a ≡ planeCheck s steps g l) where
+  pub stated-refused : {r : Refusal} → a ≡ Refused r → Stated s steps g l (Refused r) l
+  unfolding planeAfter
+  stated-refused e = record { answer = sym e ∙ is; plane = settle-refused _ _ _ (sym e ∙ is) }
+
+  pub stated-run : {m : List ℕ} → a ≡ Accepted → m ≡ runPlane s steps g l → Stated s steps g l Accepted m
+  unfolding planeAfter
+  stated-run e run = record { answer = sym e ∙ is; plane = settle-accepted _ _ _ _ (sym e ∙ is) run }
+
+  pub checked-by : a ≡ Accepted → Checked s steps g (length l)
+  checked-by e = checked s steps g l (sym is ∙ e)
+
+pub ruleset entry = (needs, stated-refused, stated-run, checked-by)

@@ -1,0 +1,83 @@
+-- The edge of a cell: that the table's thresholds are its own, and that a checked plane has room for it.
+-- Assumes nothing.
+use mathlib.Core.Path.{_≡_, refl, sym, ap, _∙_}
+use mathlib.Core.Bool.{Bool, true, false, not}
+use mathlib.Core.List.{List, [], _∷_}
+use Prim.Native.Nat.{ℕ, _+_, _*_, _/_, _%_, _≤_, _<_, min}
+use native.Mathlib.Omega.{arith}
+use borrow.Author.Needs.{needs}
+use lib.Dec.{eqb}
+use lib.ListN.{length, getD}
+use Rattle.laws.specs.Choose.{pick, pick-yes, told-yes-not}
+use Rattle.rules.specs.declared.edge.Edge.{Edge}
+use Rattle.rules.specs.declared.settings.Plane.{Plane}
+use Rattle.rules.specs.declared.refusals.Found.the-variants.{Nothing}
+use Rattle.rules.specs.Numbers.{depthOk}
+use Rattle.rules.specs.Lengths.{pairOf, reachBefore, reachAfter}
+use Rattle.rules.specs.Thresholds.{bothOf}
+use Rattle.rules.specs.Segment.{hasRoom}
+use Rattle.rules.specs.Plane.{cellOf, cellBefore, marksOf, indicesOf, indexAt, shortenedAt, edgeAt, isEdge, edgeRoom, lacksRoom, lacksRow, lacksDir}
+use Rattle.thresholds.proofs.Packed.{edge-q, edge-side}
+use Rattle.thresholds.proofs.TwoBlocks.{both-most}
+use Rattle.scan.proofs.First.{nothing-all, unless-nothing}
+use Rattle.segment.specs.Fit.{InPlane}
+use Rattle.cells.specs.Fit.{Sizes, Cell, Ready, oneWay, sized, marked}
+use Rattle.cells.proofs.Places.{pair-below}
+use Rattle.cells.proofs.Reach.{inner-by}
+use Rattle.plane.specs.Run.{Table, Levels, IsEdgeAt, Field}
+
+block-most : (t : List ℕ) (k : ℕ) → Levels t → (getD t (min k 1415) 0 / 65536 ≤ 2048) × (getD t (min k 1415) 0 % 65536 ≤ 839)
+block-most t k l = let h : min k 1415 ≤ 1415 = omega arith in (l .q-most (min k 1415) h, l .side-most (min k 1415) h)
+
+-- what the code made is the edge
+module _ (s : Plane) (t sizes qindex : List ℕ) (dir r c : ℕ) {i j a b p q side : ℕ} (cell : i ≡ cellOf s r c) (prev : j ≡ cellBefore s dir r c) (of-a : a ≡ getD t (min (getD qindex i 0) 1415) 0) (of-b : b ≡ getD t (min (getD qindex j 0) 1415) 0) (pair : p ≡ pairOf (indexAt s (sized sizes) dir r c) (s .chroma) (shortenedAt s dir r)) (of-q : q ≡ bothOf (a / 65536) (b / 65536)) (of-side : side ≡ bothOf (a % 65536) (b % 65536)) (deep : depthOk (s .depth) ≡ true) (l : Levels t) where
+  same-edge : (steps : List ℕ) → Table s steps t → record { x = c * 4; y = r * 4; dir = dir; pair = p; q = q; side = side } ≡ edgeAt s steps (oneWay [] sizes qindex) dir r c
+  unfolding edgeAt indexAt indicesOf
+  same-edge steps of =
+      let at-a = of-a ∙ of .entries .at (getD qindex i 0) in
+      let at-b = of-b ∙ of .entries .at (getD qindex j 0) in
+      let same-q = of-q ∙ edge-q (s .depth) steps (s .deltaq) (s .deltaside) deep (of .accepted) (getD qindex i 0) (getD qindex j 0) at-a at-b in
+      let same-side = of-side ∙ edge-side (s .depth) steps (s .deltaq) (s .deltaside) deep (of .accepted) (getD qindex i 0) (getD qindex j 0) at-a at-b in
+      rw (pair, same-q, same-side, cell, prev)
+
+  pub edge-is : IsEdgeAt s t (oneWay [] sizes qindex) dir r c (record { x = c * 4; y = r * 4; dir = dir; pair = p; q = q; side = side })
+  unfolding indexAt indicesOf
+  edge-is =
+      let ha = block-most t (getD qindex i 0) l in
+      let hb = block-most t (getD qindex j 0) l in
+      record {
+        is = same-edge;
+        x-is = refl;
+        y-is = refl;
+        dir-is = refl;
+        pair-is = pair;
+        q-most = rw (of-q, of-a, of-b) (both-most 2048 _ _ (ha .0) (hb .0));
+        side-most = rw (of-side, of-a, of-b) (both-most 839 _ _ (ha .1) (hb .1));
+      }
+
+-- an edge of a checked plane has room
+module _ {s : Plane} (marks sizes qindex : List ℕ) {t : List ℕ} {size : ℕ} (dir r c : ℕ) {e : Edge} (f : Field s marks sizes qindex t size dir) (k : Cell s r c) (is : IsEdgeAt s t (oneWay [] sizes qindex) dir r c e) where
+  found-room : isEdge s (marked marks) dir r c ≡ true → edgeRoom s (oneWay marks sizes []) dir r c ≡ true
+  unfolding lacksDir lacksRow lacksRoom isEdge marksOf
+  found-room edge =
+      let row = nothing-all (λ y. lacksRow s (oneWay marks sizes []) dir y) (s .rows) (f .room) r (k .in-rows) in
+      let one = nothing-all (λ x. lacksRoom s (oneWay marks sizes []) dir r x) (s .cols) row c (k .in-cols) in
+      pick-yes (isEdge s (oneWay marks sizes []) dir r c) (edgeRoom s (oneWay marks sizes []) dir r c) true _ (sym edge) refl ∙ unless-nothing _ _ one
+
+  edge-room : edgeRoom s (oneWay marks sizes []) dir r c ≡ true → hasRoom (4 * s .cols) (4 * s .rows) e ≡ true
+  unfolding edgeRoom hasRoom indexAt indicesOf
+  edge-room h = rw (is .x-is, is .y-is, is .dir-is, is .pair-is) h
+
+  pub in-plane : {u : Bool} → u ≡ isEdge s (marked marks) dir r c → not u ≡ false → InPlane (s .stride) (4 * s .cols) (4 * s .rows) e size
+  in-plane {u} edge there = record {
+    pair-is = pair-below _ _ _ (is .pair-is);
+    q-most = is .q-most;
+    side-most = is .side-most;
+    row = f .ready .sizes-ok .wide;
+    plane = f .plane-long;
+    room = edge-room (found-room (sym (told-yes-not _ u edge there)));
+  }
+
+pub ruleset edges = (needs, edge-is, in-plane)
+
+pub ruleset asked = (needs, inner-by)

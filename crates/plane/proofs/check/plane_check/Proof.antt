@@ -1,0 +1,84 @@
+use borrow.Author.Needs.{needs}
+use Rattle.laws.specs.Choose.{told-yes-not, told-no-not}
+use Rattle.scan.proofs.Checks.{stop, stop-by, go-on, accepted-by, unless-bad, unless-good}
+use Rattle.rules.specs.Plane.{planeCheck}
+use Rattle.cells.proofs.Accepted.{sizes-by}
+use Rattle.plane.specs.Checked.{gridCheck}
+use Rattle.plane.proofs.Accepting.{sized-by}
+use Rattle.plane.proofs.check.plane_check.Statement.{statement}
+use Rattle.plane.proofs.check.plane_check.Tie as tie
+
+is-requires : tie.Need-is-requires
+is-requires c κs = search needs
+
+returns : tie.Need-returns
+unfolding planeCheck
+returns c = stop _ _ (unless-bad _ _ (told-no-not _ _ (c .before .is .ensures) (c .if1 .taken)))
+
+sizes-ok-requires : tie.Need-sizes-ok-requires
+sizes-ok-requires c κs = search needs
+
+returns-2 : tie.Need-returns-2
+unfolding planeCheck
+returns-2 c = go-on _ _ _ (unless-good _ _ (told-yes-not _ _ (c .before .before .before .is .ensures) (c .before .before .if1 .left))) (stop _ _ (unless-bad _ _ (told-no-not _ _ (c .before .sizes-ok .ensures) (c .if2 .taken))))
+
+lengths-ok-requires : tie.Need-lengths-ok-requires
+lengths-ok-requires c κs = sizes-by _ _ (c .before .sizes-ok .ensures) (c .if2 .left)
+
+returns-3 : tie.Need-returns-3
+unfolding planeCheck
+returns-3 c = go-on _ _ _ (unless-good _ _ (told-yes-not _ _ (c .before .before .before .before .before .is .ensures) (c .before .before .before .before .if1 .left))) (go-on _ _ _ (unless-good _ _ (told-yes-not _ _ (c .before .before .before .sizes-ok .ensures) (c .before .before .if2 .left))) (stop _ _ (unless-bad _ _ (told-no-not _ _ (c .before .lengths-ok .ensures) (c .if3 .taken)))))
+
+steps-check-requires : tie.Need-steps-check-requires
+steps-check-requires c κs = search needs
+
+enum-known-table : tie.Need-enum-known-table
+enum-known-table c = search needs
+
+returns-4 : tie.Need-returns-4
+unfolding planeCheck
+returns-4 c = go-on _ _ _ (unless-good _ _ (told-yes-not _ _ (c .before .before .before .before .before .before .before .before .before .is .ensures) (c .before .before .before .before .before .before .before .before .if1 .left))) (go-on _ _ _ (unless-good _ _ (told-yes-not _ _ (c .before .before .before .before .before .before .before .sizes-ok .ensures) (c .before .before .before .before .before .before .if2 .left))) (go-on _ _ _ (unless-good _ _ (told-yes-not _ _ (c .before .before .before .before .before .lengths-ok .ensures) (c .before .before .before .before .if3 .left))) (stop-by _ _ _ (c .before .before .before .steps-check .ensures) (search needs))))
+
+enum-told : tie.Need-enum-told
+enum-told c = search needs
+
+deltas-check-requires : tie.Need-deltas-check-requires
+deltas-check-requires c κs = search needs
+
+enum-known-deltas : tie.Need-enum-known-deltas
+enum-known-deltas c = search needs
+
+returns-5 : tie.Need-returns-5
+unfolding planeCheck
+returns-5 c = go-on _ _ _ (unless-good _ _ (told-yes-not _ _ (c .before .before .before .before .before .before .before .before .before .before .before .before .before .before .is .ensures) (c .before .before .before .before .before .before .before .before .before .before .before .before .before .if1 .left))) (go-on _ _ _ (unless-good _ _ (told-yes-not _ _ (c .before .before .before .before .before .before .before .before .before .before .before .before .sizes-ok .ensures) (c .before .before .before .before .before .before .before .before .before .before .before .if2 .left))) (go-on _ _ _ (unless-good _ _ (told-yes-not _ _ (c .before .before .before .before .before .before .before .before .before .before .lengths-ok .ensures) (c .before .before .before .before .before .before .before .before .before .if3 .left))) (go-on _ _ _ (accepted-by _ _ (c .before .before .before .before .before .before .before .before .steps-check .ensures) (c .before .before .before .before .before .before .enum-told .given)) (stop-by _ _ _ (c .before .before .before .deltas-check .ensures) (search needs)))))
+
+enum-told-2 : tie.Need-enum-told-2
+enum-told-2 c = search needs
+
+grid-check-requires : tie.Need-grid-check-requires
+grid-check-requires c κs = sized-by _ _ _ _ _ (c .before .before .before .before .before .before .before .before .before .before .before .before .before .is .ensures) (c .before .before .before .before .before .before .before .before .before .before .before .before .if1 .left) (c .before .before .before .before .before .before .before .before .before .before .before .sizes-ok .ensures) (c .before .before .before .before .before .before .before .before .before .before .if2 .left) (c .before .before .before .before .before .before .before .before .before .lengths-ok .ensures) (c .before .before .before .before .before .before .before .before .if3 .left)
+
+returns-6 : tie.Need-returns-6
+unfolding planeCheck gridCheck
+returns-6 c = go-on _ _ _ (unless-good _ _ (told-yes-not _ _ (c .before .before .before .before .before .before .before .before .before .before .before .before .before .before .is .ensures) (c .before .before .before .before .before .before .before .before .before .before .before .before .before .if1 .left))) (go-on _ _ _ (unless-good _ _ (told-yes-not _ _ (c .before .before .before .before .before .before .before .before .before .before .before .before .sizes-ok .ensures) (c .before .before .before .before .before .before .before .before .before .before .before .if2 .left))) (go-on _ _ _ (unless-good _ _ (told-yes-not _ _ (c .before .before .before .before .before .before .before .before .before .before .lengths-ok .ensures) (c .before .before .before .before .before .before .before .before .before .if3 .left))) (go-on _ _ _ (accepted-by _ _ (c .before .before .before .before .before .before .before .before .steps-check .ensures) (c .before .before .before .before .before .before .enum-told .given)) (go-on _ _ _ (accepted-by _ _ (c .before .before .before .deltas-check .ensures) (c .before .enum-told2 .given)) (c .grid-check .ensures _)))))
+
+pub plane-check-spec : {M : Type 1} → statement M
+plane-check-spec =
+    tie.close
+    (tie.spec
+    is-requires
+    returns
+    sizes-ok-requires
+    returns-2
+    lengths-ok-requires
+    returns-3
+    steps-check-requires
+    enum-known-table
+    returns-4
+    enum-told
+    deltas-check-requires
+    enum-known-deltas
+    returns-5
+    enum-told-2
+    grid-check-requires
+    returns-6)

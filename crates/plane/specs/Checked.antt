@@ -1,0 +1,44 @@
+-- What is known of a plane at each stage of its checks, and the entry's statement.
+-- Assumes nothing.
+use mathlib.Core.Path.{_≡_}
+use mathlib.Core.Bool.{true}
+use mathlib.Core.List.{List}
+use Prim.Native.Nat.{ℕ, _*_, _≤_}
+use lib.ListN.{length}
+use Rattle.rules.specs.declared.settings.Plane.{Plane}
+use Rattle.rules.specs.declared.refusals.Refusal.the-variants.{Cell, Room, Sample}
+use Rattle.rules.specs.declared.refusals.Answer.{Answer}
+use Rattle.rules.specs.declared.refusals.Answer.the-variants.{Accepted}
+use Rattle.rules.specs.declared.refusals.Found.the-variants.{Nothing}
+use Rattle.rules.specs.Numbers.{depthOk, deltaOk}
+use Rattle.rules.specs.Refusals.{orElse, found}
+use Rattle.rules.specs.Thresholds.{stepsCheck}
+use Rattle.rules.specs.Plane.{Grid, badCell, noRoom, overPlane, planeLengthsOk, planeCheck, planeAfter}
+use Rattle.cells.specs.Fit.{Sizes, Long}
+
+-- depth, sizes and lengths are good
+pub record Sized (s : Plane) (n v h w t : ℕ) : Type 0 where
+  pub depth : depthOk (s .depth) ≡ true
+  pub sizes-ok : Sizes s
+  pub plane-long : 4 * s .rows * s .stride ≤ n
+  pub lists-long : Long (s .rows * s .cols) v h w t
+
+-- checks 6, 7 and 8
+unfoldable pub gridCheck : Plane → Grid → List ℕ → Answer
+gridCheck s g l = orElse (found (badCell s g) Cell) (orElse (found (noRoom s g) Room) (found (overPlane s l) Sample))
+
+-- checks 1 to 7 are good, for a plane of so many samples
+pub record Checked (s : Plane) (steps : List ℕ) (g : Grid) (size : ℕ) : Type 0 where
+  pub depth : depthOk (s .depth) ≡ true
+  pub sizes-ok : Sizes s
+  pub lengths : planeLengthsOk s g size ≡ true
+  pub steps-ok : stepsCheck steps ≡ Accepted
+  pub deltaq-ok : deltaOk (s .deltaq) ≡ true
+  pub deltaside-ok : deltaOk (s .deltaside) ≡ true
+  pub cells : badCell s g ≡ Nothing
+  pub room : noRoom s g ≡ Nothing
+
+-- all that the entry states: its answer a, and the plane afterwards m, of a plane l
+pub record Stated (s : Plane) (steps : List ℕ) (g : Grid) (l : List ℕ) (a : Answer) (m : List ℕ) : Type 0 where
+  pub answer : a ≡ planeCheck s steps g l
+  pub plane : m ≡ planeAfter s steps g l

@@ -1,0 +1,64 @@
+// Document 01's checks 1 to 8 of a plane, in their order.
+use cells::grid::bad_cell;
+use cells::room::no_room;
+use cells::samples::over_plane;
+use cells::sizes::{lengths_ok, sizes_ok};
+use rules::depth::Depth;
+use rules::refusals::Answer;
+use rules::refusals::Found;
+use rules::refusals::Refusal;
+use rules::settings::Plane;
+use thresholds::checks::{deltas_check, steps_check};
+ghost use mathlib.Core.Path.{_≡_};
+ghost use mathlib.Core.Bool.{true};
+ghost use mathlib.Core.List.{List};
+ghost use Prim.Native.Nat.{ℕ};
+ghost use lib.ListN.{length};
+ghost use Rattle.rules.specs.Numbers.{depthOk};
+ghost use Rattle.rules.specs.Plane.{grid, planeLengthsOk, planeCheck};
+ghost use Rattle.cells.specs.Fit.{Sizes};
+ghost use Rattle.plane.specs.Checked.{Sized, gridCheck};
+
+// The checks of what the lists hold, 6, 7 and 8, whatever the qindex.
+fn grid_check(plane: &[u16], vedge: &[u8], hedge: &[u8], sqw: &[u8], sqh: &[u8], s: Plane) -> Answer
+    requires { ⌜ Sized s (length (now plane)) (length (now vedge)) (length (now hedge)) (length (now sqw)) (length (now sqh)) ⌝ }
+    ensures { λ a. ⌜ ((q : List ℕ) → a ≡ gridCheck s (grid (now (vedge .entry)) (now (hedge .entry)) (now (sqw .entry)) (now (sqh .entry)) q) (now (plane .entry))) ⌝ }
+{
+    let bad = bad_cell(vedge, hedge, sqw, sqh, s);
+    if let Found::At(k) = bad {
+        return Answer::Refused(Refusal::Cell(k));
+    }
+    let narrow = no_room(vedge, hedge, sqw, sqh, s);
+    if let Found::At(k) = narrow {
+        return Answer::Refused(Refusal::Room(k));
+    }
+    let over = over_plane(plane, s);
+    if let Found::At(k) = over {
+        return Answer::Refused(Refusal::Sample(k));
+    }
+    Answer::Accepted
+}
+
+// The first refusal of a plane, or none.
+pub fn plane_check(plane: &[u16], vedge: &[u8], hedge: &[u8], sqw: &[u8], sqh: &[u8], qindex: &[u16], steps: &[u32], s: Plane) -> Answer
+    ensures { λ a. ⌜ a ≡ planeCheck s (now (steps .entry)) (grid (now (vedge .entry)) (now (hedge .entry)) (now (sqw .entry)) (now (sqh .entry)) (now (qindex .entry))) (now (plane .entry)) ⌝ }
+{
+    if !Depth::is(s.depth) {
+        return Answer::Refused(Refusal::Depth);
+    }
+    if !sizes_ok(s) {
+        return Answer::Refused(Refusal::Size);
+    }
+    if !lengths_ok(plane, vedge, hedge, sqw, sqh, qindex, s) {
+        return Answer::Refused(Refusal::Length);
+    }
+    let table = steps_check(steps);
+    if let Answer::Refused(r) = table {
+        return Answer::Refused(r);
+    }
+    let deltas = deltas_check(s.deltaq, s.deltaside);
+    if let Answer::Refused(r) = deltas {
+        return Answer::Refused(r);
+    }
+    grid_check(plane, vedge, hedge, sqw, sqh, s)
+}

@@ -1,0 +1,17 @@
+-- Both thresholds of a block in one number, and a table of them that is made once and read at each edge.
+-- Assumes nothing.
+use mathlib.Core.Path.{_≡_}
+use mathlib.Core.List.{List}
+use Prim.Native.Nat.{ℕ, _+_, _*_, min}
+use lib.ListN.{getD}
+use lib.IntN.{ℤ}
+use Rattle.rules.specs.Thresholds.{indexOf, quantOf, stepOf, sideOf}
+
+-- q·65536 + side of one block
+unfoldable pub packedOf : ℕ → List ℕ → ℤ → ℤ → ℕ → ℕ
+packedOf depth steps deltaq deltaside qindex =
+    quantOf (stepOf depth steps (indexOf qindex deltaq)) * 65536 + sideOf depth (indexOf qindex deltaside)
+
+-- the table answers for every qindex: from 1415 on, all are alike
+pub record ByQindex (depth : ℕ) (steps : List ℕ) (deltaq deltaside : ℤ) (table : List ℕ) : Type 0 where
+  pub at : (qindex : ℕ) → getD table (min qindex 1415) 0 ≡ packedOf depth steps deltaq deltaside qindex
