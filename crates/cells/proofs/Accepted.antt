@@ -1,20 +1,19 @@
 -- What accepted sizes and lengths of a plane give.
 -- Assumes nothing.
-use mathlib.Core.Path.{_≡_, refl, sym, ap, _∙_}
+use mathlib.Core.Path.{_≡_, sym}
 use mathlib.Core.Logic.{⊎-elim}
 use mathlib.Core.Bool.{Bool, true, false, not}
-use Prim.Native.Nat.{ℕ, _+_, _*_, _^_, _≤_, _<_}
+use Prim.Native.Nat.{ℕ, _*_, _≤_}
 use native.Mathlib.Nat.{mul-le-mul}
 use native.Mathlib.Omega.{arith}
 use borrow.Author.Tests.{leb-true, eqb-true}
 use mir.Val.{Fits}
 use mir.Syntax.{w64}
-use lib.ListN.{length}
-use lib.Dec.{eqb, leb}
-use Rattle.laws.specs.Choose.{either, both, told-yes-not, all-parts, both-parts, either-parts}
+use lib.Dec.{eqb}
+use Rattle.laws.specs.Choose.{either, told-yes-not, all-parts, both-parts, either-parts}
 use Rattle.rules.specs.declared.settings.Plane.{Plane}
 use Rattle.rules.specs.Numbers.{inRange}
-use Rattle.rules.specs.Plane.{Grid, planeSizesOk, planeLengthsOk}
+use Rattle.rules.specs.Plane.{planeSizesOk}
 use Rattle.cells.specs.Fit.{Sizes}
 
 -- low..high

@@ -1,6 +1,6 @@
 -- Numbers of a list that are all small: how a loop finds their largest, and that a grid of small numbers has no bad cell.
 -- Assumes nothing.
-use mathlib.Core.Path.{_≡_, refl, sym, ap, _∙_}
+use mathlib.Core.Path.{_≡_, sym}
 use mathlib.Core.Logic.{⊎-elim}
 use mathlib.Core.List.{List, []}
 use Prim.Native.Nat.{ℕ, _+_, _*_, _≤_, _<_}
@@ -8,14 +8,14 @@ use native.Mathlib.Nat.{eq-or-lt-of-le, le-antisymm}
 use native.Mathlib.Omega.{arith}
 use borrow.Author.Needs.{needs}
 use borrow.Author.Tests.{leb-true}
-use mathlib.Core.Bool.{Bool, true, false}
+use mathlib.Core.Bool.{true, false}
 use lib.Dec.{leb}
 use lib.ListN.{getD}
 use Rattle.laws.specs.Choose.{all-ok, all-none, all-parts, is-le, told-yes-not, told-no-not, true-not-false}
 use Rattle.rules.specs.declared.settings.Plane.{Plane}
 use Rattle.rules.specs.declared.refusals.Found.{Found}
-use Rattle.rules.specs.declared.refusals.Found.the-variants.{At, Nothing}
-use Rattle.rules.specs.Refusals.{first, foundUnless}
+use Rattle.rules.specs.declared.refusals.Found.the-variants.{Nothing}
+use Rattle.rules.specs.Refusals.{foundUnless}
 use Rattle.rules.specs.Plane.{Grid, grid, cellGood, badCell}
 use Rattle.scan.proofs.First.{firsts, all-nothing, nothing-all, found-unless-not, unless-nothing}
 use Rattle.cells.specs.Fit.{Within, Good, badOf}

@@ -1,22 +1,22 @@
 -- Where a cell and the cell before it stand in a grid's lists, and that the edge of a cell reads only its own direction.
 -- Assumes nothing.
-use mathlib.Core.Path.{_≡_, refl, sym, ap, _∙_}
+use mathlib.Core.Path.{_≡_, refl, ap}
 use mathlib.Core.Bool.{Bool, true, false}
 use mathlib.Core.List.{List, []}
-use Prim.Native.Nat.{ℕ, _+_, _*_, _-_, _^_, _≤_, _<_, min}
+use Prim.Native.Nat.{ℕ, _+_, _*_, _-_, _≤_, _<_, min}
 use native.Mathlib.Nat.{mul-le-mul, mul-le-mul-right, suc-mul, one-mul}
 use native.Mathlib.Omega.{arith}
 use borrow.Author.Tests.{eq-eqb, ne-eqb}
 use mir.Val.{Fits}
 use mir.Syntax.{w64}
 use lib.Dec.{eqb}
-use lib.ListN.{length, getD}
+use lib.ListN.{getD}
 use borrow.Author.Needs.{needs}
 use Rattle.laws.specs.Choose.{pick, pick-yes, pick-no, is-eq, not-eq, is-lt, not-lt, both-bad, both-ok}
 use Rattle.rules.specs.declared.settings.Plane.{Plane}
 use Rattle.rules.specs.Lengths.{pairOf}
-use Rattle.rules.specs.Plane.{Grid, cellOf, cellBefore, marksOf, indicesOf, cappedOf, indexAt, shortenedAt, isEdge}
-use Rattle.cells.specs.Fit.{Sizes, Cell, Inner, Indices, Within, oneWay, marked, sized}
+use Rattle.rules.specs.Plane.{cellOf, cellBefore, marksOf, indicesOf, isEdge}
+use Rattle.cells.specs.Fit.{Sizes, Cell, Inner, Indices, oneWay, marked}
 
 module _ {s : Plane} {r c : ℕ} (z : Sizes s) (k : Cell s r c) where
   pub cell-below : r * s .cols + c < s .rows * s .cols

@@ -1,25 +1,25 @@
 -- Room: what an edge needs of it, and that only the first and the last column or row of edges can lack it.
 -- Assumes nothing.
-use mathlib.Core.Path.{_≡_, refl, sym, ap, _∙_}
+use mathlib.Core.Path.{_≡_, refl, sym, _∙_}
 use mathlib.Core.Bool.{Bool, true, false, not}
 use mathlib.Core.List.{List, [], _∷_}
-use Prim.Native.Nat.{ℕ, zero, suc, _+_, _*_, _-_, _≤_, _<_}
+use Prim.Native.Nat.{ℕ, _+_, _*_, _-_, _≤_, _<_}
 use native.Mathlib.Omega.{arith}
 use native.Mathlib.Decide.{ℕ-discrete}
 use borrow.Author.Needs.{needs}
 use borrow.Author.Tests.{eq-eqb, ne-eqb, ltb-true}
-use lib.Dec.{eqb, leb, ltb}
-use Rattle.laws.specs.Choose.{pick, all, both-parts, pick-yes, pick-no, all-ok, all-last, all-none, is-le, not-lt, both-bad, told-yes-not, told-no-not, told-yes, told-no}
+use lib.Dec.{eqb, leb}
+use Rattle.laws.specs.Choose.{pick, all, both-parts, pick-yes, pick-no, all-ok, all-none, is-le, not-lt, both-bad, told-yes-not, told-no-not, told-yes, told-no}
 use Rattle.rules.specs.declared.settings.Plane.{Plane}
 use Rattle.rules.specs.declared.refusals.Found.{Found}
 use Rattle.rules.specs.declared.refusals.Found.the-variants.{At, Nothing}
 use Rattle.rules.specs.Lengths.{pairOf, reachBefore, reachAfter}
-use Rattle.rules.specs.Refusals.{first, sooner, foundUnless}
+use Rattle.rules.specs.Refusals.{first, sooner}
 use Rattle.rules.specs.Segment.{hasRoom, roomAlong}
-use Rattle.rules.specs.Plane.{Grid, grid, cellOf, cellBefore, marksOf, indicesOf, indexAt, shortenedAt, isEdge, edgeRoom, lacksRoom, lacksRow, lacksDir, noRoom}
+use Rattle.rules.specs.Plane.{Grid, grid, cellOf, marksOf, indicesOf, indexAt, shortenedAt, isEdge, edgeRoom, lacksRoom, lacksRow, lacksDir, noRoom}
 use Rattle.choice.proofs.Lengths.{pair-facts}
-use Rattle.scan.proofs.First.{firsts, first-found, all-nothing, found-unless, found-unless-not, sooner-first-by, sooner-second-by}
-use Rattle.cells.specs.Fit.{Sizes, Cell, Inner, Indices, Ready, oneWay, sized, marked}
+use Rattle.scan.proofs.First.{first-found, all-nothing, found-unless, found-unless-not, sooner-first-by, sooner-second-by}
+use Rattle.cells.specs.Fit.{Cell, Inner, oneWay, sized, marked}
 use Rattle.cells.proofs.Places.{pair-below}
 
 -- ---- one edge

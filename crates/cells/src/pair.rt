@@ -65,7 +65,12 @@ fn index_at(sizes: &[u8], s: Plane, dir: usize, r: usize, c: usize) -> usize
     let i = cell_of(s, r, c);
     let b = cell_before(s, dir, r, c);
     let m = least(wide(sizes[i]), wide(sizes[b]));
-    capped(s.chroma, by_dir(dir, c * 4, r * 4), by_dir(dir, s.width, s.height), m)
+    capped(
+        s.chroma,
+        by_dir(dir, c * 4, r * 4),
+        by_dir(dir, s.width, s.height),
+        m,
+    )
 }
 
 // Whether an edge is shortened.
@@ -84,7 +89,11 @@ pub fn pair_at(sizes: &[u8], s: Plane, dir: usize, r: usize, c: usize) -> usize
     requires { ⌜ Sizes s × Inner s dir r c × Indices s (now sizes) ⌝ }
     ensures { λ p. ⌜ (p ≡ pairOf (indexAt s (sized (now (sizes .entry))) dir r c) (s .chroma) (shortenedAt s dir r)) × (p < 8) ⌝ }
 {
-    filter_lengths(index_at(sizes, s, dir, r, c), s.chroma, shortened_at(s, dir, r))
+    filter_lengths(
+        index_at(sizes, s, dir, r, c),
+        s.chroma,
+        shortened_at(s, dir, r),
+    )
 }
 
 // Whether a cell has an edge.

@@ -1,7 +1,10 @@
 // Document 01, refusal 7: the first edge that lacks room, vertical edges row by row, then horizontal.
 // No side reaches over 8 samples, so that an edge lacks room in the first and last columns or rows of edges alone.
-use crate::pair::{cell_of, is_edge, pair_at};
-use choice::pairs::{reach_after, reach_before};
+use crate::pair::cell_of;
+use crate::pair::is_edge;
+use crate::pair::pair_at;
+use choice::pairs::reach_after;
+use choice::pairs::reach_before;
 use rules::refusals::Found;
 use rules::settings::Plane;
 ghost use mathlib.Core.Path.{_≡_};

@@ -54,7 +54,15 @@ pub fn sizes_ok(s: Plane) -> bool
 }
 
 // Every list is long enough.
-pub fn lengths_ok(plane: &[u16], vedge: &[u8], hedge: &[u8], sqw: &[u8], sqh: &[u8], qindex: &[u16], s: Plane) -> bool
+pub fn lengths_ok(
+    plane: &[u16],
+    vedge: &[u8],
+    hedge: &[u8],
+    sqw: &[u8],
+    sqh: &[u8],
+    qindex: &[u16],
+    s: Plane,
+) -> bool
     requires { ⌜ Sizes s ⌝ }
     ensures { λ r. ⌜ r ≡ planeLengthsOk s (grid (now (vedge .entry)) (now (hedge .entry)) (now (sqw .entry)) (now (sqh .entry)) (now (qindex .entry))) (length (now (plane .entry))) ⌝ }
 {

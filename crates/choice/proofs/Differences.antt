@@ -1,10 +1,9 @@
 -- Bends and slopes as distances between two counts, as the code takes them.
 -- Assumes nothing.
-use mathlib.Core.Path.{_≡_, _∙_}
+use mathlib.Core.Path.{_≡_}
 use Prim.Native.Nat.{ℕ, _+_, _-_, _*_, _≤_}
 use native.Mathlib.Nat.{mul-le-mul}
 use native.Mathlib.Omega.{arith}
-use lib.IntN.{pos, _-ℤ_, _+ℤ_}
 use Rattle.laws.specs.Whole.{count, plus, minus, scale, size-is}
 use Rattle.rules.specs.Width.{bendOf, slopeOf}
 

@@ -1,10 +1,8 @@
--- The width is never over the most samples after the edge, for the numbers that the length pairs have.
+-- What the width can be: never over the most samples after the edge, for the numbers that the length pairs have, and never 5 or 7.
 -- Assumes nothing.
-use mathlib.Core.Path.{_≡_}
 use mathlib.Core.Bool.{Bool, true, false}
 use mathlib.Core.List.{List}
 use Prim.Native.Nat.{ℕ, _≤_, _<_}
-use native.Mathlib.Omega.{arith}
 use borrow.Author.Needs.{needs}
 use Rattle.rules.specs.declared.edge.Line.{Line}
 use Rattle.laws.specs.Choose.{pick}

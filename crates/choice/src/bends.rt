@@ -21,6 +21,7 @@ fn mean_bend(a: u16, b: u16, c: u16, d: u16, e: u16, f: u16) -> u32
     (bend(a, b, c) + bend(d, e, f) + 1) / 2
 }
 
+// The larger of dm2 and d1, which lie on one side of the edge each.
 pub fn beside(a: Line, b: Line) -> u32
     ensures { λ r. ⌜ r ≡ max (dm2Of (ends a b)) (d1Of (ends a b)) ⌝ }
 {
@@ -30,6 +31,7 @@ pub fn beside(a: Line, b: Line) -> u32
     )
 }
 
+// dm1 + d0, which lie across the edge.
 pub fn across(a: Line, b: Line) -> u32
     ensures { λ r. ⌜ (r ≡ dm1Of (ends a b) + d0Of (ends a b)) × (r ≤ 262140) ⌝ }
 {

@@ -5,9 +5,11 @@ use crate::distances::far;
 use crate::ramps::steep;
 use rules::edge::Line;
 ghost use mathlib.Core.Path.{_≡_};
+ghost use mathlib.Core.Bool.{false};
 ghost use Prim.Native.Nat.{_≤_};
 ghost use Rattle.rules.specs.Width.{widthOf};
 ghost use Rattle.choice.specs.Tests.{offOf, oneOf, twoOf};
+ghost use Rattle.choice.specs.Ends.{ends};
 
 // Whether a threshold is 0.
 fn off(q: u32, side: u32) -> bool
@@ -44,21 +46,16 @@ fn two_wide(q: u32, side: u32, e: u32, g: u32) -> bool
     3 * q < g
 }
 
-// How many samples to filter after the edge, of at most n before it and p after it.
-pub fn filt_choice(lines: [Line; 4], n: usize, p: usize, q: u32, side: u32) -> usize
-    requires { ⌜ (p ≤ 8) × (q ≤ 2048) × (side ≤ 839) ⌝ }
-    ensures { λ r. ⌜ r ≡ widthOf lines n p q side ⌝ }
+// The width by thresholds that are not 0; a function of its own, so that what it calls is inlined.
+fn width_of(a: Line, b: Line, n: usize, p: usize, q: u32, side: u32) -> usize
+    requires { ⌜ (p ≤ 8) × (q ≤ 2048) × (side ≤ 839) × (offOf q side ≡ false) ⌝ }
+    ensures { λ r. ⌜ r ≡ widthOf (ends a b) n p q side ⌝ }
 {
-    if off(q, side) {
-        return 0;
-    }
-    let a = lines[0];
-    let b = lines[3];
     let e = beside(a, b);
+    let g = across(a, b);
     if side < e {
         return 0;
     }
-    let g = across(a, b);
     if one_wide(p, q, side, e, g) {
         return 1;
     }
@@ -72,4 +69,15 @@ pub fn filt_choice(lines: [Line; 4], n: usize, p: usize, q: u32, side: u32) -> u
         return 3;
     }
     far(a, b, n, p, q, side, g)
+}
+
+// How many samples to filter after the edge, of at most n before it and p after it.
+pub fn filt_choice(lines: [Line; 4], n: usize, p: usize, q: u32, side: u32) -> usize
+    requires { ⌜ (p ≤ 8) × (q ≤ 2048) × (side ≤ 839) ⌝ }
+    ensures { λ r. ⌜ r ≡ widthOf lines n p q side ⌝ }
+{
+    if off(q, side) {
+        return 0;
+    }
+    width_of(lines[0], lines[3], n, p, q, side)
 }

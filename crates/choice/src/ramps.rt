@@ -14,7 +14,7 @@ fn slope(k: u32, a0: u16, a1: u16, ak: u16) -> u32
     apart(a0 as u32 + k * (a1 as u32), ak as u32 + k * (a0 as u32))
 }
 
-// One side of both lines: twice the ramp, but for the rounding.
+// Both lines: twice the ramp, but for the rounding.
 fn slopes(k: u32, a0: u16, a1: u16, ak: u16, b0: u16, b1: u16, bk: u16) -> u32
     requires { ⌜ k ≤ 8 ⌝ }
     ensures { λ r. ⌜ r ≡ slopeOf k a0 a1 ak + slopeOf k b0 b1 bk ⌝ }
@@ -22,6 +22,7 @@ fn slopes(k: u32, a0: u16, a1: u16, ak: u16, b0: u16, b1: u16, bk: u16) -> u32
     slope(k, a0, a1, ak) + slope(k, b0, b1, bk)
 }
 
+// Twice the ramp before the edge, and after it.
 fn slopes_before(a: Line, b: Line, k: usize) -> u32
     requires { ⌜ k ≤ 8 ⌝ }
     ensures { λ r. ⌜ r ≡ slopesOf k (a .p) (b .p) ⌝ }

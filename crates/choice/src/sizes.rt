@@ -9,6 +9,7 @@ pub fn apart(a: u32, b: u32) -> u32
     if a < b { b - a } else { a - b }
 }
 
+// The larger of two.
 pub fn larger(a: u32, b: u32) -> u32
     ensures { λ r. ⌜ r ≡ max a b ⌝ }
 {

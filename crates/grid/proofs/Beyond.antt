@@ -10,7 +10,7 @@ use lib.Seq.{getD-set-other}
 use lib.Dec.{ltb}
 use borrow.Author.Tests.{ltb-true}
 use Rattle.laws.specs.Choose.{pick, both}
-use Rattle.laws.specs.Loops.{turns}
+use Rattle.laws.specs.Loops.{turns-keep}
 use Rattle.rules.specs.declared.settings.TuGrid.{TuGrid}
 use Rattle.rules.specs.declared.settings.Tile.{Tile}
 use Rattle.rules.specs.declared.settings.QindexGrid.{QindexGrid}
@@ -20,7 +20,6 @@ use Rattle.rules.specs.Refusals.{settle}
 use Rattle.rules.specs.TuGrid.{Marks, marks, markOf, log2Of, storeCell, paintCell, paintRow, paintOf, leafOf, leavesOf, clearOf, blankOf, txGridOf, txGridCheck, txGridAfter}
 use Rattle.rules.specs.QindexGrid.{qCell, qRow, qGridOf, qGridCheck, qGridAfter, superblockOf}
 use Rattle.grid.proofs.Places.{place-below}
-use Rattle.grid.proofs.Turns.{turns-keep}
 
 -- ---- the TU grid
 
@@ -45,15 +44,15 @@ module _ (s : TuGrid) (i : ℕ) (far : s .rows * s .cols ≤ i) (v h w t : ℕ) 
 
   paint-keeps : (a : Tile) (g : Marks) → Kept g → Kept (paintOf s a g)
   unfolding paintOf paintRow
-  paint-keeps a g k = turns-keep Kept _ (a .h) g (λ dr y h. turns-keep Kept _ (a .w) y (λ dc z h. cell-keeps a dr dc z)) k
+  paint-keeps a g k = turns-keep _ g Kept (a .h) k (λ dr y h p. turns-keep _ y Kept (a .w) p (λ dc z h. cell-keeps a dr dc z))
 
   leaves-keep : (skip : Bool) (ls : List ℕ) (g : Marks) → Kept g → Kept (leavesOf s skip ls g)
   unfolding leavesOf
-  leaves-keep skip ls g k = turns-keep Kept _ (length ls / 4) g (λ j y h. paint-keeps (leafOf s skip ls j) y) k
+  leaves-keep skip ls g k = turns-keep _ g Kept (length ls / 4) k (λ j y h. paint-keeps (leafOf s skip ls j) y)
 
 clear-keeps : (n i a : ℕ) (xs : List ℕ) → n ≤ i → getD xs i 0 ≡ a → getD (clearOf n xs) i 0 ≡ a
 unfolding clearOf
-clear-keeps n i a xs far k = turns-keep (λ l. getD l i 0 ≡ a) _ n xs (λ j l h e. getD-set-other l j i 0 0 (λ q. omega arith) ∙ e) k
+clear-keeps n i a xs far k = turns-keep _ xs (λ l. getD l i 0 ≡ a) n k (λ j l h e. getD-set-other l j i 0 0 (λ q. omega arith) ∙ e)
 
 -- an entry of each list is as it was
 pub record Alike (g' g : Marks) (i : ℕ) : Type 0 where
@@ -66,9 +65,9 @@ pub tx-beyond : (s : TuGrid) (ls skips : List ℕ) (g : Marks) (i : ℕ) → s .
 unfolding txGridOf
 tx-beyond s ls skips g i far =
     let k =
-        leaves-keep s i far _ _ _ _ true skips _
-        (leaves-keep s i far _ _ _ _ false ls _
-        (clear-keeps _ i _ (g .vedge) far refl, clear-keeps _ i _ (g .hedge) far refl, clear-keeps _ i _ (g .sqw) far refl, clear-keeps _ i _ (g .sqh) far refl))
+    leaves-keep s i far _ _ _ _ true skips _
+    (leaves-keep s i far _ _ _ _ false ls _
+    (clear-keeps _ i _ (g .vedge) far refl, clear-keeps _ i _ (g .hedge) far refl, clear-keeps _ i _ (g .sqw) far refl, clear-keeps _ i _ (g .sqh) far refl))
     in
     record { at-vedge = k .0; at-hedge = k .1; at-sqw = k .2; at-sqh = k .3 }
 
@@ -89,7 +88,4 @@ entry-beyond s ls skips g i far = by (txGridCheck s ls skips g)
 pub q-beyond : (s : QindexGrid) (sbq q : List ℕ) (i : ℕ) → s .rows * s .cols ≤ i → getD (qGridOf s sbq q) i 0 ≡ getD q i 0
 unfolding qGridOf qRow qCell
 q-beyond s sbq q i far =
-    turns-keep (λ l. getD l i 0 ≡ getD q i 0) _ (s .rows) q
-    (λ r y hr. turns-keep (λ l. getD l i 0 ≡ getD q i 0) _ (s .cols) y
-    (λ c z hc e. getD-set-other z (r * s .cols + c) i _ 0 (λ p. omega (arith, place-below r (s .rows) c (s .cols) hr hc)) ∙ e))
-    refl
+    turns-keep _ q (λ l. getD l i 0 ≡ getD q i 0) (s .rows) refl (λ r y hr p. turns-keep _ y (λ l. getD l i 0 ≡ getD q i 0) (s .cols) p (λ c z hc e. getD-set-other z (r * s .cols + c) i _ 0 (λ p. omega (arith, place-below r (s .rows) c (s .cols) hr hc)) ∙ e))

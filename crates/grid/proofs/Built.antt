@@ -10,6 +10,7 @@ use lib.Seq.{getD-set-other, getD-set-same}
 use lib.Dec.{ltb, eqb}
 use borrow.Author.Tests.{le-leb}
 use Rattle.laws.specs.Choose.{pick, both, all}
+use Rattle.laws.specs.Loops.{turns-keep}
 use Rattle.rules.specs.declared.settings.TuGrid.{TuGrid}
 use Rattle.rules.specs.declared.settings.Tile.{Tile}
 use Rattle.rules.specs.declared.settings.QindexGrid.{QindexGrid}
@@ -19,7 +20,7 @@ use Rattle.rules.specs.Plane.{grid, cellGood, badCell}
 use Rattle.rules.specs.TuGrid.{Marks, markOf, log2Of, paintCell, paintRow, paintOf, leafOf, leavesOf, clearOf, txGridOf}
 use Rattle.rules.specs.QindexGrid.{superblockOf, qCell, qRow, qGridOf}
 use Rattle.scan.proofs.First.{all-nothing, found-unless-not}
-use Rattle.grid.proofs.Turns.{turns-keep, turns-hit}
+use Rattle.grid.proofs.Turns.{turns-hit}
 use Rattle.grid.proofs.Places.{same-row, same-col}
 use Rattle.grid.proofs.Covers.{Column, stored, vedge-column, hedge-column, sqw-column, sqh-column}
 
@@ -61,9 +62,7 @@ module _ {look : Marks → List ℕ} {val : Tile → ℕ → ℕ → ℕ} (colum
   leaves-low : (skip : Bool) (ls : List ℕ) (g : Marks) → Low g → Low (leavesOf s skip ls g)
   unfolding leavesOf paintOf paintRow
   leaves-low skip ls g k =
-      turns-keep Low _ (length ls / 4) g
-      (λ j x h. turns-keep Low _ (leafOf s skip ls j .h) x (λ dr y h. turns-keep Low _ (leafOf s skip ls j .w) y (λ dc z h. cell-low (leafOf s skip ls j) dr dc z)))
-      k
+      turns-keep _ g Low (length ls / 4) k (λ j x h p. turns-keep _ x Low (leafOf s skip ls j .h) p (λ dr y h p. turns-keep _ y Low (leafOf s skip ls j .w) p (λ dc z h. cell-low (leafOf s skip ls j) dr dc z)))
 
   pub built-low : (ls skips : List ℕ) (g : Marks) → i < s .rows * s .cols → Low (txGridOf s ls skips g)
   unfolding txGridOf
@@ -98,11 +97,12 @@ log2-most n =
 pub cell-good : (s : TuGrid) (ls skips : List ℕ) (g : Marks) (q : List ℕ) (k : ℕ) → k < s .rows * s .cols → cellGood (grid (txGridOf s ls skips g .vedge) (txGridOf s ls skips g .hedge) (txGridOf s ls skips g .sqw) (txGridOf s ls skips g .sqh) q) k ≡ true
 unfolding cellGood all
 cell-good s ls skips g q k h =
-    rw
-    (le-leb _ _ (built-low vedge-column 1 (λ a dr dc. mark-most dc (a .tw)) s k ls skips g h),
-    le-leb _ _ (built-low hedge-column 1 (λ a dr dc. mark-most dr (a .th)) s k ls skips g h),
-    le-leb _ _ (built-low sqw-column 6 (λ a dr dc. log2-most (a .tw)) s k ls skips g h),
-    le-leb _ _ (built-low sqh-column 6 (λ a dr dc. log2-most (a .th)) s k ls skips g h))
+    rw (
+      le-leb _ _ (built-low vedge-column 1 (λ a dr dc. mark-most dc (a .tw)) s k ls skips g h),
+      le-leb _ _ (built-low hedge-column 1 (λ a dr dc. mark-most dr (a .th)) s k ls skips g h),
+      le-leb _ _ (built-low sqw-column 6 (λ a dr dc. log2-most (a .tw)) s k ls skips g h),
+      le-leb _ _ (built-low sqh-column 6 (λ a dr dc. log2-most (a .th)) s k ls skips g h),
+    )
 
 -- so a plane of these cells has no bad one
 pub no-bad-cell : (p : Plane) (s : TuGrid) (ls skips : List ℕ) (g : Marks) (q : List ℕ) → p .rows ≡ s .rows → p .cols ≡ s .cols → badCell p (grid (txGridOf s ls skips g .vedge) (txGridOf s ls skips g .hedge) (txGridOf s ls skips g .sqw) (txGridOf s ls skips g .sqh) q) ≡ Nothing
@@ -139,6 +139,6 @@ module _ (s : QindexGrid) (sbq : List ℕ) (r c : ℕ) (hr : r < s .rows) (hc : 
   unfolding qGridOf qRow
   q-cell-is l k =
       turns-hit (Is (getD sbq (superblockOf s (length sbq) r c) 0)) Has (λ j. qRow s sbq j) (s .rows) r l hr
-      (λ j y q. turns-keep Has _ (s .cols) y (λ c' z h. q-has j c' z) q) k
+      (λ j y q. turns-keep _ y Has (s .cols) q (λ c' z h. q-has j c' z)) k
       (λ y q. turns-hit (Is (getD sbq (superblockOf s (length sbq) r c) 0)) Has (λ j. qCell s sbq r j) (s .cols) c y hc (λ j z. q-has r j z) q q-hit (λ j z lt h. q-miss r j _ z h (λ a b. omega arith)))
-      (λ j y lt h. turns-keep (Is (getD sbq (superblockOf s (length sbq) r c) 0)) (λ c'. qCell s sbq j c') (s .cols) y (λ c' z h'. q-miss j c' _ z h' (λ a b. omega arith)))
+      (λ j y lt h p. turns-keep (λ c'. qCell s sbq j c') y (Is (getD sbq (superblockOf s (length sbq) r c) 0)) (s .cols) p (λ c' z h'. q-miss j c' _ z h' (λ a b. omega arith)))

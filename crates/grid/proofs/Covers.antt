@@ -10,11 +10,12 @@ use lib.Seq.{getD-set-other, getD-set-same}
 use lib.Dec.{ltb}
 use borrow.Author.Tests.{ltb-true, lt-ltb}
 use Rattle.laws.specs.Choose.{pick, both}
+use Rattle.laws.specs.Loops.{turns-keep}
 use Rattle.rules.specs.declared.settings.TuGrid.{TuGrid}
 use Rattle.rules.specs.declared.settings.Tile.{Tile}
 use Rattle.rules.specs.TuGrid.{Marks, marks, markOf, log2Of, storeCell, paintCell, paintRow, paintOf, leafOf, leavesOf, clearOf, blankOf}
 use Rattle.grid.proofs.Places.{same-row, same-col}
-use Rattle.grid.proofs.Turns.{turns-keep, turns-hit}
+use Rattle.grid.proofs.Turns.{turns-hit}
 
 -- the tile a covers the cell r, c
 pub record Covers (a : Tile) (r c : ℕ) : Type 0 where
@@ -87,11 +88,11 @@ module _ {look : Marks → List ℕ} {val : Tile → ℕ → ℕ → ℕ} (colum
 
   row-has : (a : Tile) (dr : ℕ) (g : Marks) → Has g → Has (paintRow s a dr g)
   unfolding paintRow
-  row-has a dr g k = turns-keep Has _ (a .w) g (λ dc y h. cell-has a dr dc y) k
+  row-has a dr g k = turns-keep _ g Has (a .w) k (λ dc y h. cell-has a dr dc y)
 
   paint-has : (a : Tile) (g : Marks) → Has g → Has (paintOf s a g)
   unfolding paintOf
-  paint-has a g k = turns-keep Has _ (a .h) g (λ dr y h. row-has a dr y) k
+  paint-has a g k = turns-keep _ g Has (a .h) k (λ dr y h. row-has a dr y)
 
   -- a tile that covers the cell writes it, and one that does not keeps it
   pub paint-in : (a : Tile) (g : Marks) → Covers a r c → Has g → Is (val a (r - a .row) (c - a .col)) (paintOf s a g)
@@ -101,14 +102,12 @@ module _ {look : Marks → List ℕ} {val : Tile → ℕ → ℕ → ℕ} (colum
       let f : a .col + (c - a .col) ≡ c = omega arith in
       turns-hit (Is (val a (r - a .row) (c - a .col))) Has (λ dr. paintRow s a dr) (a .h) (r - a .row) g (omega arith) (λ j y. row-has a j y) k
       (λ y q. turns-hit (Is (val a (r - a .row) (c - a .col))) Has (λ dc. paintCell s a (r - a .row) dc) (a .w) (c - a .col) y (omega arith) (λ j z. cell-has a (r - a .row) j z) q (λ z p. cell-hit a (r - a .row) (c - a .col) z e f p) (λ j z lt h. cell-miss a (r - a .row) j _ z (λ x w. omega arith)))
-      (λ j y lt h. turns-keep (Is (val a (r - a .row) (c - a .col))) (λ dc. paintCell s a j dc) (a .w) y (λ dc z h'. cell-miss a j dc _ z (λ x w. omega arith)))
+      (λ j y lt h p. turns-keep (λ dc. paintCell s a j dc) y (Is (val a (r - a .row) (c - a .col))) (a .w) p (λ dc z h'. cell-miss a j dc _ z (λ x w. omega arith)))
 
   pub paint-out : (a : Tile) (x : ℕ) (g : Marks) → (Covers a r c → ⊥) → Is x g → Is x (paintOf s a g)
   unfolding paintOf paintRow
   paint-out a x g off k =
-      turns-keep (Is x) (λ dr. paintRow s a dr) (a .h) g
-      (λ dr y h. turns-keep (Is x) (λ dc. paintCell s a dr dc) (a .w) y (λ dc z h'. cell-miss a dr dc x z (λ p q. off (record { below = omega arith; above = omega arith; right = omega arith; left = omega arith }))))
-      k
+      turns-keep (λ dr. paintRow s a dr) g (Is x) (a .h) k (λ dr y h p. turns-keep (λ dc. paintCell s a dr dc) y (Is x) (a .w) p (λ dc z h'. cell-miss a dr dc x z (λ p q. off (record { below = omega arith; above = omega arith; right = omega arith; left = omega arith }))))
 
   -- the last leaf of a list that covers the cell decides
   pub leaves-last : (skip : Bool) (ls : List ℕ) (k : ℕ) (g : Marks) → k < length ls / 4 → Covers (leafOf s skip ls k) r c → ((j : ℕ) → k < j → j < length ls / 4 → Covers (leafOf s skip ls j) r c → ⊥) → Has g → Is (val (leafOf s skip ls k) (r - leafOf s skip ls k .row) (c - leafOf s skip ls k .col)) (leavesOf s skip ls g)
@@ -119,4 +118,4 @@ module _ {look : Marks → List ℕ} {val : Tile → ℕ → ℕ → ℕ} (colum
   -- where no leaf covers it, it is as it was
   pub leaves-none : (skip : Bool) (ls : List ℕ) (x : ℕ) (g : Marks) → ((j : ℕ) → j < length ls / 4 → Covers (leafOf s skip ls j) r c → ⊥) → Is x g → Is x (leavesOf s skip ls g)
   unfolding leavesOf
-  leaves-none skip ls x g none k = turns-keep (Is x) (λ j. paintOf s (leafOf s skip ls j)) (length ls / 4) g (λ j y h. paint-out (leafOf s skip ls j) x y (none j h)) k
+  leaves-none skip ls x g none k = turns-keep (λ j. paintOf s (leafOf s skip ls j)) g (Is x) (length ls / 4) k (λ j y h. paint-out (leafOf s skip ls j) x y (none j h))

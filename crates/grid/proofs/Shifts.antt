@@ -47,13 +47,9 @@ module _ (a ssy r : ℕ) (e : a ≡ up ssy r) (hy : ssy ≤ 1) (hr : r < 1024) (
   pub superblock-fits : (b ssx c : ℕ) → b ≡ up ssx c → ssx ≤ 1 → c < 1024 → Fits w64 (a / 16 * sbcols + b / 16)
   superblock-fits b ssx c f hx hc = let m = up-most ssx c hx hc in let h : b / 16 ≤ 127 = omega arith in record { fits = omega (arith, line-most) }
 
-pub superblock-is : (s : QindexGrid) (count r c y x : ℕ) → y ≡ up (s .ssy) r → x ≡ up (s .ssx) c → y / 16 * s .sbcols + x / 16 < count → y / 16 * s .sbcols + x / 16 ≡ superblockOf s count r c
+pub superblock-is : (s : QindexGrid) (count r c y x i : ℕ) → y ≡ up (s .ssy) r → x ≡ up (s .ssx) c → i ≡ min (y / 16 * s .sbcols + x / 16) (count - 1) → i ≡ superblockOf s count r c
 unfolding superblockOf
-superblock-is s count r c y x e f h = rw (← e, ← f) (omega arith)
-
-pub superblock-last : (s : QindexGrid) (count r c y x : ℕ) → y ≡ up (s .ssy) r → x ≡ up (s .ssx) c → count ≤ y / 16 * s .sbcols + x / 16 → count - 1 ≡ superblockOf s count r c
-unfolding superblockOf
-superblock-last s count r c y x e f h = rw (← e, ← f) (omega arith)
+superblock-is s count r c y x i e f h = rw (← e, ← f) h
 
 pub superblock-below : (s : QindexGrid) (count r c i : ℕ) → 1 ≤ count → i ≡ superblockOf s count r c → i < count
 unfolding superblockOf

@@ -77,7 +77,15 @@ fn marks_long(n: usize, v: usize, h: usize, w: usize, t: usize) -> bool
 }
 
 // Four lists are long enough, and two lists of leaves have four numbers a leaf.
-pub fn lists_ok(n: usize, v: usize, h: usize, w: usize, t: usize, leaves: usize, skips: usize) -> bool
+pub fn lists_ok(
+    n: usize,
+    v: usize,
+    h: usize,
+    w: usize,
+    t: usize,
+    leaves: usize,
+    skips: usize,
+) -> bool
     ensures { λ r. ⌜ r ≡ all (all (leb n v ∷ leb n h ∷ leb n w ∷ leb n t ∷ []) ∷ foursOk leaves ∷ foursOk skips ∷ []) ⌝ }
 {
     if !marks_long(n, v, h, w, t) {

@@ -13,14 +13,20 @@ pub fn flag(w: u16) -> bool
     w / 4096 % 2 == 1
 }
 
-// A number without bit 4096.
-pub fn bare(w: u16) -> u16
-    ensures { λ r. ⌜ r ≡ bareOf w ⌝ }
+pub fn wide(n: u16) -> usize
+    ensures { λ r. ⌜ r ≡ n ⌝ }
 {
-    if flag(w) { w - 4096 } else { w }
+    n as usize
 }
 
-fn is_size(n: u16) -> bool
+// A number without bit 4096.
+pub fn bare(w: u16) -> usize
+    ensures { λ r. ⌜ r ≡ bareOf w ⌝ }
+{
+    if flag(w) { wide(w - 4096) } else { wide(w) }
+}
+
+fn is_size(n: usize) -> bool
     ensures { λ r. ⌜ r ≡ isSize n ⌝ }
 {
     match n {
@@ -40,7 +46,7 @@ fn size_good(skip: bool, w: u16) -> bool
     ensures { λ r. ⌜ r ≡ sizeGood skip w ⌝ }
 {
     if skip {
-        return is_size(w);
+        return is_size(wide(w));
     }
     is_size(bare(w))
 }
@@ -68,7 +74,13 @@ fn good_at(leaves: &[u16], skip: bool, k: usize) -> bool
     ensures { λ r. ⌜ r ≡ leafGoodAt skip (now (leaves .entry)) k ⌝ }
 {
     let at = k * 4;
-    leaf_good(skip, leaves[at], leaves[at + 1], leaves[at + 2], leaves[at + 3])
+    leaf_good(
+        skip,
+        leaves[at],
+        leaves[at + 1],
+        leaves[at + 2],
+        leaves[at + 3],
+    )
 }
 
 // The first leaf of a list that is bad.

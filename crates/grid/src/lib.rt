@@ -17,5 +17,3 @@ pub mod tx_grid;
 
 // The qindex grid and its entry.
 pub mod qindex_grid;
-
-

@@ -1,12 +1,12 @@
 // Painting tiles: marks at each TU's first column and row, and its size indices.
 ghost use mathlib.Core.Path.{_≡_};
-ghost use Prim.Native.Nat.{_≤_, _<_, _/_};
+ghost use Prim.Native.Nat.{_≤_, _<_, _/_, _%_};
 ghost use lib.ListN.{length};
 ghost use Rattle.rules.specs.TuGrid.{marks, log2Of, markOf, storeCell, paintCell, paintRow, paintOf, leavesOf, clearOf, blankOf};
 ghost use Rattle.grid.specs.Fit.{Fit, Cut, Placed, AllGood};
-use rules::settings::TuGrid;
-use rules::settings::Tile;
 use super::tile::leaf;
+use rules::settings::Tile;
+use rules::settings::TuGrid;
 
 fn log2(n: usize) -> u8
     ensures { λ r. ⌜ r ≡ log2Of n ⌝ }
@@ -22,15 +22,33 @@ fn log2(n: usize) -> u8
     }
 }
 
+// Which line of its TU the line d of a tile is.
+fn line_of(d: usize, t: usize) -> usize
+    requires { ⌜ 1 ≤ t ⌝ }
+    ensures { λ r. ⌜ r ≡ d % t ⌝ }
+{
+    d % t
+}
+
 // The mark of the line d of a tile cut every t lines.
 fn mark(d: usize, t: usize) -> u8
     requires { ⌜ 1 ≤ t ⌝ }
     ensures { λ r. ⌜ r ≡ markOf d t ⌝ }
 {
-    if d % t == 0 { 1 } else { 0 }
+    if line_of(d, t) == 0 { 1 } else { 0 }
 }
 
-fn store(vedge: &mut [u8], hedge: &mut [u8], sqw: &mut [u8], sqh: &mut [u8], at: usize, v: u8, h: u8, w: u8, t: u8)
+fn store(
+    vedge: &mut [u8],
+    hedge: &mut [u8],
+    sqw: &mut [u8],
+    sqh: &mut [u8],
+    at: usize,
+    v: u8,
+    h: u8,
+    w: u8,
+    t: u8,
+)
     requires { ⌜ (at < length (now vedge)) × (at < length (now hedge)) × (at < length (now sqw)) × (at < length (now sqh)) ⌝ }
     ensures { λ _. ⌜ marks (now (vedge .exit)) (now (hedge .exit)) (now (sqw .exit)) (now (sqh .exit)) ≡ storeCell at v h w t (marks (now (vedge .entry)) (now (hedge .entry)) (now (sqw .entry)) (now (sqh .entry))) ⌝ }
 {
@@ -41,7 +59,16 @@ fn store(vedge: &mut [u8], hedge: &mut [u8], sqw: &mut [u8], sqh: &mut [u8], at:
 }
 
 // One cell of a tile, where it lies in the plane.
-fn cell(vedge: &mut [u8], hedge: &mut [u8], sqw: &mut [u8], sqh: &mut [u8], s: TuGrid, a: Tile, dr: usize, dc: usize)
+fn cell(
+    vedge: &mut [u8],
+    hedge: &mut [u8],
+    sqw: &mut [u8],
+    sqh: &mut [u8],
+    s: TuGrid,
+    a: Tile,
+    dr: usize,
+    dc: usize,
+)
     requires { ⌜ Fit s (length (now vedge)) (length (now hedge)) (length (now sqw)) (length (now sqh)) ⌝ }
     requires { ⌜ Placed a ⌝ }
     requires { ⌜ (dr < a .h) × (dc < a .w) ⌝ }
@@ -55,10 +82,28 @@ fn cell(vedge: &mut [u8], hedge: &mut [u8], sqw: &mut [u8], sqh: &mut [u8], s: T
     if s.cols <= c {
         return;
     }
-    store(vedge, hedge, sqw, sqh, r * s.cols + c, mark(dc, a.tw), mark(dr, a.th), log2(a.tw), log2(a.th));
+    store(
+        vedge,
+        hedge,
+        sqw,
+        sqh,
+        r * s.cols + c,
+        mark(dc, a.tw),
+        mark(dr, a.th),
+        log2(a.tw),
+        log2(a.th),
+    );
 }
 
-fn row(vedge: &mut [u8], hedge: &mut [u8], sqw: &mut [u8], sqh: &mut [u8], s: TuGrid, a: Tile, dr: usize)
+fn row(
+    vedge: &mut [u8],
+    hedge: &mut [u8],
+    sqw: &mut [u8],
+    sqh: &mut [u8],
+    s: TuGrid,
+    a: Tile,
+    dr: usize,
+)
     requires { ⌜ Fit s (length (now vedge)) (length (now hedge)) (length (now sqw)) (length (now sqh)) ⌝ }
     requires { ⌜ Placed a ⌝ }
     requires { ⌜ dr < a .h ⌝ }
@@ -83,7 +128,15 @@ pub fn paint(vedge: &mut [u8], hedge: &mut [u8], sqw: &mut [u8], sqh: &mut [u8],
 }
 
 // The leaves of a list, later ones over earlier ones.
-pub fn leaves(vedge: &mut [u8], hedge: &mut [u8], sqw: &mut [u8], sqh: &mut [u8], ls: &[u16], s: TuGrid, skip: bool)
+pub fn leaves(
+    vedge: &mut [u8],
+    hedge: &mut [u8],
+    sqw: &mut [u8],
+    sqh: &mut [u8],
+    ls: &[u16],
+    s: TuGrid,
+    skip: bool,
+)
     requires { ⌜ Fit s (length (now vedge)) (length (now hedge)) (length (now sqw)) (length (now sqh)) ⌝ }
     requires { ⌜ Cut s ⌝ }
     requires { ⌜ AllGood (now ls) ⌝ }

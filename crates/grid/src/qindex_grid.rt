@@ -10,12 +10,13 @@ ghost use Rattle.rules.specs.Numbers.{inRange, subsamplingOk};
 ghost use Rattle.rules.specs.TuGrid.{cellsOk};
 ghost use Rattle.rules.specs.QindexGrid.{superblockOf, qCell, qRow, qGridOf, qGridCheck, qGridAfter};
 ghost use Rattle.grid.specs.Fit.{QFit, QChecked};
-use rules::settings::QindexGrid;
-use rules::refusals::Answer;
-use rules::refusals::Refusal;
 use super::checks::cells_ok;
 use super::checks::subsampling_ok;
 use super::checks::superblocks_ok;
+use laws::least;
+use rules::refusals::Answer;
+use rules::refusals::Refusal;
+use rules::settings::QindexGrid;
 
 // A cell's number shifted left by a subsampling.
 fn luma(ss: usize, n: usize) -> usize
@@ -33,10 +34,8 @@ fn superblock(s: QindexGrid, count: usize, r: usize, c: usize) -> usize
     let y = luma(s.ssy, r) / 16;
     let x = luma(s.ssx, c) / 16;
     let i = y * s.sbcols + x;
-    if i < count {
-        return i;
-    }
-    count - 1
+    let last = count - 1;
+    least(i, last)
 }
 
 fn q_cell(sbq: &[u16], qindex: &mut [u16], s: QindexGrid, r: usize, c: usize)

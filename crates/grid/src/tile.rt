@@ -1,41 +1,36 @@
 // A leaf on a plane's cells: its place and size shifted by the subsampling, and its TU size.
 ghost use mathlib.Core.Path.{_≡_};
-ghost use Prim.Native.Nat.{_≤_, _<_, _/_};
+ghost use Prim.Native.Nat.{_≤_, _<_, _/_, max};
 ghost use lib.ListN.{length};
 ghost use lib.Dec.{eqb};
 ghost use Rattle.laws.specs.Choose.{both};
 ghost use Rattle.rules.specs.Numbers.{down};
-ghost use Rattle.rules.specs.TuGrid.{sizeOf, wholeOf, tuOf, tileOf, leafOf};
+ghost use Rattle.rules.specs.TuGrid.{wholeOf, tuOf, tileOf, leafOf};
 ghost use Rattle.grid.specs.Fit.{Cut};
-use rules::settings::TuGrid;
-use rules::settings::Tile;
-use super::leaf::flag;
 use super::leaf::bare;
-
-fn wide(n: u16) -> usize
-    ensures { λ r. ⌜ r ≡ n ⌝ }
-{
-    n as usize
-}
+use super::leaf::flag;
+use super::leaf::wide;
+use rules::settings::Tile;
+use rules::settings::TuGrid;
 
 // A number shifted right by a subsampling.
-fn shift(ss: usize, n: u16) -> usize
+fn shift(ss: usize, n: usize) -> usize
     requires { ⌜ ss ≤ 1 ⌝ }
     ensures { λ r. ⌜ r ≡ down ss n ⌝ }
 {
-    if ss == 0 { wide(n) } else { wide(n) / 2 }
+    if ss == 0 { n } else { n / 2 }
 }
 
-// A leaf's size on the plane's cells.
-fn size(ss: usize, w: u16) -> usize
+// A leaf's bare size on the plane's cells.
+fn size(ss: usize, n: usize) -> usize
     requires { ⌜ ss ≤ 1 ⌝ }
-    ensures { λ r. ⌜ r ≡ sizeOf ss w ⌝ }
+    ensures { λ r. ⌜ r ≡ max 1 (down ss n) ⌝ }
 {
-    let n = shift(ss, bare(w));
-    if n < 1 {
+    let m = shift(ss, n);
+    if m < 1 {
         return 1;
     }
-    n
+    m
 }
 
 fn is_pair(bw: usize, bh: usize, w: usize, h: usize) -> bool
@@ -79,12 +74,14 @@ pub fn tile_of(s: TuGrid, skip: bool, row: u16, col: u16, w: u16, h: u16) -> Til
     requires { ⌜ Cut s ⌝ }
     ensures { λ r. ⌜ r ≡ tileOf s skip row col w h ⌝ }
 {
-    let bw = size(s.ssx, w);
-    let bh = size(s.ssy, h);
+    let fw = bare(w);
+    let fh = bare(h);
+    let bw = size(s.ssx, fw);
+    let bh = size(s.ssy, fh);
     let whole = is_whole(skip, w, bw, bh);
     Tile {
-        row: shift(s.ssy, row),
-        col: shift(s.ssx, col),
+        row: shift(s.ssy, wide(row)),
+        col: shift(s.ssx, wide(col)),
         w: bw,
         h: bh,
         tw: tu(whole, bw, s.capw),
@@ -99,5 +96,12 @@ pub fn leaf(leaves: &[u16], s: TuGrid, skip: bool, k: usize) -> Tile
     ensures { λ r. ⌜ r ≡ leafOf s skip (now (leaves .entry)) k ⌝ }
 {
     let at = k * 4;
-    tile_of(s, skip, leaves[at], leaves[at + 1], leaves[at + 2], leaves[at + 3])
+    tile_of(
+        s,
+        skip,
+        leaves[at],
+        leaves[at + 1],
+        leaves[at + 2],
+        leaves[at + 3],
+    )
 }

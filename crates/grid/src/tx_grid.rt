@@ -8,20 +8,28 @@ ghost use Rattle.rules.specs.Refusals.{orElse, found};
 ghost use Rattle.rules.specs.TuGrid.{marks, cellsOk, capOk, badLeaf, txGridOf, txGridCheck, txGridAfter};
 ghost use Rattle.rules.specs.declared.refusals.Refusal.the-variants.{Leaf};
 ghost use Rattle.grid.specs.Fit.{Fit, Cut, AllGood, TxChecked};
-use rules::settings::TuGrid;
-use rules::refusals::Answer;
-use rules::refusals::Refusal;
-use rules::refusals::Found;
-use super::checks::cells_ok;
-use super::checks::subsampling_ok;
 use super::checks::cap_ok;
+use super::checks::cells_ok;
 use super::checks::lists_ok;
+use super::checks::subsampling_ok;
 use super::leaf::bad_leaf;
 use super::paint::blank;
 use super::paint::leaves;
+use rules::refusals::Answer;
+use rules::refusals::Found;
+use rules::refusals::Refusal;
+use rules::settings::TuGrid;
 
 // The grid of settings and leaves that the checks have passed.
-pub fn tx_grid(ls: &[u16], skips: &[u16], vedge: &mut [u8], hedge: &mut [u8], sqw: &mut [u8], sqh: &mut [u8], s: TuGrid)
+pub fn tx_grid(
+    ls: &[u16],
+    skips: &[u16],
+    vedge: &mut [u8],
+    hedge: &mut [u8],
+    sqw: &mut [u8],
+    sqh: &mut [u8],
+    s: TuGrid,
+)
     requires { ⌜ Fit s (length (now vedge)) (length (now hedge)) (length (now sqw)) (length (now sqh)) ⌝ }
     requires { ⌜ Cut s ⌝ }
     requires { ⌜ AllGood (now ls) ⌝ }
@@ -83,7 +91,15 @@ fn tx_check(ls: &[u16], skips: &[u16], v: usize, h: usize, w: usize, t: usize, s
 }
 
 // The TU grid of any settings and lists, or why there is none.
-pub fn build_tx_grid(ls: &[u16], skips: &[u16], vedge: &mut [u8], hedge: &mut [u8], sqw: &mut [u8], sqh: &mut [u8], s: TuGrid) -> Answer
+pub fn build_tx_grid(
+    ls: &[u16],
+    skips: &[u16],
+    vedge: &mut [u8],
+    hedge: &mut [u8],
+    sqw: &mut [u8],
+    sqh: &mut [u8],
+    s: TuGrid,
+) -> Answer
     ensures { λ r. ⌜ (r ≡ txGridCheck s (now (ls .entry)) (now (skips .entry)) (marks (now (vedge .entry)) (now (hedge .entry)) (now (sqw .entry)) (now (sqh .entry)))) × (marks (now (vedge .exit)) (now (hedge .exit)) (now (sqw .exit)) (now (sqh .exit)) ≡ txGridAfter s (now (ls .entry)) (now (skips .entry)) (marks (now (vedge .entry)) (now (hedge .entry)) (now (sqw .entry)) (now (sqh .entry)))) ⌝ }
 {
     let a = tx_check(ls, skips, vedge.len(), hedge.len(), sqw.len(), sqh.len(), s);

@@ -11,7 +11,7 @@ use lib.Dec.{T, leb}
 use mir.Syntax.{Width, w32}
 use mir.Val.{SFits, toZ, ofZ, hbits}
 use mir.Facts.{toZ-ofZ, sfits-widen}
-use Rattle.laws.specs.Whole.{Is, count, over, under}
+use Rattle.laws.specs.Whole.{Is, count, parted, over, under}
 
 -- ---- at any width
 
@@ -39,6 +39,13 @@ widened w v t f = rw (toZ-ofZ f) (sfits-widen t f)
 
 pub wide-same : (w v : Width) {z : ℤ} → T (leb (hbits w) (hbits v)) → SFits w z → toZ v (ofZ v (toZ w (ofZ w z))) ≡ z
 wide-same w v t f = rw (toZ-ofZ f) (toZ-ofZ (sfits-widen t f))
+
+-- a number z that was passed to `split`, and what `split` gave
+pub split-parts : (w : Width) {z : ℤ} {a b : ℕ} → SFits w z → (a ≡ over (toZ w (ofZ w z))) × (b ≡ under (toZ w (ofZ w z))) → (a ≡ over z) × (b ≡ under z)
+split-parts w f e = rw (toZ-ofZ f) at e
+
+pub split-is : (w : Width) {z : ℤ} {a b : ℕ} → SFits w z → (a ≡ over (toZ w (ofZ w z))) × (b ≡ under (toZ w (ofZ w z))) → Is z a b
+split-is w {z} f e = parted z (split-parts w f e)
 
 -- ---- at 32 bits
 

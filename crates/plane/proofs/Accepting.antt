@@ -1,38 +1,35 @@
 -- What the checks of a plane give: the statement at each way out, and all that an accepted plane's run asks.
 -- Assumes nothing.
-use mathlib.Core.Path.{_≡_, refl, sym, ap, _∙_}
+use mathlib.Core.Path.{_≡_, sym, ap, _∙_}
 use mathlib.Core.Bool.{Bool, true, false, not}
 use mathlib.Core.List.{List, []}
-use Prim.Native.Nat.{ℕ, _+_, _*_, _/_, _%_, _≤_, _<_, min}
+use Prim.Native.Nat.{ℕ, _+_, _*_, _/_, _%_, _≤_, min}
 use native.Mathlib.Omega.{arith}
 use borrow.Author.Needs.{needs}
 use borrow.Author.Tests.{leb-true}
-use lib.Dec.{leb}
 use lib.IntN.{ℤ}
 use lib.ListN.{length, getD}
 use Rattle.laws.specs.Choose.{pick, told-yes-not, all-parts, both-parts}
 use Rattle.rules.specs.declared.settings.Plane.{Plane}
 use Rattle.rules.specs.declared.refusals.Refusal.{Refusal}
-use Rattle.rules.specs.declared.refusals.Refusal.the-variants.{Depth, Size, Length, Setting, Cell, Room, Sample}
+use Rattle.rules.specs.declared.refusals.Refusal.the-variants.{Depth, Size, Length, Setting, Cell, Room}
 use Rattle.rules.specs.declared.refusals.Answer.{Answer}
 use Rattle.rules.specs.declared.refusals.Answer.the-variants.{Accepted, Refused}
 use Rattle.rules.specs.declared.refusals.Found.{Found}
-use Rattle.rules.specs.declared.refusals.Found.the-variants.{At, Nothing}
-use Rattle.rules.specs.Numbers.{depthOk, deltaOk}
-use Rattle.rules.specs.Refusals.{orElse, unless, found, settle}
+use Rattle.rules.specs.declared.refusals.Found.the-variants.{Nothing}
+use Rattle.rules.specs.Numbers.{depthOk}
 use Rattle.rules.specs.Thresholds.{stepsCheck, deltasCheck, quantOf, stepOf, sideOf, indexOf}
-use Rattle.rules.specs.Segment.{runEdges}
-use Rattle.rules.specs.Plane.{Grid, grid, cellGood, edgesOf, marksOf, indicesOf, indexAt, isEdge, edgeRoom, lacksRoom, lacksRow, lacksDir, badCell, noRoom, overPlane, planeSizesOk, planeLengthsOk, planeCheck, planeAfter, runPlane}
+use Rattle.rules.specs.Plane.{Grid, grid, cellGood, edgesOf, marksOf, indicesOf, indexAt, isEdge, edgeRoom, lacksRoom, lacksRow, lacksDir, badCell, noRoom, planeSizesOk, planeLengthsOk, planeCheck, planeAfter, runPlane}
 use Rattle.thresholds.specs.ByQindex.{packedOf, ByQindex}
 use Rattle.thresholds.proofs.Quants.{q-most}
 use Rattle.thresholds.proofs.Sides.{side-most}
 use Rattle.scan.proofs.First.{sooner-nothing}
 use Rattle.scan.proofs.Checks.{else-parts, unless-true, found-nothing, settle-refused, settle-accepted}
-use Rattle.cells.specs.Fit.{Sizes, Long, Within, Indices, Ready, badOf, oneWay}
+use Rattle.cells.specs.Fit.{Sizes, Long, Ready, badOf, oneWay}
 use Rattle.cells.proofs.Accepted.{sizes, sizes-by}
 use Rattle.cells.proofs.Marks.{none-good}
-use Rattle.plane.specs.Run.{Table, Levels, Field, Ran}
-use Rattle.plane.specs.Checked.{Sized, gridCheck, Checked, Stated}
+use Rattle.plane.specs.Run.{Levels, Field, Ran}
+use Rattle.plane.specs.Checked.{Sized, Checked, Stated}
 
 -- ---- lengths
 

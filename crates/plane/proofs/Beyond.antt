@@ -1,9 +1,9 @@
 -- A run changes nothing beyond the plane's 4·mi_cols by 4·mi_rows samples: a place that is none of them keeps what it held.
 -- Assumes nothing.
-use mathlib.Core.Path.{_≡_, refl, sym, ap, _∙_}
+use mathlib.Core.Path.{_≡_, refl, ap, _∙_}
 use mathlib.Core.Bool.{Bool, true, false}
 use mathlib.Core.List.{List, [], _∷_}
-use Prim.Native.Nat.{ℕ, _+_, _*_, _-_, _≤_, _<_, min}
+use Prim.Native.Nat.{ℕ, _+_, _*_, _-_, _≤_, _<_}
 use native.Mathlib.Nat.{add-mul}
 use native.Mathlib.Omega.{arith}
 use lib.Dec.{eqb}
@@ -13,14 +13,14 @@ use Rattle.rules.specs.declared.edge.Edge.{Edge}
 use Rattle.rules.specs.declared.settings.Plane.{Plane}
 use Rattle.rules.specs.declared.refusals.Answer.the-variants.{Accepted}
 use Rattle.rules.specs.Numbers.{topOf}
-use Rattle.rules.specs.Lengths.{mostBefore, mostAfter, reachBefore, reachAfter}
+use Rattle.rules.specs.Lengths.{mostAfter, reachBefore, reachAfter}
 use Rattle.rules.specs.Segment.{placed, placeOf, pAt, qAt, hasRoom, windowOf, chosenOf, widthAt, segmentOf, runEdges}
 use Rattle.rules.specs.Plane.{Grid, edgesOf, runPlane, planeCheck}
 use Rattle.choice.proofs.Lengths.{pair-facts}
 use Rattle.segment.specs.Fit.{InPlane}
 use Rattle.segment.specs.Promises.{Outside}
 use Rattle.segment.proofs.Cells.{Along, along-of}
-use Rattle.segment.proofs.Demand.{place-same, chosen-most, edge-kept, edge-length}
+use Rattle.segment.proofs.Demand.{place-same, chosen-most, edge-kept}
 use Rattle.plane.proofs.Everywhere.{every-edge}
 
 -- none of columns by rows samples that lie in rows of stride samples

@@ -1,19 +1,17 @@
 -- The edge of a cell: that the table's thresholds are its own, and that a checked plane has room for it.
 -- Assumes nothing.
-use mathlib.Core.Path.{_≡_, refl, sym, ap, _∙_}
+use mathlib.Core.Path.{_≡_, refl, sym, _∙_}
 use mathlib.Core.Bool.{Bool, true, false, not}
-use mathlib.Core.List.{List, [], _∷_}
-use Prim.Native.Nat.{ℕ, _+_, _*_, _/_, _%_, _≤_, _<_, min}
+use mathlib.Core.List.{List, []}
+use Prim.Native.Nat.{ℕ, _*_, _/_, _%_, _≤_, min}
 use native.Mathlib.Omega.{arith}
 use borrow.Author.Needs.{needs}
-use lib.Dec.{eqb}
-use lib.ListN.{length, getD}
-use Rattle.laws.specs.Choose.{pick, pick-yes, told-yes-not}
+use lib.ListN.{getD}
+use Rattle.laws.specs.Choose.{pick-yes, told-yes-not}
 use Rattle.rules.specs.declared.edge.Edge.{Edge}
 use Rattle.rules.specs.declared.settings.Plane.{Plane}
-use Rattle.rules.specs.declared.refusals.Found.the-variants.{Nothing}
 use Rattle.rules.specs.Numbers.{depthOk}
-use Rattle.rules.specs.Lengths.{pairOf, reachBefore, reachAfter}
+use Rattle.rules.specs.Lengths.{pairOf}
 use Rattle.rules.specs.Thresholds.{bothOf}
 use Rattle.rules.specs.Segment.{hasRoom}
 use Rattle.rules.specs.Plane.{cellOf, cellBefore, marksOf, indicesOf, indexAt, shortenedAt, edgeAt, isEdge, edgeRoom, lacksRoom, lacksRow, lacksDir}
@@ -21,7 +19,7 @@ use Rattle.thresholds.proofs.Packed.{edge-q, edge-side}
 use Rattle.thresholds.proofs.TwoBlocks.{both-most}
 use Rattle.scan.proofs.First.{nothing-all, unless-nothing}
 use Rattle.segment.specs.Fit.{InPlane}
-use Rattle.cells.specs.Fit.{Sizes, Cell, Ready, oneWay, sized, marked}
+use Rattle.cells.specs.Fit.{Cell, oneWay, sized, marked}
 use Rattle.cells.proofs.Places.{pair-below}
 use Rattle.cells.proofs.Reach.{inner-by}
 use Rattle.plane.specs.Run.{Table, Levels, IsEdgeAt, Field}

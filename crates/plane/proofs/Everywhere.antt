@@ -1,12 +1,12 @@
 -- Every edge that an accepted plane's run visits has room and accepted numbers, so that whatever holds of one edge holds at each of the run's.
 -- Assumes nothing.
-use mathlib.Core.Path.{_≡_, refl, sym, ap, _∙_}
+use mathlib.Core.Path.{_≡_, refl, sym, _∙_}
 use mathlib.Core.Bool.{Bool, true, false}
-use mathlib.Core.List.{List, [], _∷_, _++_}
-use Prim.Native.Nat.{ℕ, _+_, _*_, _-_, _≤_, _<_}
+use mathlib.Core.List.{List, [], _∷_}
+use Prim.Native.Nat.{ℕ, _+_, _*_, _-_, _<_}
 use native.Mathlib.Omega.{arith}
 use lib.Dec.{eqb}
-use lib.ListN.{length, getD}
+use lib.ListN.{length}
 use Rattle.laws.specs.Choose.{pick, pick-yes}
 use Rattle.laws.specs.Loops.{each}
 use Rattle.laws.specs.Lists.{Each, each-append, each-loop}
@@ -14,7 +14,6 @@ use Rattle.rules.specs.declared.edge.Edge.{Edge}
 use Rattle.rules.specs.declared.settings.Plane.{Plane}
 use Rattle.rules.specs.declared.refusals.Answer.the-variants.{Accepted}
 use Rattle.rules.specs.declared.refusals.Found.the-variants.{Nothing}
-use Rattle.rules.specs.Numbers.{depthOk}
 use Rattle.rules.specs.Thresholds.{qThreshold, sideThreshold}
 use Rattle.rules.specs.Segment.{hasRoom}
 use Rattle.rules.specs.Plane.{Grid, isEdge, edgeAt, visitOf, startOf, countOf, sbCols, vertRow, vertSb, horzCol, horzSb, turnOf, edgesOf, edgeRoom, lacksRoom, lacksRow, lacksDir, noRoom, planeCheck}

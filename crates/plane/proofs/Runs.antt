@@ -3,12 +3,11 @@
 use mathlib.Core.Path.{_≡_, refl, sym, ap, _∙_}
 use mathlib.Core.Bool.{Bool, true, false, not}
 use mathlib.Core.List.{List, [], _∷_, _++_}
-use Prim.Native.Nat.{ℕ, zero, suc, _+_, _*_, _-_, _≤_, _<_}
+use Prim.Native.Nat.{ℕ, _+_, _-_, _≤_}
 use native.Mathlib.Nat.{le-antisymm}
 use native.Mathlib.Numerals.{add-one}
-use native.Mathlib.Omega.{arith}
 use borrow.Author.Needs.{needs}
-use Rattle.laws.specs.Choose.{pick, pick-yes, pick-no, told-yes-not, told-no-not}
+use Rattle.laws.specs.Choose.{pick-yes, pick-no, told-yes-not, told-no-not}
 use Rattle.laws.specs.Loops.{each}
 use Rattle.rules.specs.declared.edge.Edge.{Edge}
 use Rattle.rules.specs.declared.settings.Plane.{Plane}
@@ -17,7 +16,7 @@ use Rattle.rules.specs.Segment.{runEdges, segmentOf}
 use Rattle.rules.specs.Plane.{marksOf, indicesOf, indexAt, isEdge, edgeAt, visitOf}
 use Rattle.segment.specs.Fit.{EdgeFiltered}
 use Rattle.cells.specs.Fit.{oneWay, marked}
-use Rattle.plane.specs.Run.{Table, IsEdgeAt, Ran, Field}
+use Rattle.plane.specs.Run.{IsEdgeAt, Ran, Field}
 
 -- ---- lists of edges
 
@@ -55,11 +54,13 @@ module _ (s : Plane) {t : List ℕ} (marks sizes qindex : List ℕ) (dir r c : �
 
   pub visit-edge : not u ≡ false → {e : Edge} {top w : ℕ} {p q : List ℕ} → IsEdgeAt s t (oneWay [] sizes qindex) dir r c e → top ≡ topOf (s .depth) → EdgeFiltered top (s .stride) e p w q → Ran s t (λ steps. visitOf s steps (oneWay marks sizes qindex) dir r c) p q
   unfolding visitOf isEdge marksOf edgeAt indexAt indicesOf runEdges
-  visit-edge there {e} {top} {w} {p} {q} is deep done = record { is = λ steps of.
-    done .plane
-    ∙ ap (λ (n : ℕ). segmentOf n (s .stride) e p) deep
-    ∙ ap (λ (x : Edge). segmentOf (topOf (s .depth)) (s .stride) x p) (is .is steps of)
-    ∙ ap (λ (es : List Edge). runEdges (topOf (s .depth)) (s .stride) es p) (pick-yes _ _ _ (edgeAt s steps (oneWay [] sizes qindex) dir r c ∷ []) (told-yes-not _ u edge there) refl) }
+  visit-edge there {e} {top} {w} {p} {q} is deep done = record {
+    is = λ steps of.
+        done .plane
+        ∙ ap (λ (n : ℕ). segmentOf n (s .stride) e p) deep
+        ∙ ap (λ (x : Edge). segmentOf (topOf (s .depth)) (s .stride) x p) (is .is steps of)
+        ∙ ap (λ (es : List Edge). runEdges (topOf (s .depth)) (s .stride) es p) (pick-yes _ _ _ (edgeAt s steps (oneWay [] sizes qindex) dir r c ∷ []) (told-yes-not _ u edge there) refl);
+  }
 
 pub ruleset visits = (needs, visit-none, visit-edge)
 

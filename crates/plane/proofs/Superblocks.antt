@@ -1,18 +1,16 @@
 -- Superblock columns: where one starts and ends, and their edges as the loops run them.
 -- Assumes nothing.
-use mathlib.Core.Path.{_≡_, refl, sym, ap, _∙_}
-use mathlib.Core.List.{List, [], _∷_, _++_}
-use Prim.Native.Nat.{ℕ, zero, suc, _+_, _*_, _-_, _/_, _^_, _≤_, _<_, min}
-use native.Mathlib.Nat.{suc-mul, one-mul, le-div-iff-mul-le, div-le-self, le-antisymm}
+use mathlib.Core.Path.{_≡_, refl}
+use mathlib.Core.List.{List, []}
+use Prim.Native.Nat.{ℕ, suc, _+_, _*_, _-_, _≤_, _<_, min}
+use native.Mathlib.Nat.{suc-mul, one-mul, le-div-iff-mul-le, div-le-self}
 use native.Mathlib.Omega.{arith}
 use borrow.Author.Needs.{needs}
 use borrow.Author.Tests.{eq-eqb, ne-eqb}
 use mir.Val.{Fits}
 use mir.Syntax.{w64}
-use lib.Dec.{eqb}
 use Rattle.laws.specs.Choose.{pick}
 use Rattle.laws.specs.Loops.{each}
-use Rattle.rules.specs.declared.edge.Edge.{Edge}
 use Rattle.rules.specs.declared.settings.Plane.{Plane}
 use Rattle.rules.specs.Segment.{runEdges}
 use Rattle.rules.specs.Plane.{grid, marksOf, indicesOf, indexAt, isEdge, edgeAt, visitOf, startOf, countOf, sbCols, vertRow, vertSb, horzCol, horzSb, turnOf, edgesOf}

@@ -2,21 +2,20 @@
 use cells::grid::bad_cell;
 use cells::room::no_room;
 use cells::samples::over_plane;
-use cells::sizes::{lengths_ok, sizes_ok};
+use cells::sizes::lengths_ok;
+use cells::sizes::sizes_ok;
 use rules::depth::Depth;
 use rules::refusals::Answer;
 use rules::refusals::Found;
 use rules::refusals::Refusal;
 use rules::settings::Plane;
-use thresholds::checks::{deltas_check, steps_check};
+use thresholds::checks::deltas_check;
+use thresholds::checks::steps_check;
 ghost use mathlib.Core.Path.{_≡_};
-ghost use mathlib.Core.Bool.{true};
 ghost use mathlib.Core.List.{List};
 ghost use Prim.Native.Nat.{ℕ};
 ghost use lib.ListN.{length};
-ghost use Rattle.rules.specs.Numbers.{depthOk};
-ghost use Rattle.rules.specs.Plane.{grid, planeLengthsOk, planeCheck};
-ghost use Rattle.cells.specs.Fit.{Sizes};
+ghost use Rattle.rules.specs.Plane.{grid, planeCheck};
 ghost use Rattle.plane.specs.Checked.{Sized, gridCheck};
 
 // The checks of what the lists hold, 6, 7 and 8, whatever the qindex.
@@ -40,7 +39,16 @@ fn grid_check(plane: &[u16], vedge: &[u8], hedge: &[u8], sqw: &[u8], sqh: &[u8],
 }
 
 // The first refusal of a plane, or none.
-pub fn plane_check(plane: &[u16], vedge: &[u8], hedge: &[u8], sqw: &[u8], sqh: &[u8], qindex: &[u16], steps: &[u32], s: Plane) -> Answer
+pub fn plane_check(
+    plane: &[u16],
+    vedge: &[u8],
+    hedge: &[u8],
+    sqw: &[u8],
+    sqh: &[u8],
+    qindex: &[u16],
+    steps: &[u32],
+    s: Plane,
+) -> Answer
     ensures { λ a. ⌜ a ≡ planeCheck s (now (steps .entry)) (grid (now (vedge .entry)) (now (hedge .entry)) (now (sqw .entry)) (now (sqh .entry)) (now (qindex .entry))) (now (plane .entry)) ⌝ }
 {
     if !Depth::is(s.depth) {

@@ -1,8 +1,12 @@
 // The edge of a cell: its place, its pair of lengths, and its thresholds from a table by qindex.
-use cells::pair::{cell_before, cell_of, pair_at};
+use cells::pair::cell_before;
+use cells::pair::cell_of;
+use cells::pair::pair_at;
 use rules::edge::Edge;
 use rules::settings::Plane;
-use thresholds::by_qindex::{entry, q_of, side_of};
+use thresholds::by_qindex::entry;
+use thresholds::by_qindex::q_of;
+use thresholds::by_qindex::side_of;
 ghost use mathlib.Core.Path.{_≡_};
 ghost use mathlib.Core.List.{[]};
 ghost use Prim.Native.Nat.{_*_, _≤_};
@@ -13,7 +17,15 @@ ghost use Rattle.cells.specs.Fit.{Sizes, Inner, Indices, oneWay};
 ghost use Rattle.plane.specs.Run.{Levels, IsEdgeAt};
 
 // The edge of a cell that has one.
-pub fn edge_at(sizes: &[u8], qindex: &[u16], table: &[u32; 1416], s: Plane, dir: usize, r: usize, c: usize) -> Edge
+pub fn edge_at(
+    sizes: &[u8],
+    qindex: &[u16],
+    table: &[u32; 1416],
+    s: Plane,
+    dir: usize,
+    r: usize,
+    c: usize,
+) -> Edge
     requires { ⌜ Sizes s × Inner s dir r c × Indices s (now sizes) × (s .rows * s .cols ≤ length (now qindex)) × Levels (now table) × (depthOk (s .depth) ≡ true) ⌝ }
     ensures { λ e. ⌜ IsEdgeAt s (now (table .entry)) (oneWay [] (now (sizes .entry)) (now (qindex .entry))) dir r c e ⌝ }
 {

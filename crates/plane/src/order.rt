@@ -14,7 +14,17 @@ ghost use Rattle.cells.specs.Fit.{Sizes, Cell, oneWay};
 ghost use Rattle.plane.specs.Run.{Field, Ran};
 
 // The edge of one cell, where it has one.
-fn visit(plane: &mut [u16], marks: &[u8], sizes: &[u8], qindex: &[u16], table: &[u32; 1416], s: Plane, dir: usize, r: usize, c: usize)
+fn visit(
+    plane: &mut [u16],
+    marks: &[u8],
+    sizes: &[u8],
+    qindex: &[u16],
+    table: &[u32; 1416],
+    s: Plane,
+    dir: usize,
+    r: usize,
+    c: usize,
+)
     requires { ⌜ Field s (now marks) (now sizes) (now qindex) (now table) (length (now plane)) dir × Cell s r c ⌝ }
     ensures { λ _. ⌜ Ran s (now (table .entry)) (λ steps. visitOf s steps (oneWay (now (marks .entry)) (now (sizes .entry)) (now (qindex .entry))) dir r c) (now (plane .entry)) (now (plane .exit)) ⌝ }
 {
@@ -27,7 +37,17 @@ fn visit(plane: &mut [u16], marks: &[u8], sizes: &[u8], qindex: &[u16], table: &
 }
 
 // The vertical edges of count columns of row r, from start.
-fn vert_row(plane: &mut [u16], vedge: &[u8], sqw: &[u8], qindex: &[u16], table: &[u32; 1416], s: Plane, start: usize, count: usize, r: usize)
+fn vert_row(
+    plane: &mut [u16],
+    vedge: &[u8],
+    sqw: &[u8],
+    qindex: &[u16],
+    table: &[u32; 1416],
+    s: Plane,
+    start: usize,
+    count: usize,
+    r: usize,
+)
     requires { ⌜ Field s (now vedge) (now sqw) (now qindex) (now table) (length (now plane)) 0 × (r < s .rows) × (start + count ≤ s .cols) ⌝ }
     ensures { λ _. ⌜ Ran s (now (table .entry)) (λ steps. vertRow s steps (oneWay (now (vedge .entry)) (now (sqw .entry)) (now (qindex .entry))) start count r) (now (plane .entry)) (now (plane .exit)) ⌝ }
 {
@@ -37,7 +57,15 @@ fn vert_row(plane: &mut [u16], vedge: &[u8], sqw: &[u8], qindex: &[u16], table: 
 }
 
 // The horizontal edges of column c.
-fn horz_col(plane: &mut [u16], hedge: &[u8], sqh: &[u8], qindex: &[u16], table: &[u32; 1416], s: Plane, c: usize)
+fn horz_col(
+    plane: &mut [u16],
+    hedge: &[u8],
+    sqh: &[u8],
+    qindex: &[u16],
+    table: &[u32; 1416],
+    s: Plane,
+    c: usize,
+)
     requires { ⌜ Field s (now hedge) (now sqh) (now qindex) (now table) (length (now plane)) 1 × (c < s .cols) ⌝ }
     ensures { λ _. ⌜ Ran s (now (table .entry)) (λ steps. horzCol s steps (oneWay (now (hedge .entry)) (now (sqh .entry)) (now (qindex .entry))) c) (now (plane .entry)) (now (plane .exit)) ⌝ }
 {
@@ -56,7 +84,15 @@ fn count(s: Plane, sb: usize) -> usize
 }
 
 // A superblock column's vertical edges.
-fn vert_sb(plane: &mut [u16], vedge: &[u8], sqw: &[u8], qindex: &[u16], table: &[u32; 1416], s: Plane, sb: usize)
+fn vert_sb(
+    plane: &mut [u16],
+    vedge: &[u8],
+    sqw: &[u8],
+    qindex: &[u16],
+    table: &[u32; 1416],
+    s: Plane,
+    sb: usize,
+)
     requires { ⌜ Field s (now vedge) (now sqw) (now qindex) (now table) (length (now plane)) 0 × (sb < sbCols s) ⌝ }
     ensures { λ _. ⌜ Ran s (now (table .entry)) (λ steps. vertSb s steps (oneWay (now (vedge .entry)) (now (sqw .entry)) (now (qindex .entry))) sb) (now (plane .entry)) (now (plane .exit)) ⌝ }
 {
@@ -69,7 +105,15 @@ fn vert_sb(plane: &mut [u16], vedge: &[u8], sqw: &[u8], qindex: &[u16], table: &
 }
 
 // A superblock column's horizontal edges.
-fn horz_sb(plane: &mut [u16], hedge: &[u8], sqh: &[u8], qindex: &[u16], table: &[u32; 1416], s: Plane, sb: usize)
+fn horz_sb(
+    plane: &mut [u16],
+    hedge: &[u8],
+    sqh: &[u8],
+    qindex: &[u16],
+    table: &[u32; 1416],
+    s: Plane,
+    sb: usize,
+)
     requires { ⌜ Field s (now hedge) (now sqh) (now qindex) (now table) (length (now plane)) 1 × (sb < sbCols s) ⌝ }
     ensures { λ _. ⌜ Ran s (now (table .entry)) (λ steps. horzSb s steps (oneWay (now (hedge .entry)) (now (sqh .entry)) (now (qindex .entry))) sb) (now (plane .entry)) (now (plane .exit)) ⌝ }
 {
@@ -81,7 +125,17 @@ fn horz_sb(plane: &mut [u16], hedge: &[u8], sqh: &[u8], qindex: &[u16], table: &
 }
 
 // A superblock column's vertical edges, then the previous one's horizontal edges.
-fn turn(plane: &mut [u16], vedge: &[u8], hedge: &[u8], sqw: &[u8], sqh: &[u8], qindex: &[u16], table: &[u32; 1416], s: Plane, sb: usize)
+fn turn(
+    plane: &mut [u16],
+    vedge: &[u8],
+    hedge: &[u8],
+    sqw: &[u8],
+    sqh: &[u8],
+    qindex: &[u16],
+    table: &[u32; 1416],
+    s: Plane,
+    sb: usize,
+)
     requires { ⌜ Field s (now vedge) (now sqw) (now qindex) (now table) (length (now plane)) 0 × Field s (now hedge) (now sqh) (now qindex) (now table) (length (now plane)) 1 × (sb < sbCols s) ⌝ }
     ensures { λ _. ⌜ Ran s (now (table .entry)) (λ steps. turnOf s steps (grid (now (vedge .entry)) (now (hedge .entry)) (now (sqw .entry)) (now (sqh .entry)) (now (qindex .entry))) sb) (now (plane .entry)) (now (plane .exit)) ⌝ }
 {
@@ -93,7 +147,16 @@ fn turn(plane: &mut [u16], vedge: &[u8], hedge: &[u8], sqw: &[u8], sqh: &[u8], q
 }
 
 // Every superblock column's turn, and at the end the last one's horizontal edges.
-pub fn run(plane: &mut [u16], vedge: &[u8], hedge: &[u8], sqw: &[u8], sqh: &[u8], qindex: &[u16], table: &[u32; 1416], s: Plane)
+pub fn run(
+    plane: &mut [u16],
+    vedge: &[u8],
+    hedge: &[u8],
+    sqw: &[u8],
+    sqh: &[u8],
+    qindex: &[u16],
+    table: &[u32; 1416],
+    s: Plane,
+)
     requires { ⌜ Field s (now vedge) (now sqw) (now qindex) (now table) (length (now plane)) 0 × Field s (now hedge) (now sqh) (now qindex) (now table) (length (now plane)) 1 ⌝ }
     ensures { λ _. ⌜ Ran s (now (table .entry)) (λ steps. edgesOf s steps (grid (now (vedge .entry)) (now (hedge .entry)) (now (sqw .entry)) (now (sqh .entry)) (now (qindex .entry)))) (now (plane .entry)) (now (plane .exit)) ⌝ }
 {

@@ -11,7 +11,16 @@ ghost use Rattle.rules.specs.Plane.{grid, runPlane};
 ghost use Rattle.plane.specs.Checked.{Checked, Stated};
 
 // Runs every edge of a checked plane; the thresholds of each qindex are made once.
-pub fn run_plane(plane: &mut [u16], vedge: &[u8], hedge: &[u8], sqw: &[u8], sqh: &[u8], qindex: &[u16], steps: &[u32], s: Plane)
+pub fn run_plane(
+    plane: &mut [u16],
+    vedge: &[u8],
+    hedge: &[u8],
+    sqw: &[u8],
+    sqh: &[u8],
+    qindex: &[u16],
+    steps: &[u32],
+    s: Plane,
+)
     requires { ⌜ Checked s (now steps) (grid (now vedge) (now hedge) (now sqw) (now sqh) (now qindex)) (length (now plane)) ⌝ }
     ensures { λ _. ⌜ now (plane .exit) ≡ runPlane s (now (steps .entry)) (grid (now (vedge .entry)) (now (hedge .entry)) (now (sqw .entry)) (now (sqh .entry)) (now (qindex .entry))) (now (plane .entry)) ⌝ }
 {
@@ -21,7 +30,16 @@ pub fn run_plane(plane: &mut [u16], vedge: &[u8], hedge: &[u8], sqw: &[u8], sqh:
 }
 
 // Deblocks a plane, or refuses it and leaves it as lent.
-pub fn deblock_plane(plane: &mut [u16], vedge: &[u8], hedge: &[u8], sqw: &[u8], sqh: &[u8], qindex: &[u16], steps: &[u32], s: Plane) -> Answer
+pub fn deblock_plane(
+    plane: &mut [u16],
+    vedge: &[u8],
+    hedge: &[u8],
+    sqw: &[u8],
+    sqh: &[u8],
+    qindex: &[u16],
+    steps: &[u32],
+    s: Plane,
+) -> Answer
     ensures { λ a. ⌜ Stated s (now (steps .entry)) (grid (now (vedge .entry)) (now (hedge .entry)) (now (sqw .entry)) (now (sqh .entry)) (now (qindex .entry))) (now (plane .entry)) a (now (plane .exit)) ⌝ }
 {
     let a = plane_check(plane, vedge, hedge, sqw, sqh, qindex, steps, s);

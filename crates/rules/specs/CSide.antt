@@ -55,8 +55,12 @@ sampleOf bytes k = getD bytes (2 * k) 0 + 256 * getD bytes (2 * k + 1) 0
 unfoldable pub samplesIn : List ℕ → List ℕ
 samplesIn bytes = each 72 (λ k. sampleOf bytes k ∷ [])
 
+-- byte i of samples: its sample's low byte where i is even, its high byte where not
+unfoldable pub byteAt : List ℕ → ℕ → ℕ
+byteAt l i = pick (eqb (i % 2) 0) (getD l (i / 2) 0 % 256) (getD l (i / 2) 0 / 256)
+
 unfoldable pub bytesOf : List ℕ → List ℕ
-bytesOf l = each 72 (λ k. getD l k 0 % 256 ∷ getD l k 0 / 256 ∷ [])
+bytesOf l = each 144 (λ i. byteAt l i ∷ [])
 
 abbrev pub windowEdge : ℕ → ℕ → ℕ → ℕ → Lone
 windowEdge depth pair q side = record { columns = 18; rows = 4; stride = 18; depth = depth; q = q; side = side; pair = pair; dir = 0; x = 9; y = 0 }

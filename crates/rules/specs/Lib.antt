@@ -15,3 +15,4 @@ pub mod Frame
 pub mod Ccso
 pub mod CSide
 pub mod Figures
+pub mod Orders

@@ -1,6 +1,6 @@
 -- The entry at each of its ways out, and what an accepted answer says of the inputs.
 -- Assumes nothing.
-use mathlib.Core.Path.{_≡_, refl, sym, ap, _∙_}
+use mathlib.Core.Path.{_≡_, refl, sym, _∙_}
 use mathlib.Core.Bool.{Bool, true, false}
 use mathlib.Core.List.{List}
 use Prim.Native.Nat.{ℕ, _≤_, _<_}
@@ -25,7 +25,7 @@ use Rattle.scan.proofs.Checks.{found-bad-by, else-parts, unless-true, found-not
 -- refusal 4, by the place found
 pub steps-bad : (steps : List ℕ) (f : Found) {k : ℕ} → f ≡ badStep steps → f ≡ At k → Refused (Steps k) ≡ stepsCheck steps
 unfolding stepsCheck
-steps-bad steps f e h = found-bad-by (badStep steps) f Steps _ e h refl
+steps-bad steps f {k} e h = found-bad-by (badStep steps) f Steps (Steps k) e h refl
 
 -- a step table with no bad entry
 none-bad : (steps : List ℕ) → badStep steps ≡ Nothing → (length steps ≡ 352) × (first 352 (λ k. foundUnless (stepGood steps k) k) ≡ Nothing)

@@ -1,16 +1,13 @@
 -- Laws of an index held as a gap: the whole number that it is, and its limits.
 -- Assumes nothing.
-use mathlib.Core.Path.{_≡_, refl, sym, ap, _∙_}
-use mathlib.Core.Bool.{Bool, true, false}
+use mathlib.Core.Path.{_≡_, refl, sym, _∙_}
+use mathlib.Core.Bool.{true, false}
 use Prim.Native.Nat.{ℕ, _+_, _*_, _-_, _≤_, _<_, min, max}
 use native.Mathlib.Omega.{arith}
-use borrow.Author.Needs.{needs}
 use borrow.Author.Tests.{leb-true}
-use lib.IntN.{ℤ, pos, negsuc, negℤ, natAbs, _+ℤ_, _-ℤ_, _*ℤ_}
-use lib.Signed.{leZ}
-use lib.Dec.{leb}
-use Rattle.laws.specs.Choose.{both, both-parts, both-bad, both-later, both-ok, is-le, not-le}
-use Rattle.laws.specs.Whole.{Is, over, under, same, self, count, recast, plus, minus, scale, size-is, between, between-is}
+use lib.IntN.{ℤ, pos, negsuc}
+use Rattle.laws.specs.Choose.{both-parts, both-bad, both-later, both-ok, is-le, not-le}
+use Rattle.laws.specs.Whole.{Is, over, under, same, self, count, recast, plus, minus, scale, between, between-is}
 use Rattle.laws.specs.declared.whole.Gap.{Gap}
 use Rattle.rules.specs.Numbers.{deltaOk, inRangeZ}
 use Rattle.rules.specs.Thresholds.{indexOf}

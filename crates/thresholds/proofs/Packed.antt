@@ -1,25 +1,24 @@
--- Laws of the packed thresholds: from qindex 1415 on nothing changes, and an edge's thresholds from two packed numbers.
+-- Laws of the packed thresholds: from lastQindex on nothing changes, and an edge's thresholds from two packed numbers.
 -- Assumes nothing.
-use mathlib.Core.Path.{_≡_, refl, sym, ap, _∙_}
-use mathlib.Core.Bool.{Bool, true, false}
+use mathlib.Core.Path.{_≡_, sym, ap, _∙_}
+use mathlib.Core.Bool.{true, false}
 use mathlib.Core.List.{List}
-use Prim.Native.Nat.{ℕ, _+_, _*_, _-_, _/_, _%_, _≤_, _<_, min, max}
+use Prim.Native.Nat.{ℕ, _+_, _*_, _-_, _/_, _%_, _≤_, min}
 use native.Mathlib.Decide.{decLe}
 use native.Mathlib.Omega.{arith}
 use lib.ListN.{getD, length}
-use lib.IntN.{ℤ, pos, negsuc, _-ℤ_}
+use lib.IntN.{ℤ, pos, _-ℤ_}
 use Rattle.laws.specs.Choose.{pick}
 use Rattle.laws.specs.Loops.{filled, filled-at}
 use Rattle.laws.specs.Whole.{Is, over, under, self, count, plus, minus, scale, between, between-is}
 use Rattle.laws.specs.declared.whole.Gap.{Gap}
 use Rattle.rules.specs.declared.refusals.Answer.the-variants.{Accepted}
 use Rattle.rules.specs.Numbers.{depthOk, deltaOk, highestOf, offsetOf}
-use Rattle.rules.specs.SideTable.{sideTable}
 use Rattle.rules.specs.Thresholds.{indexOf, isZero, stepOf, quantOf, lowered, sideOf, bothOf, stepsCheck, qThreshold, sideThreshold}
 use Rattle.thresholds.specs.Index.{whole, IndexIs}
-use Rattle.thresholds.specs.ByQindex.{packedOf, ByQindex}
+use Rattle.thresholds.specs.ByQindex.{packedOf, lastQindex, ByQindex}
 use Rattle.thresholds.proofs.Indices.{small}
-use Rattle.thresholds.proofs.Quants.{highest, not-zero, q-most}
+use Rattle.thresholds.proofs.Quants.{highest, not-zero}
 use Rattle.thresholds.proofs.SideRule.{entry}
 use Rattle.thresholds.proofs.Sides.{offset-most, side-most}
 
@@ -28,8 +27,8 @@ index-is : (qindex : ℕ) (delta : ℤ) → Is (indexOf qindex delta) (qindex + 
 unfolding indexOf
 index-is qindex delta = plus (pos qindex) _ (count qindex) (scale 8 delta (self delta))
 
--- from 1415 on, the step is that of the highest qindex, and the side threshold that of the last entry
-module _ (d : ℕ) (delta : ℤ) (qindex : ℕ) (ok : depthOk d ≡ true) (fine : deltaOk delta ≡ true) (far : 1415 ≤ qindex) where
+-- from there on, the step is that of the highest qindex, and the side threshold that of the last entry
+module _ (d : ℕ) (delta : ℤ) (qindex : ℕ) (ok : depthOk d ≡ true) (fine : deltaOk delta ≡ true) (far : lastQindex ≤ qindex) where
   last-step : (steps : List ℕ) → stepOf d steps (indexOf qindex delta) ≡ getD steps (highestOf d) 0
   unfolding stepOf pick
   last-step steps =
@@ -48,22 +47,22 @@ module _ (d : ℕ) (delta : ℤ) (qindex : ℕ) (ok : depthOk d ≡ true) (fine 
       ap (λ (k : ℕ). lowered d (entry k)) b
 
 module _ (d : ℕ) (steps : List ℕ) (deltaq deltaside : ℤ) (ok : depthOk d ≡ true) (fineq : deltaOk deltaq ≡ true) (fineside : deltaOk deltaside ≡ true) where
-  last-packed : (qindex : ℕ) → 1415 ≤ qindex → packedOf d steps deltaq deltaside qindex ≡ quantOf (getD steps (highestOf d) 0) * 65536 + lowered d (entry 295)
+  last-packed : (qindex : ℕ) → lastQindex ≤ qindex → packedOf d steps deltaq deltaside qindex ≡ quantOf (getD steps (highestOf d) 0) * 65536 + lowered d (entry 295)
   unfolding packedOf
   last-packed qindex far = rw (last-step d deltaq qindex ok fineq far steps, last-side d deltaside qindex ok fineside far)
 
-  -- every qindex by one of 0 to 1415
-  limited : (qindex : ℕ) → packedOf d steps deltaq deltaside (min qindex 1415) ≡ packedOf d steps deltaq deltaside qindex
-  limited qindex = elim (decLe 1415 qindex) [
-    | yes far ↦ let m : min qindex 1415 ≡ 1415 = omega arith in rw m (last-packed 1415 (omega arith) ∙ sym (last-packed qindex far))
-    | no near ↦ let m : min qindex 1415 ≡ qindex = omega arith in rw m
+  -- every qindex by one of 0 to lastQindex
+  limited : (qindex : ℕ) → packedOf d steps deltaq deltaside (min qindex lastQindex) ≡ packedOf d steps deltaq deltaside qindex
+  limited qindex = elim (decLe lastQindex qindex) [
+    | yes far ↦ let m : min qindex lastQindex ≡ lastQindex = omega arith in rw m (last-packed lastQindex (omega arith) ∙ sym (last-packed qindex far))
+    | no near ↦ let m : min qindex lastQindex ≡ qindex = omega arith in rw m
   ]
 
   -- a list filled with them is the table
   pub by-qindex : (start : List ℕ) (n : ℕ) {table : List ℕ} → length start ≡ 1416 → n ≡ 1416 → table ≡ filled start (packedOf d steps deltaq deltaside) n → ByQindex d steps deltaq deltaside table
   by-qindex start n long full e =
       record {
-        at = λ qindex. rw (e, filled-at start (packedOf d steps deltaq deltaside) 0 n (min qindex 1415) (omega arith) (omega arith)) (limited qindex);
+        at = λ qindex. rw (e, filled-at start (packedOf d steps deltaq deltaside) 0 n (min qindex lastQindex) (omega arith) (omega arith)) (limited qindex);
       }
 
 -- a packed number, the deltas read from where the machine held them

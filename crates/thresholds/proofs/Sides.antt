@@ -2,21 +2,18 @@
 -- Assumes nothing.
 use mathlib.Core.Path.{_≡_, refl, sym, ap, _∙_}
 use mathlib.Core.Bool.{true}
-use mathlib.Core.List.{List}
 use Prim.Native.Nat.{ℕ, _+_, _*_, _-_, _/_, _%_, _^_, _≤_, _<_}
 use native.Mathlib.Nat.{zero-div}
 use native.Mathlib.Omega.{arith}
-use lib.ListN.{getD}
 use lib.IntN.{ℤ, pos, negsuc, _+ℤ_, _-ℤ_}
 use lib.Signed.{mag}
 use mir.Syntax.{w16}
 use mir.Val.{toZ, ofZ}
 use mir.Facts.{toZ-ofZ}
 use Rattle.laws.specs.Choose.{pick}
-use Rattle.laws.specs.Whole.{Is, over, under, self, count, recast, plus, minus, between}
+use Rattle.laws.specs.Whole.{Is, over, under, self, count, plus, minus, between}
 use Rattle.laws.specs.declared.whole.Gap.{Gap}
 use Rattle.rules.specs.Numbers.{depthOk, shiftOf, offsetOf}
-use Rattle.rules.specs.SideTable.{sideTable}
 use Rattle.rules.specs.Thresholds.{lowered, sideOf}
 use Rattle.rules.proofs.Depths.{by-depth}
 use Rattle.thresholds.specs.Index.{whole}

@@ -8,7 +8,7 @@ use lib.IntN.{ℤ}
 use Rattle.rules.specs.declared.refusals.Answer.the-variants.{Accepted}
 use Rattle.rules.specs.declared.refusals.Thresholds.{Thresholds}
 use Rattle.rules.specs.Numbers.{depthOk}
-use Rattle.rules.specs.Thresholds.{indexOf, quantOf, stepOf, sideOf, stepsCheck, qThreshold, sideThreshold, thresholdsOf}
+use Rattle.rules.specs.Thresholds.{indexOf, stepsCheck, qThreshold, sideThreshold, thresholdsOf}
 use Rattle.thresholds.proofs.Quants.{q-most}
 use Rattle.thresholds.proofs.Sides.{side-most}
 use Rattle.thresholds.proofs.TwoBlocks.{both-most}

@@ -12,6 +12,10 @@ unfoldable pub packedOf : ℕ → List ℕ → ℤ → ℤ → ℕ → ℕ
 packedOf depth steps deltaq deltaside qindex =
     quantOf (stepOf depth steps (indexOf qindex deltaq)) * 65536 + sideOf depth (indexOf qindex deltaside)
 
--- the table answers for every qindex: from 1415 on, all are alike
+-- from this qindex on all are alike, at every depth and delta: 8·128 + 96 + 295
+abbrev pub lastQindex : ℕ
+lastQindex = 1415
+
+-- the table answers for every qindex
 pub record ByQindex (depth : ℕ) (steps : List ℕ) (deltaq deltaside : ℤ) (table : List ℕ) : Type 0 where
-  pub at : (qindex : ℕ) → getD table (min qindex 1415) 0 ≡ packedOf depth steps deltaq deltaside qindex
+  pub at : (qindex : ℕ) → getD table (min qindex lastQindex) 0 ≡ packedOf depth steps deltaq deltaside qindex

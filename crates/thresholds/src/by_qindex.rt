@@ -11,7 +11,7 @@ ghost use lib.ListN.{getD};
 ghost use Rattle.rules.specs.declared.refusals.Answer.the-variants.{Accepted};
 ghost use Rattle.rules.specs.Numbers.{depthOk, deltaOk};
 ghost use Rattle.rules.specs.Thresholds.{bothOf, stepsCheck};
-ghost use Rattle.thresholds.specs.ByQindex.{packedOf, ByQindex};
+ghost use Rattle.thresholds.specs.ByQindex.{packedOf, lastQindex, ByQindex};
 
 // Both thresholds of a block, packed.
 fn packed(qindex: u16, deltaq: i32, deltaside: i32, depth: Depth, steps: &[u32]) -> u32
@@ -37,7 +37,7 @@ pub fn thresholds_by_qindex(deltaq: i32, deltaside: i32, depth: Depth, steps: &[
 
 // A block's entry.
 pub fn entry(table: &[u32; 1416], qindex: u16) -> u32
-    ensures { λ r. ⌜ r ≡ getD (now (table .entry)) (min qindex 1415) 0 ⌝ }
+    ensures { λ r. ⌜ r ≡ getD (now (table .entry)) (min qindex lastQindex) 0 ⌝ }
 {
     let k = qindex as usize;
     if k < 1415 { table[k] } else { table[1415] }

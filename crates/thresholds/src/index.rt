@@ -6,7 +6,6 @@ ghost use mathlib.Core.Bool.{true};
 ghost use Prim.Native.Nat.{_≤_};
 ghost use Rattle.laws.specs.Whole.{between};
 ghost use Rattle.rules.specs.Numbers.{deltaOk};
-ghost use Rattle.rules.specs.Thresholds.{indexOf};
 ghost use Rattle.thresholds.specs.Index.{whole, IndexIs};
 
 // The index i of a block.

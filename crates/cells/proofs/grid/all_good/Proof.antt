@@ -1,5 +1,5 @@
+-- `all_good` meets its contract. Assumes nothing.
 use Rattle.cells.proofs.Marks.{goods}
-use borrow.Author.Needs.{needs}
 use Rattle.cells.proofs.grid.all_good.Statement.{statement}
 use Rattle.cells.proofs.grid.all_good.Tie as tie
 

@@ -1,6 +1,6 @@
+-- `bad_cell` meets its contract. Assumes nothing.
 use Rattle.cells.proofs.Marks.{bad-is, good-none}
 use Rattle.cells.proofs.Marks.{bads}
-use borrow.Author.Needs.{needs}
 use Rattle.cells.proofs.grid.bad_cell.Statement.{statement}
 use Rattle.cells.proofs.grid.bad_cell.Tie as tie
 

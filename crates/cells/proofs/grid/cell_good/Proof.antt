@@ -1,6 +1,6 @@
+-- `cell_good` meets its contract. Assumes nothing.
 use Rattle.rules.specs.Plane.{cellGood}
 use Rattle.laws.specs.Choose.{tests}
-use borrow.Author.Needs.{needs}
 use Rattle.cells.proofs.grid.cell_good.Statement.{statement}
 use Rattle.cells.proofs.grid.cell_good.Tie as tie
 

@@ -1,3 +1,4 @@
+-- `first_bad` meets its contract: the invariant says that no cell passed is bad. Assumes nothing.
 use mathlib.Core.Path.{_≡_}
 use mathlib.Core.List.{[]}
 use Prim.Native.Nat.{_≤_, _-_}

@@ -1,3 +1,4 @@
+-- `most` meets its contract: the invariant says that no number passed is over the largest so far. Assumes nothing.
 use Prim.Native.Nat.{_≤_, _-_}
 use Rattle.cells.specs.Fit.{Within}
 use Rattle.cells.proofs.Marks.{most}

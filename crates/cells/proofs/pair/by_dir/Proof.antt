@@ -1,3 +1,4 @@
+-- `by_dir` meets its contract. Assumes nothing.
 use Rattle.laws.specs.Choose.{tests}
 use Rattle.cells.proofs.pair.by_dir.Statement.{statement}
 use Rattle.cells.proofs.pair.by_dir.Tie as tie

@@ -1,6 +1,6 @@
+-- `capped` meets its contract. Assumes nothing.
 use Rattle.rules.specs.Plane.{cappedOf}
 use Rattle.laws.specs.Choose.{tests}
-use borrow.Author.Needs.{needs}
 use Rattle.cells.proofs.pair.capped.Statement.{statement}
 use Rattle.cells.proofs.pair.capped.Tie as tie
 

@@ -1,5 +1,5 @@
+-- `cell_before` meets its contract. Assumes nothing.
 use Rattle.cells.proofs.Places.{places}
-use borrow.Author.Needs.{needs}
 use Rattle.cells.proofs.pair.cell_before.Statement.{statement}
 use Rattle.cells.proofs.pair.cell_before.Tie as tie
 

@@ -1,3 +1,4 @@
+-- `cell_of` meets its contract. Assumes nothing.
 use Rattle.cells.proofs.Places.{places}
 use Rattle.cells.proofs.pair.cell_of.Statement.{statement}
 use Rattle.cells.proofs.pair.cell_of.Tie as tie

@@ -1,8 +1,8 @@
+-- `index_at` meets its contract. Assumes nothing.
 use mathlib.Core.List.{[]}
 use Rattle.cells.proofs.Places.{indices-one}
 use Rattle.rules.specs.Plane.{indexAt}
 use Rattle.cells.proofs.Places.{places}
-use borrow.Author.Needs.{needs}
 use Rattle.cells.proofs.pair.index_at.Statement.{statement}
 use Rattle.cells.proofs.pair.index_at.Tie as tie
 

@@ -1,5 +1,5 @@
+-- `is_edge` meets its contract. Assumes nothing.
 use Rattle.cells.proofs.Places.{places}
-use borrow.Author.Needs.{needs}
 use Rattle.cells.proofs.pair.is_edge.Statement.{statement}
 use Rattle.cells.proofs.pair.is_edge.Tie as tie
 

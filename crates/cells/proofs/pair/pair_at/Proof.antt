@@ -1,5 +1,5 @@
+-- `pair_at` meets its contract. Assumes nothing.
 use Rattle.cells.proofs.Places.{places}
-use borrow.Author.Needs.{needs}
 use Rattle.cells.proofs.pair.pair_at.Statement.{statement}
 use Rattle.cells.proofs.pair.pair_at.Tie as tie
 

@@ -1,6 +1,6 @@
+-- `shortened_at` meets its contract. Assumes nothing.
 use Rattle.rules.specs.Plane.{shortenedAt}
 use Rattle.laws.specs.Choose.{tests}
-use borrow.Author.Needs.{needs}
 use Rattle.cells.proofs.pair.shortened_at.Statement.{statement}
 use Rattle.cells.proofs.pair.shortened_at.Tie as tie
 

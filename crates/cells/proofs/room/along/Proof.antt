@@ -1,5 +1,5 @@
+-- `along` meets its contract. Assumes nothing.
 use Rattle.laws.specs.Choose.{tests}
-use borrow.Author.Needs.{needs}
 use Rattle.cells.proofs.room.along.Statement.{statement}
 use Rattle.cells.proofs.room.along.Tie as tie
 

@@ -1,5 +1,5 @@
+-- `lacks_ends` meets its contract. Assumes nothing.
 use Rattle.cells.proofs.Reach.{ends}
-use borrow.Author.Needs.{needs}
 use Rattle.cells.proofs.room.lacks_ends.Statement.{statement}
 use Rattle.cells.proofs.room.lacks_ends.Tie as tie
 

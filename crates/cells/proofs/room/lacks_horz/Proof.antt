@@ -1,3 +1,4 @@
+-- `lacks_horz` meets its contract. Assumes nothing.
 use Rattle.cells.proofs.Reach.{ends}
 use Rattle.cells.proofs.room.lacks_horz.Statement.{statement}
 use Rattle.cells.proofs.room.lacks_horz.Tie as tie

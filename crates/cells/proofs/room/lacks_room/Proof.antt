@@ -1,5 +1,5 @@
+-- `lacks_room` meets its contract. Assumes nothing.
 use Rattle.cells.proofs.Reach.{rooms}
-use borrow.Author.Needs.{needs}
 use Rattle.cells.proofs.room.lacks_room.Statement.{statement}
 use Rattle.cells.proofs.room.lacks_room.Tie as tie
 

@@ -1,3 +1,4 @@
+-- `no_room` meets its contract. Assumes nothing.
 use Rattle.cells.proofs.Reach.{both-ways}
 use Rattle.cells.proofs.room.no_room.Statement.{statement}
 use Rattle.cells.proofs.room.no_room.Tie as tie

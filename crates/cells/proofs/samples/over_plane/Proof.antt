@@ -1,3 +1,4 @@
+-- `over_plane` meets its contract. Assumes nothing.
 use Rattle.rules.specs.Plane.{overPlane}
 use borrow.Author.Needs.{needs}
 use Rattle.cells.proofs.samples.over_plane.Statement.{statement}

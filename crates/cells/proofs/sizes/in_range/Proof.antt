@@ -1,3 +1,4 @@
+-- `in_range` meets its contract. Assumes nothing.
 use Rattle.laws.specs.Choose.{tests}
 use Rattle.rules.specs.Numbers.{inRange}
 use Rattle.cells.proofs.sizes.in_range.Statement.{statement}

@@ -1,3 +1,4 @@
+-- `lengths_ok` meets its contract. Assumes nothing.
 use Rattle.laws.specs.Choose.{tests, all-bad, all-ok, all-last}
 use mathlib.Core.Path.{refl}
 use Rattle.rules.specs.Plane.{planeLengthsOk}

@@ -1,3 +1,4 @@
+-- `sizes_ok` meets its contract. Assumes nothing.
 use Rattle.laws.specs.Choose.{tests, all-bad, all-ok, all-last}
 use Rattle.rules.specs.Plane.{planeSizesOk}
 use Rattle.cells.proofs.Accepted.{four-fits}

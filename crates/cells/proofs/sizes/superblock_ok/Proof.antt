@@ -1,3 +1,4 @@
+-- `superblock_ok` meets its contract. Assumes nothing.
 use Rattle.laws.specs.Choose.{tests}
 use Rattle.cells.proofs.sizes.superblock_ok.Statement.{statement}
 use Rattle.cells.proofs.sizes.superblock_ok.Tie as tie

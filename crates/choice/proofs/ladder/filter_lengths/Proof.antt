@@ -1,3 +1,5 @@
+-- `ladder::filter_lengths` meets its contract: each rung by its size index, plane kind and shortening.
+-- Assumes nothing.
 use Rattle.rules.specs.Lengths.{pairOf}
 use Rattle.choice.proofs.Picks.{ladders}
 use borrow.Author.Needs.{needs}

@@ -1,20 +1,23 @@
-use mathlib.Core.List.{[], _∷_}
-use borrow.Author.Needs.{needs}
+-- `pairs::reach_after` meets its contract: one computed test over the table.
+-- Assumes nothing.
 use Rattle.laws.specs.Choose.{pick}
-use Rattle.rules.specs.Lengths.{reachAfter, reachOf, lengthAfter}
 use Rattle.choice.proofs.Lengths.{table-is}
+use Rattle.rules.specs.Lengths.{reachAfter, reachOf, lengthAfter}
+use mathlib.Core.List.{[], _∷_}
+use mathlib.Core.Path.{_∙_}
+use borrow.Author.Needs.{needs}
 use Rattle.choice.proofs.pairs.reach_after.Statement.{statement}
 use Rattle.choice.proofs.pairs.reach_after.Tie as tie
 
-mul-result : tie.Need-mul-result
-mul-result c = search needs
+array-read-wide : tie.Need-array-read-wide
+array-read-wide c = search needs
 
-array-read-result : tie.Need-array-read-result
-array-read-result c = search needs
+wide-requires : tie.Need-wide-requires
+wide-requires c κs = search needs
 
 returns : tie.Need-returns
 unfolding reachAfter reachOf lengthAfter pick
-returns c = table-is reachAfter (3 ∷ 4 ∷ 7 ∷ 8 ∷ 8 ∷ 5 ∷ 4 ∷ 5 ∷ []) tt (c .args .pair) (c .pre)
+returns c = c .wide .ensures ∙ table-is reachAfter (3 ∷ 4 ∷ 7 ∷ 8 ∷ 8 ∷ 5 ∷ 4 ∷ 5 ∷ []) tt (c .before .args .pair) (c .before .pre)
 
 pub reach-after-spec : {M : Type 1} → statement M
-reach-after-spec = tie.close (tie.spec mul-result array-read-result returns)
+reach-after-spec = tie.close (tie.spec array-read-wide wide-requires returns)

@@ -3,7 +3,6 @@
 use Rattle.choice.proofs.Averages.{twice-yes, twice-not, twice-is}
 use Rattle.choice.proofs.Picks.{and-le, and-gt}
 use Rattle.rules.specs.Width.{steepOf}
-use mathlib.Core.Path.{sym, _∙_}
 use borrow.Author.Needs.{needs}
 use Rattle.choice.proofs.ramps.steep.Statement.{statement}
 use Rattle.choice.proofs.ramps.steep.Tie as tie

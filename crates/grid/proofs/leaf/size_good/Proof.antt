@@ -5,12 +5,15 @@ use Rattle.grid.specs.Fit.{sizeGood}
 use Rattle.grid.proofs.leaf.size_good.Statement.{statement}
 use Rattle.grid.proofs.leaf.size_good.Tie as tie
 
+wide-requires : tie.Need-wide-requires
+wide-requires c κs = search needs
+
 is-size-requires : tie.Need-is-size-requires
 is-size-requires c κs = search needs
 
 returns : tie.Need-returns
 unfolding sizeGood pick
-returns c = rw (c .before .if1 .taken) (c .is-size .ensures)
+returns c = rw (c .before .before .if1 .taken, ← c .before .wide .ensures) (c .is-size .ensures)
 
 bare-requires : tie.Need-bare-requires
 bare-requires c κs = search needs
@@ -24,4 +27,5 @@ returns-2 c = rw (c .before .before .if1 .left, ← c .before .bare .ensures) (c
 
 pub size-good-spec : {M : Type 1} → statement M
 size-good-spec =
-    tie.close (tie.spec is-size-requires returns bare-requires is-size-requires-2 returns-2)
+    tie.close
+    (tie.spec wide-requires is-size-requires returns bare-requires is-size-requires-2 returns-2)

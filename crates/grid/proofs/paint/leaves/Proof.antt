@@ -3,11 +3,11 @@ use mathlib.Core.Path.{_≡_}
 use Prim.Native.Nat.{_-_, _≤_}
 use lib.ListN.{length}
 use borrow.Author.Needs.{needs}
-use Rattle.laws.specs.Loops.{turns}
+use Rattle.laws.specs.Loops.{turns, turns-more}
 use Rattle.rules.specs.TuGrid.{marks, paintOf, leafOf, leavesOf}
 use Rattle.grid.proofs.Painted.{leaf-more}
 use Rattle.grid.proofs.Leaves.{leaf-placed}
-use Rattle.grid.proofs.Turns.{loops, turns-more}
+use Rattle.grid.proofs.Turns.{loops}
 use Rattle.grid.proofs.paint.leaves.Statement.{statement}
 use Rattle.grid.proofs.paint.leaves.Tie as tie
 

@@ -3,9 +3,9 @@ use mathlib.Core.Path.{_≡_}
 use Prim.Native.Nat.{_-_, _≤_}
 use lib.ListN.{length}
 use borrow.Author.Needs.{needs}
-use Rattle.laws.specs.Loops.{turns}
+use Rattle.laws.specs.Loops.{turns, turns-more}
 use Rattle.rules.specs.TuGrid.{marks, paintRow, paintOf}
-use Rattle.grid.proofs.Turns.{loops, turns-more}
+use Rattle.grid.proofs.Turns.{loops}
 use Rattle.grid.proofs.paint.paint.Statement.{statement}
 use Rattle.grid.proofs.paint.paint.Tie as tie
 

@@ -1,6 +1,6 @@
 -- `superblock` is the smaller of the cell's entry and the last one. Assumes nothing.
 use borrow.Author.Needs.{needs}
-use Rattle.grid.proofs.Shifts.{line-fits, superblock-fits, superblock-is, superblock-last}
+use Rattle.grid.proofs.Shifts.{line-fits, superblock-fits, superblock-is}
 use Rattle.grid.proofs.qindex_grid.superblock.Statement.{statement}
 use Rattle.grid.proofs.qindex_grid.superblock.Tie as tie
 
@@ -16,15 +16,15 @@ mul-i c = line-fits _ _ _ (c .before .before .luma .ensures) (search needs) (sea
 add-i : tie.Need-add-i
 add-i c = superblock-fits _ _ _ (c .before .before .luma .ensures) (search needs) (search needs) _ (search needs) _ _ _ (c .before .luma2 .ensures) (search needs) (search needs)
 
+sub-last : tie.Need-sub-last
+sub-last c = search needs
+
+least-requires : tie.Need-least-requires
+least-requires c κs = search needs
+
 returns : tie.Need-returns
-returns c = superblock-is _ _ _ _ _ _ (c .before .before .before .luma .ensures) (c .before .before .luma2 .ensures) (c .if1 .taken)
-
-sub-result : tie.Need-sub-result
-sub-result c = search needs
-
-returns-2 : tie.Need-returns-2
-returns-2 c = superblock-last _ _ _ _ _ _ (c .before .before .before .luma .ensures) (c .before .before .luma2 .ensures) (c .if1 .left)
+returns c = superblock-is _ _ _ _ _ _ _ (c .before .before .before .luma .ensures) (c .before .before .luma2 .ensures) (c .least .ensures)
 
 pub superblock-spec : {M : Type 1} → statement M
 superblock-spec =
-    tie.close (tie.spec luma-requires luma-requires-2 mul-i add-i returns sub-result returns-2)
+    tie.close (tie.spec luma-requires luma-requires-2 mul-i add-i sub-last least-requires returns)

@@ -1,4 +1,5 @@
 -- `leaves_ok` looks for a bad leaf, then for a bad skip leaf. Assumes nothing.
+use mathlib.Core.Path.{refl}
 use borrow.Author.Needs.{needs}
 use Rattle.rules.specs.declared.refusals.Refusal.the-variants.{Leaf}
 use Rattle.scan.proofs.Checks.{stop, go-on, found-bad-by, found-good-by}
@@ -12,7 +13,7 @@ enum-known-f : tie.Need-enum-known-f
 enum-known-f c = search needs
 
 returns : tie.Need-returns
-returns c = stop _ _ (found-bad-by _ _ Leaf (c .before .before .before .bad-leaf .ensures) (c .before .f .given .1))
+returns c = stop _ _ (found-bad-by _ _ Leaf _ (c .before .before .before .bad-leaf .ensures) (c .before .f .given .1) refl)
 
 enum-told : tie.Need-enum-told
 enum-told c = search needs
@@ -24,7 +25,7 @@ enum-known-g : tie.Need-enum-known-g
 enum-known-g c = search needs
 
 returns-2 : tie.Need-returns-2
-returns-2 c = go-on _ _ _ (found-good-by _ _ Leaf (c .before .before .before .before .before .before .bad-leaf .ensures) (c .before .before .before .before .enum-told .given .1)) (found-bad-by _ _ Leaf (c .before .before .before .bad-leaf2 .ensures) (c .before .g .given .1))
+returns-2 c = go-on _ _ _ (found-good-by _ _ Leaf (c .before .before .before .before .before .before .bad-leaf .ensures) (c .before .before .before .before .enum-told .given .1)) (found-bad-by _ _ Leaf _ (c .before .before .before .bad-leaf2 .ensures) (c .before .g .given .1) refl)
 
 enum-told-2 : tie.Need-enum-told-2
 enum-told-2 c = search needs

@@ -1,5 +1,5 @@
+-- `edge_at` meets its contract. Assumes nothing.
 use Rattle.plane.proofs.Edges.{edges}
-use borrow.Author.Needs.{needs}
 use Rattle.plane.proofs.edge.edge_at.Statement.{statement}
 use Rattle.plane.proofs.edge.edge_at.Tie as tie
 

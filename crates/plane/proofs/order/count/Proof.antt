@@ -1,5 +1,5 @@
+-- `count` meets its contract. Assumes nothing.
 use Rattle.plane.proofs.Superblocks.{blocks}
-use borrow.Author.Needs.{needs}
 use Rattle.plane.proofs.order.count.Statement.{statement}
 use Rattle.plane.proofs.order.count.Tie as tie
 

@@ -1,5 +1,6 @@
+-- `horz_col` meets its contract: the invariant says that the rows passed have run. Assumes nothing.
 use Rattle.plane.proofs.Runs.{field-same, ran-more, ran-end}
-use Prim.Native.Nat.{_+_, _-_, _≤_}
+use Prim.Native.Nat.{_-_, _≤_}
 use lib.ListN.{length}
 use mathlib.Core.Path.{_≡_}
 use Rattle.laws.specs.Loops.{each}

@@ -1,3 +1,4 @@
+-- `horz_sb` meets its contract: the invariant says that the columns passed have run. Assumes nothing.
 use native.Mathlib.Omega.{arith}
 use borrow.Author.Needs.{needs}
 use Prim.Native.Nat.{_+_, _-_, _≤_}
@@ -13,7 +14,7 @@ use Rattle.plane.proofs.order.horz_sb.Statement.{statement}
 use Rattle.plane.proofs.order.horz_sb.Tie as tie
 
 abbrev Inv-loop : tie.InvT-loop
-Inv-loop plane₀ hedge sqh qindex table s sb n start j₀ plane j = 
+Inv-loop plane₀ hedge sqh qindex table s sb n start j₀ plane j =
     (j ≤ n) × Ran s table (λ steps. each j (λ k. horzCol s steps (oneWay hedge sqh qindex) (start + k))) plane₀ plane × (length plane ≡ length plane₀)
 
 abbrev μ-loop : tie.MeasureT-loop

@@ -1,6 +1,7 @@
+-- `run` meets its contract: the invariant says that the superblock columns passed have had their turn. Assumes nothing.
 use native.Mathlib.Omega.{arith}
 use borrow.Author.Needs.{needs}
-use Prim.Native.Nat.{_+_, _-_, _≤_}
+use Prim.Native.Nat.{_-_, _≤_}
 use lib.ListN.{length}
 use mathlib.Core.Path.{_≡_, refl}
 use Rattle.laws.specs.Loops.{each}
@@ -12,7 +13,7 @@ use Rattle.plane.proofs.order.run.Statement.{statement}
 use Rattle.plane.proofs.order.run.Tie as tie
 
 abbrev Inv-loop : tie.InvT-loop
-Inv-loop plane₀ vedge hedge sqw sqh qindex table s n sb₀ plane sb = 
+Inv-loop plane₀ vedge hedge sqw sqh qindex table s n sb₀ plane sb =
     (sb ≤ n) × Ran s table (λ steps. each sb (λ k. turnOf s steps (grid vedge hedge sqw sqh qindex) k)) plane₀ plane × (length plane ≡ length plane₀)
 
 abbrev μ-loop : tie.MeasureT-loop

@@ -1,4 +1,4 @@
-use native.Mathlib.Omega.{arith}
+-- `turn` meets its contract. Assumes nothing.
 use borrow.Author.Needs.{needs}
 use Rattle.plane.proofs.Runs.{field-same}
 use Rattle.plane.proofs.Superblocks.{turn-first, turn-later}

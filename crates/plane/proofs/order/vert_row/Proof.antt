@@ -1,3 +1,4 @@
+-- `vert_row` meets its contract: the invariant says that the columns passed have run. Assumes nothing.
 use Rattle.plane.proofs.Runs.{field-same, ran-more, ran-end}
 use Prim.Native.Nat.{_+_, _-_, _≤_}
 use lib.ListN.{length}

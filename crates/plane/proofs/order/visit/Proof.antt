@@ -1,9 +1,9 @@
+-- `visit` meets its contract. Assumes nothing.
 use Rattle.cells.proofs.Accepted.{rows-fit}
 use Rattle.plane.proofs.Runs.{visit-none, visit-edge}
 use Rattle.plane.proofs.Edges.{asked}
 use Rattle.plane.proofs.Edges.{edges}
 use Rattle.plane.proofs.Runs.{visits}
-use borrow.Author.Needs.{needs}
 use Rattle.plane.proofs.order.visit.Statement.{statement}
 use Rattle.plane.proofs.order.visit.Tie as tie
 

@@ -1,3 +1,4 @@
+-- `deblock_plane` meets its contract. Assumes nothing.
 use borrow.Author.Needs.{needs}
 use Rattle.plane.proofs.Accepting.{stated-refused, stated-run, checked-by}
 use Rattle.plane.proofs.run.deblock_plane.Statement.{statement}
@@ -19,13 +20,13 @@ enum-told : tie.Need-enum-told
 enum-told c = search needs
 
 run-plane-requires : tie.Need-run-plane-requires
-run-plane-requires c κs = checked-by _ _ _ _ (c .before .before .before .plane-check .ensures) (c .before .enum-told .given)
+run-plane-requires c κs = checked-by _ _ _ _ (c .before .before .before .plane-check .ensures) (search needs)
 
 same-length-2 : tie.Need-same-length-2
 same-length-2 c = search needs
 
 returns-2 : tie.Need-returns-2
-returns-2 c = stated-run _ _ _ _ (c .before .before .before .before .before .before .plane-check .ensures) (c .before .before .before .before .enum-told .given) (c .before .before .run-plane .ensures)
+returns-2 c = stated-run _ _ _ _ (c .before .before .before .before .before .before .plane-check .ensures) (search needs) (c .before .before .run-plane .ensures)
 
 pub deblock-plane-spec : {M : Type 1} → statement M
 deblock-plane-spec =

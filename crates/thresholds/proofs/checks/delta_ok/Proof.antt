@@ -1,6 +1,6 @@
 -- `delta_ok` is the two tests of a delta. Assumes nothing.
 use native.Mathlib.Omega.{arith}
-use lib.IntN.{pos, negsuc}
+use lib.IntN.{negsuc}
 use mir.Syntax.{w32}
 use mir.Val.{toZ, ofZ}
 use mir.Facts.{toZ-ofZ}

@@ -2,8 +2,7 @@
 use mathlib.Core.Path.{_≡_}
 use mir.Facts.{toZ-ofZ}
 use denote.Ref.{now}
-use Rattle.rules.specs.Numbers.{deltaOk}
-use Rattle.rules.specs.Thresholds.{thresholdsCheck, qThreshold, sideThreshold}
+use Rattle.rules.specs.Thresholds.{thresholdsCheck}
 use Rattle.thresholds.proofs.Accepted.{entry-refused, entry-both, depth-good, steps-good, q-good, side-good}
 use borrow.Author.Needs.{needs}
 use Rattle.thresholds.proofs.combine.combine_thresholds.Statement.{statement}

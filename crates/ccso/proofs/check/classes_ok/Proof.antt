@@ -1,0 +1,24 @@
+use Rattle.ccso.specs.Checks.{classesOk}
+use Rattle.laws.specs.Choose.{tests}
+use Rattle.ccso.proofs.check.classes_ok.Statement.{statement}
+use Rattle.ccso.proofs.check.classes_ok.Tie as tie
+use Rattle.ccso.proofs.check.classes_ok.Reads as reads
+use Rattle.ccso.proofs.check.classes_ok.Lts as lts
+
+-- src/check.rt:81:9
+returns : tie.Need-returns
+unfolding classesOk
+returns c = search tests
+
+-- src/check.rt:84:9
+returns-2 : tie.Need-returns-2
+unfolding classesOk
+returns-2 c = search tests
+
+-- src/check.rt:77:1
+returns-3 : tie.Need-returns-3
+unfolding classesOk
+returns-3 c = search tests
+
+pub classes-ok-spec : {M : Type 1} → statement M
+classes-ok-spec = tie.close (tie.spec returns returns-2 returns-3)

@@ -1,0 +1,73 @@
+-- Both thresholds as C is answered them: from the entry's answer on the steps that the bytes hold.
+-- Assumes nothing.
+use mathlib.Core.Path.{_≡_, refl, sym, ap, ap₂, _∙_, subst}
+use mathlib.Core.Bool.{Bool, true, false}
+use mathlib.Core.List.{List}
+use Prim.Native.Nat.{ℕ, _+_, _*_, _≤_, _<_}
+use native.Mathlib.Omega.{arith}
+use borrow.Author.Tests.{eq-eqb, ne-eqb}
+use lib.ListN.{length}
+use lib.IntN.{ℤ, pos, negsuc, negℤ}
+use Rattle.rules.specs.declared.refusals.Refusal.{Refusal}
+use Rattle.rules.specs.declared.refusals.Answer.{Answer}
+use Rattle.rules.specs.declared.refusals.Answer.the-variants.{Accepted, Refused}
+use Rattle.rules.specs.declared.refusals.Thresholds.{Thresholds}
+use Rattle.rules.specs.declared.refusals.Thresholds.the-variants.{Both, Refused as «NoThresholds»}
+use Rattle.rules.specs.Numbers.{depthOk}
+use Rattle.rules.specs.Refusals.{numberOf, orElse, unless}
+use Rattle.rules.specs.Thresholds.{qThreshold, sideThreshold, stepsCheck, deltasCheck, thresholdsCheck, answerThresholds, thresholdsOf}
+use Rattle.rules.specs.CSide.{cAnswer, stepsIn, cThresholdsCheck, cThresholds}
+use Rattle.scan.proofs.Checks.{go-on, unless-good, else-parts}
+use Rattle.thresholds.proofs.Unique.{q-range, side-range}
+use Rattle.cside.proofs.Numbers.{answer-refused, answer-accepted}
+
+-- what an answer of both kinds says of the check behind it
+from-both : (a : Answer) (Q S : ℕ) {q s : ℕ} → Both q s ≡ answerThresholds a Q S → (Accepted ≡ a) × (q ≡ Q) × (s ≡ S)
+unfolding answerThresholds
+from-both Accepted Q S e = (refl, cc, cc)
+from-both (Refused r) Q S e = absurd (let z : _≡_ {A = ℕ} 0 1 = cc in omega arith)
+
+from-refused : (a : Answer) (Q S : ℕ) {r : Refusal} → «NoThresholds» r ≡ answerThresholds a Q S → Refused r ≡ a
+unfolding answerThresholds
+from-refused Accepted Q S e = absurd (let z : _≡_ {A = ℕ} 0 1 = cc in omega arith)
+from-refused (Refused r) Q S e = cc
+
+module _ (curr prev : ℕ) (deltaq deltaside : ℤ) (depth : ℕ) (bytes : List ℕ) where
+  pub bad-depth : false ≡ depthOk depth → negsuc 0 ≡ cThresholds curr prev deltaq deltaside depth bytes
+  unfolding cThresholds cThresholdsCheck orElse unless cAnswer
+  bad-depth e = rw (← e)
+
+  pub bad-length : true ≡ depthOk depth → (length bytes ≡ 1408 → ⊥) → negsuc 3 ≡ cThresholds curr prev deltaq deltaside depth bytes
+  unfolding cThresholds cThresholdsCheck orElse unless cAnswer
+  bad-length e n = rw (← e, ne-eqb _ _ n)
+
+  module _ (d : true ≡ depthOk depth) (long : length bytes ≡ 1408) where
+    -- the C side's check is the entry's where depth and length are good
+    check-is : (a : Answer) → a ≡ thresholdsCheck depth (stepsIn 352 bytes) deltaq deltaside → a ≡ cThresholdsCheck depth bytes deltaq deltaside
+    unfolding cThresholdsCheck orElse unless
+    check-is a e = rw (← d, eq-eqb _ _ long) e
+
+    module _ {steps : List ℕ} {t : Thresholds} {dq ds : ℤ} (table : steps ≡ stepsIn 352 bytes) (told′ : t ≡ thresholdsOf curr prev dq ds depth steps) (eq : dq ≡ deltaq) (es : ds ≡ deltaside) where
+      told : t ≡ thresholdsOf curr prev deltaq deltaside depth steps
+      told = rw (eq, es) at told′
+
+      parts : {q s : ℕ} → t ≡ Both q s → (Accepted ≡ thresholdsCheck depth steps deltaq deltaside) × (q ≡ qThreshold depth steps curr prev deltaq) × (s ≡ sideThreshold depth curr prev deltaside)
+      unfolding thresholdsOf
+      parts e = from-both _ _ _ (sym e ∙ told)
+
+      pub both-range : {q s : ℕ} → t ≡ Both q s → (q ≤ 2048) × (s ≤ 839)
+      unfolding thresholdsCheck
+      both-range e =
+          let p = parts e in
+          let rest = else-parts _ _ (sym (p .0)) .1 in
+          (omega (arith, p .1, q-range depth curr prev deltaq (sym d) steps (else-parts _ _ rest .0)), omega (arith, p .2, side-range depth curr prev deltaside (sym d)))
+
+      pub told-both : {q s : ℕ} → t ≡ Both q s → pos (q * 65536 + s) ≡ cThresholds curr prev deltaq deltaside depth bytes
+      unfolding cThresholds
+      told-both e =
+          let p = parts e in
+          answer-accepted _ _ (check-is Accepted (rw table at (p .0))) (rw (← table) (ap₂ (λ (q s : ℕ). q * 65536 + s) (p .1) (p .2)))
+
+      pub told-refused : {r : Refusal} → t ≡ «NoThresholds» r → negℤ (pos (numberOf r)) ≡ cThresholds curr prev deltaq deltaside depth bytes
+      unfolding cThresholds thresholdsOf
+      told-refused {r} e = answer-refused _ _ (check-is (Refused r) (rw table at (from-refused _ _ _ (sym e ∙ told))))

@@ -1,0 +1,4 @@
+pub mod Fills
+pub mod Numbers
+pub mod Blocks
+pub mod Windows

@@ -1,0 +1,79 @@
+-- `bihargesh_segment` answers and leaves the window as document 01's C side says. Assumes nothing.
+use mathlib.Core.Path.{sym, _∙_}
+use native.Mathlib.Omega.{arith}
+use borrow.Author.Needs.{needs}
+use borrow.Author.Tests.{not-true, not-false}
+use Rattle.cside.proofs.Numbers.{held, held-minus}
+use Rattle.cside.proofs.Windows.{bad-depth, bad-length, width-range, told-width, told-refused}
+use Rattle.cside.proofs.window.bihargesh_segment.Statement.{statement}
+use Rattle.cside.proofs.window.bihargesh_segment.Tie as tie
+
+is-requires : tie.Need-is-requires
+is-requires c κs = search needs
+
+returns : tie.Need-returns
+returns c = bad-depth _ _ _ _ _ (sym (not-true _ (c .if1 .taken)) ∙ c .before .is .ensures)
+
+returns-2 : tie.Need-returns-2
+returns-2 c = bad-length _ _ _ _ _ (sym (not-false _ (c .before .if1 .left)) ∙ c .before .before .is .ensures) (c .if2 .taken)
+
+samples-requires : tie.Need-samples-requires
+samples-requires c κs = search needs
+
+slice-aggregate-filter-lone : tie.Need-slice-aggregate-filter-lone
+slice-aggregate-filter-lone c = search needs
+
+filter-lone-requires : tie.Need-filter-lone-requires
+filter-lone-requires c κs = search needs
+
+enum-known-w : tie.Need-enum-known-w
+enum-known-w c = search needs
+
+put-samples-requires : tie.Need-put-samples-requires
+put-samples-requires c κs = search needs
+
+width-requires : tie.Need-width-requires
+width-requires c κs = width-range _ _ _ _ _ (sym (not-false _ (c .before .before .before .before .before .before .before .before .before .before .before .before .before .before .if1 .left)) ∙ c .before .before .before .before .before .before .before .before .before .before .before .before .before .before .before .is .ensures) (c .before .before .before .before .before .before .before .before .before .before .before .before .before .if2 .left) (c .before .before .before .before .before .before .before .before .before .before .before .samples .ensures) (c .before .before .before .before .before .before .before .before .before .filter-lone .ensures .0) (c .before .before .before .before .before .before .before .before .before .filter-lone .ensures .1) (c .before .before .before .before .before .before .w .given .1)
+
+enum-known-r : tie.Need-enum-known-r
+enum-known-r c = search needs
+
+minus-requires : tie.Need-minus-requires
+minus-requires c κs = search needs
+
+same-length : tie.Need-same-length
+same-length c = search needs
+
+returns-3 : tie.Need-returns-3
+returns-3 c =
+    let most = width-range _ _ _ _ _ (sym (not-false _ (c .before .before .before .before .before .before .before .before .before .before .before .before .before .before .before .if1 .left)) ∙ c .before .before .before .before .before .before .before .before .before .before .before .before .before .before .before .before .is .ensures) (c .before .before .before .before .before .before .before .before .before .before .before .before .before .before .if2 .left) (c .before .before .before .before .before .before .before .before .before .before .before .before .samples .ensures) (c .before .before .before .before .before .before .before .before .before .before .filter-lone .ensures .0) (c .before .before .before .before .before .before .before .before .before .before .filter-lone .ensures .1) (c .before .before .before .before .before .before .before .w .given .1) in
+    let told = told-width _ _ _ _ _ (sym (not-false _ (c .before .before .before .before .before .before .before .before .before .before .before .before .before .before .before .if1 .left)) ∙ c .before .before .before .before .before .before .before .before .before .before .before .before .before .before .before .before .is .ensures) (c .before .before .before .before .before .before .before .before .before .before .before .before .before .before .if2 .left) (c .before .before .before .before .before .before .before .before .before .before .before .before .samples .ensures) (c .before .before .before .before .before .before .before .before .before .before .filter-lone .ensures .0) (c .before .before .before .before .before .before .before .before .before .before .filter-lone .ensures .1) (c .before .before .before .before .before .before .before .w .given .1) in
+    (held _ _ (c .width .ensures) (omega arith) ∙ told .0, c .before .before .before .put-samples .ensures ∙ told .1)
+
+same-length-2 : tie.Need-same-length-2
+same-length-2 c = search needs
+
+returns-4 : tie.Need-returns-4
+returns-4 c =
+    let told = told-refused _ _ _ _ _ (sym (not-false _ (c .before .before .before .before .before .before .before .before .before .before .if1 .left)) ∙ c .before .before .before .before .before .before .before .before .before .before .before .is .ensures) (c .before .before .before .before .before .before .before .before .before .if2 .left) (c .before .before .before .before .before .before .before .samples .ensures) (c .before .before .before .before .before .filter-lone .ensures .0) (c .before .before .before .before .before .filter-lone .ensures .1) (c .before .before .r .given .1) in
+    (held-minus _ (c .before .before .r .given .0 .0) (c .minus .ensures) ∙ told .0, told .1)
+
+pub bihargesh-segment-spec : {M : Type 1} → statement M
+bihargesh-segment-spec =
+    tie.close
+    (tie.spec
+    is-requires
+    returns
+    returns-2
+    samples-requires
+    slice-aggregate-filter-lone
+    filter-lone-requires
+    enum-known-w
+    put-samples-requires
+    width-requires
+    enum-known-r
+    minus-requires
+    same-length
+    returns-3
+    same-length-2
+    returns-4)

@@ -1,0 +1,39 @@
+// What C is answered: the number asked for, or minus the number of a refusal.
+use rules::refusals::Refusal;
+ghost use mathlib.Core.Path.{_≡_};
+ghost use Prim.Native.Nat.{_+_, _*_, _≤_};
+ghost use lib.IntN.{pos, negℤ};
+ghost use Rattle.rules.specs.Refusals.{numberOf};
+
+// Minus the number of a refusal.
+pub fn minus(r: Refusal) -> i32
+    ensures { λ n. ⌜ n ≡ negℤ (pos (numberOf r)) ⌝ }
+{
+    match r {
+        Refusal::Depth => -1,
+        Refusal::Size => -2,
+        Refusal::Length => -3,
+        Refusal::Steps(_) => -4,
+        Refusal::Setting => -5,
+        Refusal::Cell(_) => -6,
+        Refusal::Room(_) => -7,
+        Refusal::Sample(_) => -8,
+        Refusal::Leaf(_) => -9,
+    }
+}
+
+// Both thresholds in one number, q above side.
+pub fn packed(q: u32, side: u32) -> i32
+    requires { ⌜ (q ≤ 2048) × (side ≤ 839) ⌝ }
+    ensures { λ n. ⌜ n ≡ pos (q * 65536 + side) ⌝ }
+{
+    (q * 65536 + side) as i32
+}
+
+// A width.
+pub fn width(w: usize) -> i32
+    requires { ⌜ w ≤ 8 ⌝ }
+    ensures { λ n. ⌜ n ≡ pos w ⌝ }
+{
+    w as i32
+}

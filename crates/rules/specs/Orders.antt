@@ -1,0 +1,73 @@
+-- Document 01, "Order of checks: 1,2,3,4,5,9,6,7,8": inputs with two faults at once, each refused by the earlier one. Computed from the rules.
+-- Assumes nothing.
+use mathlib.Core.Path.{_≡_, refl}
+use mathlib.Core.Bool.{true, false}
+use mathlib.Core.List.{List, [], _∷_, _++_}
+use Prim.Native.Nat.{ℕ}
+use lib.IntN.{ℤ, pos}
+use Rattle.laws.specs.Choose.{pick, either, both, all}
+use Rattle.rules.specs.declared.settings.Lone.{Lone}
+use Rattle.rules.specs.declared.settings.TuGrid.{TuGrid}
+use Rattle.rules.specs.declared.refusals.Refusal.the-variants.{Depth, Size, Length, Steps, Setting, Room, Sample, Leaf}
+use Rattle.rules.specs.declared.refusals.Answer.the-variants.{Accepted, Refused}
+use Rattle.rules.specs.Numbers.{depthOk, topOf, inRange, inRangeZ, deltaOk, subsamplingOk}
+use Rattle.rules.specs.Refusals.{orElse, unless, found, sooner, first, foundIf, foundUnless, over, overRow, overBox}
+use Rattle.rules.specs.Thresholds.{stepGood, badStep, stepsCheck, deltasCheck, thresholdsCheck}
+use Rattle.rules.specs.Lengths.{lengthBefore, lengthAfter, reachOf, reachBefore, reachAfter}
+use Rattle.rules.specs.Segment.{hasRoom}
+use Rattle.rules.specs.Lone.{edgeOf, sizesOk, settingsOk, overEdge, loneCheck}
+use Rattle.rules.specs.TuGrid.{Marks, marks, flagOf, bareOf, isSize, cellsOk, capOk, foursOk, leafGood, leafGoodAt, badLeaf, marksLong, txGridCheck}
+use Rattle.rules.specs.Figures.{flat}
+
+-- a lone segment on four rows of sixteen samples, with settings that may be bad
+abbrev lone : ℕ → ℕ → ℕ → ℕ → Lone
+lone depth columns q x = record { columns = columns; rows = 4; stride = 16; depth = depth; q = q; side = 40; pair = 3; dir = 0; x = x; y = 0 }
+
+-- a TU grid of one cell, with a cap that may be bad
+abbrev cell : ℕ → ℕ → TuGrid
+cell cols cap = record { cols = cols; rows = 1; ssx = 0; ssy = 0; capw = cap; caph = 8 }
+
+abbrev one : Marks
+one = marks (0 ∷ []) (0 ∷ []) (0 ∷ []) (0 ∷ [])
+
+abbrev none : Marks
+none = marks [] [] [] []
+
+-- leaf 1 is bad
+abbrev bad : List ℕ
+bad = 0 ∷ 0 ∷ 1 ∷ 1 ∷ 0 ∷ 0 ∷ 3 ∷ 1 ∷ []
+
+pub record Orders : Type 0 where
+  pub thresholds-1-4 : thresholdsCheck 9 [] (pos 0) (pos 0) ≡ Refused Depth
+  pub thresholds-4-5 : thresholdsCheck 8 [] (pos 128) (pos 0) ≡ Refused (Steps 0)
+  pub lone-1-2 : loneCheck (lone 9 0 8 8) [] ≡ Refused Depth
+  pub lone-2-3 : loneCheck (lone 8 0 8 8) [] ≡ Refused Size
+  pub lone-3-5 : loneCheck (lone 8 16 2049 8) [] ≡ Refused Length
+  pub lone-5-7 : loneCheck (lone 8 16 2049 0) (flat 100 108) ≡ Refused Setting
+  pub lone-7-8 : loneCheck (lone 8 16 8 7) (flat 256 108) ≡ Refused (Room 0)
+  pub lone-8 : loneCheck (lone 8 16 8 8) (flat 100 256) ≡ Refused (Sample 8)
+  pub lone-good : loneCheck (lone 8 16 8 8) (flat 100 108) ≡ Accepted
+  pub grid-2-3 : txGridCheck (cell 0 8) (0 ∷ []) [] one ≡ Refused Size
+  pub grid-3-5 : txGridCheck (cell 1 3) [] [] none ≡ Refused Length
+  pub grid-5-9 : txGridCheck (cell 1 3) bad [] one ≡ Refused Setting
+  pub grid-9 : txGridCheck (cell 1 8) bad (0 ∷ 0 ∷ 4097 ∷ 1 ∷ []) one ≡ Refused (Leaf 1)
+  pub grid-skip : txGridCheck (cell 1 8) [] (0 ∷ 0 ∷ 4097 ∷ 1 ∷ []) one ≡ Refused (Leaf 0)
+
+pub orders : Orders
+unfolding pick either both all depthOk topOf inRange inRangeZ deltaOk subsamplingOk orElse unless found sooner first foundIf foundUnless over overRow overBox stepGood badStep stepsCheck deltasCheck thresholdsCheck lengthBefore lengthAfter reachOf reachBefore reachAfter hasRoom edgeOf sizesOk settingsOk overEdge loneCheck flagOf bareOf isSize cellsOk capOk foursOk leafGood leafGoodAt badLeaf marksLong txGridCheck
+orders = record {
+  thresholds-1-4 = refl;
+  thresholds-4-5 = refl;
+  lone-1-2 = refl;
+  lone-2-3 = refl;
+  lone-3-5 = refl;
+  lone-5-7 = refl;
+  lone-7-8 = refl;
+  lone-8 = refl;
+  lone-good = refl;
+  grid-2-3 = refl;
+  grid-3-5 = refl;
+  grid-5-9 = refl;
+  grid-9 = refl;
+  grid-skip = refl;
+}

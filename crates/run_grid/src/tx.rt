@@ -1,0 +1,194 @@
+// One TU grid: what the entry is asked, and what the stream says that it answers.
+ghost use Prim.Native.Nat.{_≤_};
+ghost use lib.ListN.{length};
+use crate::tally;
+use crate::tally::Tally;
+use cases::Cursor;
+use cases::Listed;
+use grid::tx_grid::build_tx_grid;
+use rules::settings::TuGrid;
+
+// The settings and what follows them.
+struct Asked {
+    s: TuGrid,
+    rest: Cursor,
+}
+
+// How long two lists are, and what follows them.
+struct Two {
+    a: usize,
+    b: usize,
+    rest: Cursor,
+}
+
+// The answer, and what follows it.
+struct Told {
+    number: usize,
+    place: usize,
+    rest: Cursor,
+}
+
+fn settings(text: &[u8], c: Cursor) -> Asked {
+    let cols = cases::read_unsigned(text, c, 4294967295);
+    let rows = cases::read_unsigned(text, cols.rest, 4294967295);
+    let ssx = cases::read_unsigned(text, rows.rest, 4294967295);
+    let ssy = cases::read_unsigned(text, ssx.rest, 4294967295);
+    let capw = cases::read_unsigned(text, ssy.rest, 4294967295);
+    let caph = cases::read_unsigned(text, capw.rest, 4294967295);
+    let rest = caph.rest;
+    Asked {
+        s: TuGrid {
+            cols: cols.value,
+            rows: rows.value,
+            ssx: ssx.value,
+            ssy: ssy.value,
+            capw: capw.value,
+            caph: caph.value,
+        },
+        rest,
+    }
+}
+
+// A number that fits no u16 is bad in a leaf, and so is 65535.
+fn narrow(n: u32) -> u16 {
+    if n < 65536 { n as u16 } else { 65535 }
+}
+
+// A list of leaves.
+fn read_leaves(text: &[u8], c: Cursor, to: &mut [u16]) -> Listed
+    requires { ⌜ 16384 ≤ length (now to) ⌝ }
+    ensures { λ r. ⌜ r .length ≤ length (now (to .exit)) ⌝ }
+{
+    let mut wide = [0u32; 16384];
+    let l = cases::read_u32s(text, c, &mut wide);
+    for i in 0..16384 {
+        to[i] = narrow(wide[i]);
+    }
+    l
+}
+
+// Two lists of marks or size indices.
+fn read_two(text: &[u8], c: Cursor, a: &mut [u8], b: &mut [u8]) -> Two
+    ensures { λ r. ⌜ (r .a ≤ length (now (a .entry))) × (r .b ≤ length (now (b .entry))) ⌝ }
+{
+    let x = cases::read_u8s(text, c, a);
+    let y = cases::read_u8s(text, x.rest, b);
+    let rest = y.rest;
+    Two {
+        a: x.length,
+        b: y.length,
+        rest,
+    }
+}
+
+fn read_told(text: &[u8], c: Cursor) -> Told {
+    let number = cases::read_unsigned(text, c, 9);
+    let place = cases::read_unsigned(text, number.rest, 4294967295);
+    let rest = place.rest;
+    Told {
+        number: number.value,
+        place: place.value,
+        rest,
+    }
+}
+
+// Where a list's entries start: the lent lists have their lengths before them.
+fn entries(text: &[u8], c: Cursor, counted: bool) -> Cursor {
+    if !counted {
+        return c;
+    }
+    let n = cases::read_unsigned(text, c, 4294967295);
+    n.rest
+}
+
+// Whether the four lists are the stream's.
+fn held(
+    text: &[u8],
+    c: Cursor,
+    counted: bool,
+    vedge: &[u8],
+    hedge: &[u8],
+    sqw: &[u8],
+    sqh: &[u8],
+) -> bool {
+    let v = cases::hold_u8s(text, entries(text, c, counted), vedge);
+    let h = cases::hold_u8s(text, entries(text, v.rest, counted), hedge);
+    let w = cases::hold_u8s(text, entries(text, h.rest, counted), sqw);
+    let t = cases::hold_u8s(text, entries(text, w.rest, counted), sqh);
+    v.same && h.same && w.same && t.same
+}
+
+// The entry's answer and its lists, held against the stream's: the new ones of an accepted case, the lent ones of a refused case.
+fn compare(
+    text: &[u8],
+    lent: Cursor,
+    told: Told,
+    s: TuGrid,
+    leaves: &[u16],
+    skips: &[u16],
+    vedge: &mut [u8],
+    hedge: &mut [u8],
+    sqw: &mut [u8],
+    sqh: &mut [u8],
+) -> bool {
+    let answer = build_tx_grid(leaves, skips, vedge, hedge, sqw, sqh, s);
+    let number = told.number;
+    if !tally::same(answer, number, told.place) {
+        return false;
+    }
+    if number == 0 {
+        return held(text, told.rest, false, vedge, hedge, sqw, sqh);
+    }
+    held(text, lent, true, vedge, hedge, sqw, sqh)
+}
+
+// The lists after the leaves, and the answer.
+fn replay_lists(
+    text: &[u8],
+    lent: Cursor,
+    s: TuGrid,
+    leaves: &[u16],
+    skips: &[u16],
+    t: Tally,
+) -> Tally {
+    let mut vedge = [0u8; 16384];
+    let mut hedge = [0u8; 16384];
+    let mut sqw = [0u8; 16384];
+    let mut sqh = [0u8; 16384];
+    let marks = read_two(text, lent, &mut vedge, &mut hedge);
+    let indices = read_two(text, marks.rest, &mut sqw, &mut sqh);
+    let told = read_told(text, indices.rest);
+    let rest = told.rest;
+    if !rest.good {
+        return tally::unread(t);
+    }
+    let v = marks.a;
+    let h = marks.b;
+    let w = indices.a;
+    let n = indices.b;
+    let same = compare(
+        text,
+        lent,
+        told,
+        s,
+        leaves,
+        skips,
+        &mut vedge[..v],
+        &mut hedge[..h],
+        &mut sqw[..w],
+        &mut sqh[..n],
+    );
+    tally::case(t, told.number, same)
+}
+
+// A line after its kind.
+pub fn replay(text: &[u8], c: Cursor, t: Tally) -> Tally {
+    let mut leaves = [0u16; 16384];
+    let mut skips = [0u16; 16384];
+    let asked = settings(text, c);
+    let l = read_leaves(text, asked.rest, &mut leaves);
+    let k = read_leaves(text, l.rest, &mut skips);
+    let a = l.length;
+    let b = k.length;
+    replay_lists(text, k.rest, asked.s, &leaves[..a], &skips[..b], t)
+}

@@ -1,0 +1,81 @@
+// One case: what the entry is asked, and what the stream says that it answers.
+use crate::tally;
+use crate::tally::Tally;
+use cases::Cursor;
+use rules::refusals::Thresholds;
+use thresholds::combine::combine_thresholds;
+
+// The entry's numbers, the refusal's number or 0, and the answer's two numbers.
+pub struct Case {
+    pub curr: u16,
+    pub prev: u16,
+    pub deltaq: i32,
+    pub deltaside: i32,
+    pub depth: u32,
+    pub number: usize,
+    pub a: usize,
+    pub b: usize,
+    pub good: bool,
+}
+
+// A qindex, and what follows it.
+struct Qindex {
+    value: u16,
+    rest: Cursor,
+}
+
+fn read_qindex(text: &[u8], c: Cursor) -> Qindex {
+    let n = cases::read_unsigned(text, c, 65535);
+    let rest = n.rest;
+    Qindex {
+        value: n.value as u16,
+        rest,
+    }
+}
+
+// A line after its kind.
+pub fn read(text: &[u8], c: Cursor) -> Case {
+    let curr = read_qindex(text, c);
+    let prev = read_qindex(text, curr.rest);
+    let deltaq = cases::read_signed(text, prev.rest);
+    let deltaside = cases::read_signed(text, deltaq.rest);
+    let depth = cases::read_unsigned(text, deltaside.rest, 4294967295);
+    let number = cases::read_unsigned(text, depth.rest, 9);
+    let a = cases::read_unsigned(text, number.rest, 4294967295);
+    let b = cases::read_unsigned(text, a.rest, 4294967295);
+    let end = b.rest;
+    Case {
+        curr: curr.value,
+        prev: prev.value,
+        deltaq: deltaq.value,
+        deltaside: deltaside.value,
+        depth: depth.value as u32,
+        number: number.value,
+        a: a.value,
+        b: b.value,
+        good: end.good,
+    }
+}
+
+// Whether the answer is the stream's.
+fn same(answer: Thresholds, c: Case) -> bool {
+    match answer {
+        Thresholds::Both(q, side) => c.number == 0 && q as usize == c.a && side as usize == c.b,
+        Thresholds::Refused(r) => {
+            rules::refusals::number(r) as usize == c.number && rules::refusals::place(r) == c.a
+        }
+    }
+}
+
+// The entry's answer, held against the stream's.
+pub fn compare(c: Case, steps: &[u32], t: Tally) -> Tally {
+    if !c.good {
+        return tally::unread(t);
+    }
+    let answer = combine_thresholds(c.curr, c.prev, c.deltaq, c.deltaside, c.depth, steps);
+    let counted = tally::count(t, c.number);
+    if same(answer, c) {
+        return counted;
+    }
+    tally::differ(counted)
+}

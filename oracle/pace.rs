@@ -1,0 +1,208 @@
+//! One plane run, by the published Rust's `deblock_plane` or by our `bihargesh_plane`, on equal square planes of depth 8.
+//!
+//!     pace once none|rust|ours SIZE INDEX   one run, for counting instructions; `none` stops where the run would begin
+//!     pace time SIZE INDEX                  medians of 31 runs of each on fresh copies, in nanoseconds: the Rust's, then ours
+//!     pace same SIZE INDEX                  both once: how many edges and changed samples; fails where the planes differ
+
+#[path = "src/random.rs"]
+mod random;
+#[path = "src/rust.rs"]
+mod rust;
+
+// The published files name each other below `crate::av2`.
+use rust as av2;
+
+use random::Random;
+use rust::deblock::{deblock_plane, PlaneCfg, TxLayout};
+use std::hint::black_box;
+use std::process::exit;
+use std::time::Instant;
+
+const RUNS: usize = 31;
+const DEPTH: u32 = 8;
+const SUPERBLOCK: usize = 16;
+/// How far an edge between blocks of a size index reaches to each side, in samples.
+const REACH: [usize; 4] = [3, 4, 7, 8];
+
+#[link(name = "cside", kind = "static")]
+extern "C" {
+    fn bihargesh_plane(
+        plane: *mut u16, plane_len: usize,
+        vedge: *const u8, vedge_len: usize,
+        hedge: *const u8, hedge_len: usize,
+        sqw: *const u8, sqw_len: usize,
+        sqh: *const u8, sqh_len: usize,
+        qindex: *const u16, qindex_len: usize,
+        steps: *const u32, steps_len: usize,
+        cols: usize, rows: usize, stride: usize, width: usize, height: usize, sbw: usize, sbh: usize,
+        chroma: u32, depth: u32, deltaq: i32, deltaside: i32,
+    ) -> i32;
+}
+
+/// A plane and its grid: every edge that has room is marked, all blocks have one size index.
+struct Scene {
+    size: usize,
+    cells: usize,
+    vertical: Vec<u8>,
+    horizontal: Vec<u8>,
+    sizes: Vec<u8>,
+    qindex: Vec<u16>,
+    steps: Vec<u32>,
+    samples: Vec<u16>,
+}
+
+/// Cells of nearly even samples, with small steps from cell to cell, so that every width occurs.
+fn samples(random: &Random, size: usize) -> Vec<u16> {
+    let cells = size / 4;
+    let bases = random.list(cells * cells, 8);
+    let at = |y: usize, x: usize| 60 + ((x + y) / 32) as u64 + bases[y / 4 * cells + x / 4] + random.below(2);
+    (0..size * size).map(|i| at(i / size, i % size) as u16).collect()
+}
+
+impl Scene {
+    fn new(size: usize, index: usize) -> Scene {
+        let random = Random::new(13);
+        let cells = size / 4;
+        let room = |k: usize| (k > 0 && 4 * k >= REACH[index] && 4 * k + REACH[index] <= size) as u8;
+        Scene {
+            size,
+            cells,
+            vertical: (0..cells * cells).map(|i| room(i % cells)).collect(),
+            horizontal: (0..cells * cells).map(|i| room(i / cells)).collect(),
+            sizes: vec![index as u8; cells * cells],
+            qindex: (0..cells * cells).map(|_| random.size(120, 215) as u16).collect(),
+            steps: rust::quant::steps(),
+            samples: samples(&random, size),
+        }
+    }
+
+    fn edges(&self) -> usize {
+        self.vertical.iter().chain(&self.horizontal).filter(|&&mark| mark == 1).count()
+    }
+}
+
+/// The Rust's form of a scene: f32 samples, and marks as bools.
+struct Floats {
+    samples: Vec<f32>,
+    vertical: Vec<bool>,
+    horizontal: Vec<bool>,
+}
+
+impl Floats {
+    fn new(s: &Scene) -> Floats {
+        let bools = |marks: &[u8]| marks.iter().map(|&mark| mark == 1).collect();
+        Floats {
+            samples: s.samples.iter().map(|&v| v as f32).collect(),
+            vertical: bools(&s.vertical),
+            horizontal: bools(&s.horizontal),
+        }
+    }
+}
+
+#[inline(never)]
+fn run_rust(s: &Scene, f: &mut Floats) {
+    let layout = TxLayout {
+        mi_cols: s.cells,
+        mi_rows: s.cells,
+        vedge: &f.vertical,
+        hedge: &f.horizontal,
+        sq_w: &s.sizes,
+        sq_h: &s.sizes,
+        qindex: &s.qindex,
+    };
+    let mut config = PlaneCfg {
+        buf: &mut f.samples,
+        stride: s.size,
+        width: s.size,
+        height: s.size,
+        is_chroma: false,
+        bit_depth: DEPTH,
+        delta_q: 0,
+        delta_side: 0,
+        sb_mi_w: SUPERBLOCK,
+        sb_mi_h: SUPERBLOCK,
+    };
+    deblock_plane(black_box(&mut config), black_box(&layout), true, true);
+}
+
+#[inline(never)]
+fn run_ours(s: &Scene, plane: &mut [u16]) {
+    // SAFETY: each pointer is that of a live list, beside its length.
+    let answer = unsafe {
+        bihargesh_plane(
+            plane.as_mut_ptr(), plane.len(),
+            s.vertical.as_ptr(), s.vertical.len(),
+            s.horizontal.as_ptr(), s.horizontal.len(),
+            s.sizes.as_ptr(), s.sizes.len(),
+            s.sizes.as_ptr(), s.sizes.len(),
+            s.qindex.as_ptr(), s.qindex.len(),
+            s.steps.as_ptr(), s.steps.len(),
+            s.cells, s.cells, s.size, s.size, s.size, SUPERBLOCK, SUPERBLOCK,
+            0, DEPTH, 0, 0,
+        )
+    };
+    assert!(answer == 0, "the plane was refused by {}", -answer);
+}
+
+/// One run of one side, after what every run makes ready.
+fn once(s: &Scene, side: &str) {
+    let mut floats = black_box(Floats::new(s));
+    let mut plane = black_box(s.samples.clone());
+    match side {
+        "rust" => run_rust(s, &mut floats),
+        "ours" => run_ours(s, &mut plane),
+        _ => {}
+    }
+    black_box((&floats.samples, &plane));
+}
+
+fn median(mut times: Vec<u128>) -> u128 {
+    times.sort();
+    times[times.len() / 2]
+}
+
+fn nanoseconds(run: impl FnOnce()) -> u128 {
+    let began = Instant::now();
+    run();
+    began.elapsed().as_nanos()
+}
+
+/// Both sides in turn, so that what else the machine does falls on both alike.
+fn time(s: &Scene) {
+    let (mut theirs, mut ours) = (Vec::new(), Vec::new());
+    for _ in 0..RUNS {
+        let mut floats = Floats::new(s);
+        theirs.push(nanoseconds(|| run_rust(s, &mut floats)));
+        let mut plane = s.samples.clone();
+        ours.push(nanoseconds(|| run_ours(s, &mut plane)));
+    }
+    println!("{} {}", median(theirs), median(ours));
+}
+
+fn same(s: &Scene) {
+    let mut floats = Floats::new(s);
+    let mut plane = s.samples.clone();
+    run_rust(s, &mut floats);
+    run_ours(s, &mut plane);
+    if let Some(at) = (0..plane.len()).find(|&i| plane[i] as f32 != floats.samples[i]) {
+        eprintln!("the planes differ first at offset {at}: the Rust has {}, ours {}", floats.samples[at], plane[at]);
+        exit(1);
+    }
+    let changed = (0..plane.len()).filter(|&i| plane[i] != s.samples[i]).count();
+    println!("{} {changed}", s.edges());
+}
+
+fn main() {
+    let words: Vec<String> = std::env::args().skip(1).collect();
+    let words: Vec<&str> = words.iter().map(String::as_str).collect();
+    let scene = |size: &str, index: &str| Scene::new(size.parse().expect("a size"), index.parse().expect("an index"));
+    match words.as_slice() {
+        ["once", side, size, index] => once(&scene(size, index), side),
+        ["time", size, index] => time(&scene(size, index)),
+        ["same", size, index] => same(&scene(size, index)),
+        _ => {
+            eprintln!("pace once none|rust|ours SIZE INDEX | pace time SIZE INDEX | pace same SIZE INDEX");
+            exit(2);
+        }
+    }
+}
