@@ -1,3 +1,4 @@
+use mathlib.Core.Path.{refl}
 use Rattle.scan.proofs.Checks.{found-bad-by, found-good-by}
 use Rattle.rules.specs.declared.refusals.Refusal.the-variants.{Leaf}
 use Rattle.scan.proofs.Checks.{checks}
@@ -12,7 +13,7 @@ enum-known-f : tie.Need-enum-known-f
 enum-known-f c = search needs
 
 returns : tie.Need-returns
-returns c = found-bad-by _ _ Leaf (c .before .before .before .bad-leaf .ensures) (c .before .f .given .1)
+returns c = found-bad-by _ _ Leaf _ (c .before .before .before .bad-leaf .ensures) (c .before .f .given .1) refl
 
 enum-told : tie.Need-enum-told
 enum-told c = search needs
