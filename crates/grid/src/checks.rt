@@ -6,7 +6,8 @@ ghost use Rattle.laws.specs.Choose.{all};
 ghost use Rattle.rules.specs.Numbers.{inRange, subsamplingOk};
 ghost use Rattle.rules.specs.TuGrid.{cellsOk, capOk, foursOk};
 
-fn in_range(low: usize, high: usize, n: usize) -> bool
+// low..high.
+pub fn in_range(low: usize, high: usize, n: usize) -> bool
     ensures { λ r. ⌜ r ≡ inRange low high n ⌝ }
 {
     if n < low {
@@ -52,7 +53,8 @@ pub fn cap_ok(n: usize) -> bool
     }
 }
 
-fn fours(n: usize) -> bool
+// Four numbers a leaf.
+pub fn fours(n: usize) -> bool
     ensures { λ r. ⌜ r ≡ foursOk n ⌝ }
 {
     n % 4 == 0

@@ -10,7 +10,7 @@ mod tile;
 mod paint;
 
 // Sizes, lengths and caps in range.
-mod checks;
+pub mod checks;
 
 // The TU grid and its entry.
 pub mod tx_grid;

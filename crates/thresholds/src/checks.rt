@@ -51,7 +51,7 @@ pub fn steps_check(steps: &[u32]) -> Answer
 }
 
 // Whether a delta is in -128..127.
-fn delta_ok(delta: i32) -> bool
+pub fn delta_ok(delta: i32) -> bool
     ensures { λ r. ⌜ r ≡ deltaOk delta ⌝ }
 {
     if delta < -128 {

@@ -3,39 +3,28 @@ use mathlib.Core.Path.{sym, _∙_}
 use borrow.Author.Needs.{needs}
 use Rattle.ccso.proofs.apply.apply_edge_gated.Statement.{statement}
 use Rattle.ccso.proofs.apply.apply_edge_gated.Tie as tie
-use Rattle.ccso.proofs.apply.apply_edge_gated.Reads as reads
-use Rattle.ccso.proofs.apply.apply_edge_gated.Lts as lts
-use Rattle.ccso.proofs.check.check.Reads as check-reads
-use Rattle.ccso.proofs.rows.run.Reads as run-reads
 
--- src/apply.rt:13:9
 check-requires : tie.Need-check-requires
 check-requires c κs = search needs
 
--- src/apply.rt:14:28
 enum-known-a : tie.Need-enum-known-a
 enum-known-a c = search needs
 
--- src/apply.rt:15:9
 same-length : tie.Need-same-length
 same-length c = search needs
 
--- src/apply.rt:15:9
 returns : tie.Need-returns
 returns c = search entry
 
 enum-told : tie.Need-enum-told
 enum-told c = search needs
 
--- src/apply.rt:17:5
 run-requires : tie.Need-run-requires
 run-requires c κs = let p = accepted _ _ _ _ _ (sym (c .before .before .before .check .ensures) ∙ c .before .enum-told .given .1) in (p .0, p .1)
 
--- src/apply.rt:10:1
 same-length-2 : tie.Need-same-length-2
 same-length-2 c = search needs
 
--- src/apply.rt:10:1
 returns-2 : tie.Need-returns-2
 returns-2 c = stated-run _ _ _ _ _ _ (c .before .before .before .before .before .before .check .ensures) _ (c .before .before .before .before .enum-told .given .1) (c .before .before .run .ensures)
 

@@ -6,9 +6,6 @@ use Rattle.rules.specs.Ccso.{offsetOk}
 use Rattle.ccso.proofs.Lengths.{offsets-first}
 use Rattle.ccso.proofs.check.bad_offset.Statement.{statement}
 use Rattle.ccso.proofs.check.bad_offset.Tie as tie
-use Rattle.ccso.proofs.check.bad_offset.Reads as reads
-use Rattle.ccso.proofs.check.bad_offset.Lts as lts
-use Rattle.ccso.proofs.check.in_range.Reads as in-range-reads
 
 abbrev Inv-loop : tie.InvT-loop
 Inv-loop offsets count k₀ k =
@@ -17,39 +14,30 @@ Inv-loop offsets count k₀ k =
 abbrev μ-loop : tie.MeasureT-loop
 μ-loop offsets count k₀ k = count - k
 
--- src/check.rt:169:5
 loop-holds : tie.Need-loop-holds Inv-loop μ-loop
 loop-holds c = search offsets-first
 
--- src/check.rt:170:17
 shared-slice-copy-out-o : tie.Need-shared-slice-copy-out-o Inv-loop μ-loop
 shared-slice-copy-out-o c = search offsets-first
 
--- src/check.rt:171:22
 cast-in-range : tie.Need-cast-in-range Inv-loop μ-loop
 cast-in-range c = search offsets-first
 
--- src/check.rt:171:13
 in-range-requires : tie.Need-in-range-requires Inv-loop μ-loop
 in-range-requires c κs = search offsets-first
 
--- src/check.rt:172:13
 returns : tie.Need-returns Inv-loop μ-loop
 returns c = search offsets-first
 
--- src/check.rt:169:9
 add-k : tie.Need-add-k Inv-loop μ-loop
 add-k c = search offsets-first
 
--- src/check.rt:169:5
 loop-less : tie.Need-loop-less Inv-loop μ-loop
 loop-less c = search offsets-first
 
--- src/check.rt:169:5
 loop-again : tie.Need-loop-again Inv-loop μ-loop
 loop-again c = search offsets-first
 
--- src/check.rt:165:1
 returns-2 : tie.Need-returns-2 Inv-loop μ-loop
 returns-2 c = search offsets-first
 

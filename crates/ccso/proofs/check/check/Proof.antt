@@ -4,72 +4,49 @@ use mathlib.Core.Path.{sym}
 use borrow.Author.Needs.{needs}
 use Rattle.ccso.proofs.check.check.Statement.{statement}
 use Rattle.ccso.proofs.check.check.Tie as tie
-use Rattle.ccso.proofs.check.check.Reads as reads
-use Rattle.ccso.proofs.check.check.Lts as lts
-use Rattle.ccso.proofs.check.bad_offset.Reads as bad-offset-reads
-use Rattle.ccso.proofs.check.count_of.Reads as count-of-reads
-use Rattle.ccso.proofs.check.lengths_ok.Reads as lengths-ok-reads
-use Rattle.ccso.proofs.check.samples_ok.Reads as samples-ok-reads
-use Rattle.ccso.proofs.check.settings_ok.Reads as settings-ok-reads
-use Rattle.ccso.proofs.check.sizes_ok.Reads as sizes-ok-reads
-use Rattle.rules.proofs.depth.Depth.is.Reads as is-reads
 
--- src/check.rt:182:9
 is-requires : tie.Need-is-requires
 is-requires c κs = search needs
 
--- src/check.rt:183:9
 returns : tie.Need-returns
 returns c = answer-depth _ _ _ _ _ (told-no-not _ _ (c .before .is .ensures) (c .if1 .taken))
 
--- src/check.rt:185:9
 sizes-ok-requires : tie.Need-sizes-ok-requires
 sizes-ok-requires c κs = search needs
 
--- src/check.rt:186:9
 returns-2 : tie.Need-returns-2
 returns-2 c = answer-size _ _ _ _ _ (told-yes-not _ _ (c .before .before .before .is .ensures) (c .before .before .if1 .left)) (told-no-not _ _ (c .before .sizes-ok .ensures) (c .if2 .taken))
 
--- src/check.rt:188:9
 lengths-ok-requires : tie.Need-lengths-ok-requires
 lengths-ok-requires c κs = sym (told-yes-not _ _ (c .before .sizes-ok .ensures) (c .if2 .left))
 
--- src/check.rt:189:9
 returns-3 : tie.Need-returns-3
 returns-3 c = answer-length _ _ _ _ _ (told-yes-not _ _ (c .before .before .before .before .before .is .ensures) (c .before .before .before .before .if1 .left)) (told-yes-not _ _ (c .before .before .before .sizes-ok .ensures) (c .before .before .if2 .left)) (told-no-not _ _ (c .before .lengths-ok .ensures) (c .if3 .taken))
 
--- src/check.rt:191:9
 settings-ok-requires : tie.Need-settings-ok-requires
 settings-ok-requires c κs = search needs
 
--- src/check.rt:192:9
 returns-4 : tie.Need-returns-4
 returns-4 c = answer-setting _ _ _ _ _ (told-yes-not _ _ (c .before .before .before .before .before .before .before .is .ensures) (c .before .before .before .before .before .before .if1 .left)) (told-yes-not _ _ (c .before .before .before .before .before .sizes-ok .ensures) (c .before .before .before .before .if2 .left)) (told-yes-not _ _ (c .before .before .before .lengths-ok .ensures) (c .before .before .if3 .left)) (told-no-not _ _ (c .before .settings-ok .ensures) (c .if4 .taken))
 
--- src/check.rt:194:47
 count-of-requires : tie.Need-count-of-requires
 count-of-requires c κs = (band-most _ (sym (told-yes-not _ _ (c .before .settings-ok .ensures) (c .if4 .left))))
 
--- src/check.rt:194:27
 bad-offset-requires : tie.Need-bad-offset-requires
 bad-offset-requires c κs = rw (c .count-of .ensures) ((long _ _ _ _ _ (sym (told-yes-not _ _ (c .before .before .before .before .lengths-ok .ensures) (c .before .before .before .if3 .left)))) .offsets-long (band-most _ (sym (told-yes-not _ _ (c .before .before .settings-ok .ensures) (c .before .if4 .left)))))
 
--- src/check.rt:195:32
 enum-told : tie.Need-enum-told
 enum-told c = search needs
 
--- src/check.rt:195:9
 returns-5 : tie.Need-returns-5
 returns-5 c = let q = c .enum-told .given in answer-offset _ _ _ _ _ (told-yes-not _ _ (c .before .before .before .before .before .before .before .before .before .before .before .is .ensures) (c .before .before .before .before .before .before .before .before .before .before .if1 .left)) (told-yes-not _ _ (c .before .before .before .before .before .before .before .before .before .sizes-ok .ensures) (c .before .before .before .before .before .before .before .before .if2 .left)) (told-yes-not _ _ (c .before .before .before .before .before .before .before .lengths-ok .ensures) (c .before .before .before .before .before .before .if3 .left)) (told-yes-not _ _ (c .before .before .before .before .before .settings-ok .ensures) (c .before .before .before .before .if4 .left)) _ (c .before .before .before .count-of .ensures) _ (c .before .before .bad-offset .ensures) (q .1)
 
 enum-told-2 : tie.Need-enum-told-2
 enum-told-2 c = search needs
 
--- src/check.rt:197:5
 samples-ok-requires : tie.Need-samples-ok-requires
 samples-ok-requires c κs = (sym (told-yes-not _ _ (c .before .before .before .before .before .before .before .before .before .before .before .is .ensures) (c .before .before .before .before .before .before .before .before .before .before .if1 .left)), sym (told-yes-not _ _ (c .before .before .before .before .before .before .before .before .before .sizes-ok .ensures) (c .before .before .before .before .before .before .before .before .if2 .left)), (long _ _ _ _ _ (sym (told-yes-not _ _ (c .before .before .before .before .before .before .before .lengths-ok .ensures) (c .before .before .before .before .before .before .if3 .left)))) .luma-long, (long _ _ _ _ _ (sym (told-yes-not _ _ (c .before .before .before .before .before .before .before .lengths-ok .ensures) (c .before .before .before .before .before .before .if3 .left)))) .target-long)
 
--- src/check.rt:179:1
 returns-6 : tie.Need-returns-6
 returns-6 c = answer-samples _ _ _ _ _ (told-yes-not _ _ (c .before .before .before .before .before .before .before .before .before .before .before .before .is .ensures) (c .before .before .before .before .before .before .before .before .before .before .before .if1 .left)) (told-yes-not _ _ (c .before .before .before .before .before .before .before .before .before .before .sizes-ok .ensures) (c .before .before .before .before .before .before .before .before .before .if2 .left)) (told-yes-not _ _ (c .before .before .before .before .before .before .before .before .lengths-ok .ensures) (c .before .before .before .before .before .before .before .if3 .left)) (told-yes-not _ _ (c .before .before .before .before .before .before .settings-ok .ensures) (c .before .before .before .before .before .if4 .left)) _ (c .before .before .before .before .count-of .ensures) _ (c .before .before .before .bad-offset .ensures) _ (search needs) (c .samples-ok .ensures)
 

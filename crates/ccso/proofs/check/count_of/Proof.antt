@@ -3,25 +3,19 @@ use native.Mathlib.Omega.{arith}
 use mathlib.Core.Path.{_≡_}
 use Rattle.ccso.proofs.check.count_of.Statement.{statement}
 use Rattle.ccso.proofs.check.count_of.Tie as tie
-use Rattle.ccso.proofs.check.count_of.Reads as reads
-use Rattle.ccso.proofs.check.count_of.Lts as lts
 
--- src/check.rt:142:1
 returns : tie.Need-returns
 unfolding offsetCount
 returns c = rw (c .match .keys1)
 
--- src/check.rt:142:1
 returns-2 : tie.Need-returns-2
 unfolding offsetCount
 returns-2 c = rw (c .match .keys2)
 
--- src/check.rt:142:1
 returns-3 : tie.Need-returns-3
 unfolding offsetCount
 returns-3 c = rw (c .match .keys3)
 
--- src/check.rt:142:1
 returns-4 : tie.Need-returns-4
 unfolding offsetCount
 returns-4 c = let e : c .before .args .s .bandlog ≡ 3 = omega arith in rw e

@@ -5,44 +5,32 @@ use Rattle.laws.specs.Choose.{all-bad, all-ok, all-last, both-bad, both-ok, bot
 use borrow.Author.Needs.{needs}
 use Rattle.ccso.proofs.check.cuts_ok.Statement.{statement}
 use Rattle.ccso.proofs.check.cuts_ok.Tie as tie
-use Rattle.ccso.proofs.check.cuts_ok.Reads as reads
-use Rattle.ccso.proofs.check.cuts_ok.Lts as lts
-use Rattle.ccso.proofs.check.at_most.Reads as at-most-reads
-use Rattle.ccso.proofs.check.in_range.Reads as in-range-reads
 
--- src/check.rt:63:9
 returns : tie.Need-returns
 unfolding cutsOk inRange
 returns c = all-bad _ _ (both-bad _ _ (not-le _ _ (c .if1 .taken)))
 
--- src/check.rt:66:9
 returns-2 : tie.Need-returns-2
 unfolding cutsOk inRange
 returns-2 c = all-bad _ _ (both-later _ _ (not-le _ _ (c .if2 .taken)))
 
--- src/check.rt:68:9
 in-range-requires : tie.Need-in-range-requires
 in-range-requires c κs = search needs
 
--- src/check.rt:69:9
 returns-3 : tie.Need-returns-3
 unfolding cutsOk inRange
 returns-3 c = all-ok _ _ _ (both-ok _ _ _ (is-le _ _ (c .before .before .before .before .before .if1 .left)) (is-le _ _ (c .before .before .before .if2 .left))) (all-bad _ _ (range-no _ _ _ _ (c .before .before .struct-told .given .1 .1 .1 .1 .1 .1 .0 .1) (c .before .in-range .ensures) (c .if3 .taken)))
 
--- src/check.rt:71:9
 in-range-requires-2 : tie.Need-in-range-requires-2
 in-range-requires-2 c κs = search needs
 
--- src/check.rt:72:9
 returns-4 : tie.Need-returns-4
 unfolding cutsOk inRange
 returns-4 c = all-ok _ _ _ (both-ok _ _ _ (is-le _ _ (c .before .before .before .before .before .before .before .before .if1 .left)) (is-le _ _ (c .before .before .before .before .before .before .if2 .left))) (all-ok _ _ _ (range-yes _ _ _ _ (c .before .before .before .before .before .struct-told .given .1 .1 .1 .1 .1 .1 .0 .1) (c .before .before .before .before .in-range .ensures) (c .before .before .before .if3 .left)) (all-bad _ _ (range-no _ _ _ _ (c .before .before .before .before .before .struct-told .given .1 .1 .1 .1 .1 .1 .1 .0 .1) (c .before .in-range2 .ensures) (c .if4 .taken))))
 
--- src/check.rt:74:5
 at-most-requires : tie.Need-at-most-requires
 at-most-requires c κs = search needs
 
--- src/check.rt:59:1
 returns-5 : tie.Need-returns-5
 unfolding cutsOk inRange
 returns-5 c = all-ok _ _ _ (both-ok _ _ _ (is-le _ _ (c .before .before .before .before .before .before .before .before .before .before .before .if1 .left)) (is-le _ _ (c .before .before .before .before .before .before .before .before .before .if2 .left))) (all-ok _ _ _ (range-yes _ _ _ _ (c .before .before .before .before .before .before .before .before .struct-told .given .1 .1 .1 .1 .1 .1 .0 .1) (c .before .before .before .before .before .before .before .in-range .ensures) (c .before .before .before .before .before .before .if3 .left)) (all-ok _ _ _ (range-yes _ _ _ _ (c .before .before .before .before .before .before .before .before .struct-told .given .1 .1 .1 .1 .1 .1 .1 .0 .1) (c .before .before .before .before .in-range2 .ensures) (c .before .before .before .if4 .left)) (all-last _ _ (order-told (c .before .before .before .before .before .before .before .before .before .before .before .before .before .args .s .lo) (c .before .before .before .before .before .before .before .before .before .before .before .before .before .args .s .hi) _ (c .before .before .before .before .before .before .before .before .struct-told .given .1 .1 .1 .1 .1 .1 .0 .1) (c .before .before .before .before .before .before .before .before .struct-told .given .1 .1 .1 .1 .1 .1 .1 .0 .1) (c .at-most .ensures)))))

@@ -2,63 +2,46 @@ use Rattle.ccso.proofs.Lengths.{samples, sizable, target-fits, target-l
 use borrow.Author.Needs.{needs}
 use Rattle.ccso.proofs.check.samples_ok.Statement.{statement}
 use Rattle.ccso.proofs.check.samples_ok.Tie as tie
-use Rattle.ccso.proofs.check.samples_ok.Reads as reads
-use Rattle.ccso.proofs.check.samples_ok.Lts as lts
-use Rattle.ccso.proofs.check.halved.Reads as halved-reads
-use Rattle.rules.proofs.depth.Depth.top.Reads as top-reads
-use Rattle.scan.proofs.row.Reads as row-reads
 
--- src/check.rt:206:9
 top-requires : tie.Need-top-requires
 top-requires c κs = search needs
 
--- src/check.rt:207:29
 mul-row : tie.Need-mul-row
 mul-row c = search needs
 
--- src/check.rt:207:9
 row-requires : tie.Need-row-requires
 row-requires c κs = search needs
 
--- src/check.rt:208:22
 enum-known-over : tie.Need-enum-known-over
 enum-known-over c = search needs
 
--- src/check.rt:209:9
 returns : tie.Need-returns
 returns c = search samples
 
 enum-told : tie.Need-enum-told
 enum-told c = search needs
 
--- src/check.rt:211:17
 halved-requires : tie.Need-halved-requires
 halved-requires c κs = (sizable _ (c .before .before .before .before .before .before .before .pre .1) .ssy-most, sizable _ (c .before .before .before .before .before .before .before .pre .1) .height-most)
 
--- src/check.rt:211:43
 halved-requires-2 : tie.Need-halved-requires-2
 halved-requires-2 c κs = (sizable _ (c .before .before .before .before .before .before .before .before .pre .1) .ssx-most, sizable _ (c .before .before .before .before .before .before .before .before .pre .1) .width-most)
 
--- src/check.rt:211:17
 mul-count : tie.Need-mul-count
 mul-count c = target-fits (sizable _ (c .before .before .before .before .before .before .before .before .before .pre .1)) _ _ (c .before .halved .ensures) (c .halved2 .ensures)
 
--- src/check.rt:212:9
 row-requires-2 : tie.Need-row-requires-2
 row-requires-2 c κs = target-long _ _ _ _ (c .before .halved .ensures) (c .halved2 .ensures) (c .before .before .before .before .before .before .before .before .before .pre .3)
 
--- src/check.rt:213:22
 enum-known-past : tie.Need-enum-known-past
 enum-known-past c = search needs
 
--- src/check.rt:214:9
 returns-2 : tie.Need-returns-2
 returns-2 c = search samples
 
 enum-told-2 : tie.Need-enum-told-2
 enum-told-2 c = search needs
 
--- src/check.rt:201:1
 returns-3 : tie.Need-returns-3
 returns-3 c = search samples
 

@@ -3,35 +3,27 @@ use Rattle.rules.specs.Ccso.{ccsoSizesOk}
 use Rattle.laws.specs.Choose.{tests}
 use Rattle.ccso.proofs.check.sizes_ok.Statement.{statement}
 use Rattle.ccso.proofs.check.sizes_ok.Tie as tie
-use Rattle.ccso.proofs.check.sizes_ok.Reads as reads
-use Rattle.ccso.proofs.check.sizes_ok.Lts as lts
 
--- src/check.rt:23:9
 returns : tie.Need-returns
 unfolding ccsoSizesOk inRange subsamplingOk
 returns c = search tests
 
--- src/check.rt:26:9
 returns-2 : tie.Need-returns-2
 unfolding ccsoSizesOk inRange subsamplingOk
 returns-2 c = search tests
 
--- src/check.rt:29:9
 returns-3 : tie.Need-returns-3
 unfolding ccsoSizesOk inRange subsamplingOk
 returns-3 c = search tests
 
--- src/check.rt:32:9
 returns-4 : tie.Need-returns-4
 unfolding ccsoSizesOk inRange subsamplingOk
 returns-4 c = search tests
 
--- src/check.rt:35:9
 returns-5 : tie.Need-returns-5
 unfolding ccsoSizesOk inRange subsamplingOk
 returns-5 c = search tests
 
--- src/check.rt:19:1
 returns-6 : tie.Need-returns-6
 unfolding ccsoSizesOk inRange subsamplingOk
 returns-6 c = search tests

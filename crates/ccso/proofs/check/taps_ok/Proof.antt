@@ -6,47 +6,35 @@ use mathlib.Core.Path.{refl}
 use borrow.Author.Needs.{needs}
 use Rattle.ccso.proofs.check.taps_ok.Statement.{statement}
 use Rattle.ccso.proofs.check.taps_ok.Tie as tie
-use Rattle.ccso.proofs.check.taps_ok.Reads as reads
-use Rattle.ccso.proofs.check.taps_ok.Lts as lts
-use Rattle.ccso.proofs.check.in_range.Reads as in-range-reads
 
--- src/check.rt:93:9
 in-range-requires : tie.Need-in-range-requires
 in-range-requires c κs = search needs
 
--- src/check.rt:94:9
 returns : tie.Need-returns
 unfolding tapsOk
 returns c = all-bad _ _ (range-no _ _ _ _ (c .before .before .struct-told .given .1 .1 .1 .1 .1 .1 .1 .1 .1 .1 .1 .0 .1) (c .before .in-range .ensures) (c .if1 .taken))
 
--- src/check.rt:96:9
 in-range-requires-2 : tie.Need-in-range-requires-2
 in-range-requires-2 c κs = search needs
 
--- src/check.rt:97:9
 returns-2 : tie.Need-returns-2
 unfolding tapsOk
 returns-2 c = all-ok _ _ _ (range-yes _ _ _ _ (c .before .before .before .before .before .struct-told .given .1 .1 .1 .1 .1 .1 .1 .1 .1 .1 .1 .0 .1) (c .before .before .before .before .in-range .ensures) (c .before .before .before .if1 .left)) (all-bad _ _ (range-no _ _ _ _ (c .before .before .before .before .before .struct-told .given .1 .1 .1 .1 .1 .1 .1 .1 .1 .1 .1 .1 .0 .1) (c .before .in-range2 .ensures) (c .if2 .taken)))
 
--- src/check.rt:99:9
 in-range-requires-3 : tie.Need-in-range-requires-3
 in-range-requires-3 c κs = search needs
 
--- src/check.rt:100:9
 returns-3 : tie.Need-returns-3
 unfolding tapsOk
 returns-3 c = all-ok _ _ _ (range-yes _ _ _ _ (c .before .before .before .before .before .before .before .before .struct-told .given .1 .1 .1 .1 .1 .1 .1 .1 .1 .1 .1 .0 .1) (c .before .before .before .before .before .before .before .in-range .ensures) (c .before .before .before .before .before .before .if1 .left)) (all-ok _ _ _ (range-yes _ _ _ _ (c .before .before .before .before .before .before .before .before .struct-told .given .1 .1 .1 .1 .1 .1 .1 .1 .1 .1 .1 .1 .0 .1) (c .before .before .before .before .in-range2 .ensures) (c .before .before .before .if2 .left)) (all-bad _ _ (range-no _ _ _ _ (c .before .before .before .before .before .before .before .before .struct-told .given .1 .1 .1 .1 .1 .1 .1 .1 .1 .1 .1 .1 .1 .0 .1) (c .before .in-range3 .ensures) (c .if3 .taken))))
 
--- src/check.rt:102:9
 in-range-requires-4 : tie.Need-in-range-requires-4
 in-range-requires-4 c κs = search needs
 
--- src/check.rt:103:9
 returns-4 : tie.Need-returns-4
 unfolding tapsOk
 returns-4 c = all-ok _ _ _ (range-yes _ _ _ _ (c .before .before .before .before .before .before .before .before .before .before .before .struct-told .given .1 .1 .1 .1 .1 .1 .1 .1 .1 .1 .1 .0 .1) (c .before .before .before .before .before .before .before .before .before .before .in-range .ensures) (c .before .before .before .before .before .before .before .before .before .if1 .left)) (all-ok _ _ _ (range-yes _ _ _ _ (c .before .before .before .before .before .before .before .before .before .before .before .struct-told .given .1 .1 .1 .1 .1 .1 .1 .1 .1 .1 .1 .1 .0 .1) (c .before .before .before .before .before .before .before .in-range2 .ensures) (c .before .before .before .before .before .before .if2 .left)) (all-ok _ _ _ (range-yes _ _ _ _ (c .before .before .before .before .before .before .before .before .before .before .before .struct-told .given .1 .1 .1 .1 .1 .1 .1 .1 .1 .1 .1 .1 .1 .0 .1) (c .before .before .before .before .in-range3 .ensures) (c .before .before .before .if3 .left)) (all-bad _ _ (range-no _ _ _ _ (c .before .before .before .before .before .before .before .before .before .before .before .struct-told .given .1 .1 .1 .1 .1 .1 .1 .1 .1 .1 .1 .1 .1 .1 .0 .1) (c .before .in-range4 .ensures) (c .if4 .taken)))))
 
--- src/check.rt:90:1
 returns-5 : tie.Need-returns-5
 unfolding tapsOk bandOk
 returns-5 c = all-ok _ _ _ (range-yes _ _ _ _ (c .before .before .before .before .before .before .before .before .before .before .before .before .struct-told .given .1 .1 .1 .1 .1 .1 .1 .1 .1 .1 .1 .0 .1) (c .before .before .before .before .before .before .before .before .before .before .before .in-range .ensures) (c .before .before .before .before .before .before .before .before .before .before .if1 .left)) (all-ok _ _ _ (range-yes _ _ _ _ (c .before .before .before .before .before .before .before .before .before .before .before .before .struct-told .given .1 .1 .1 .1 .1 .1 .1 .1 .1 .1 .1 .1 .0 .1) (c .before .before .before .before .before .before .before .before .in-range2 .ensures) (c .before .before .before .before .before .before .before .if2 .left)) (all-ok _ _ _ (range-yes _ _ _ _ (c .before .before .before .before .before .before .before .before .before .before .before .before .struct-told .given .1 .1 .1 .1 .1 .1 .1 .1 .1 .1 .1 .1 .1 .0 .1) (c .before .before .before .before .before .in-range3 .ensures) (c .before .before .before .before .if3 .left)) (all-ok _ _ _ (range-yes _ _ _ _ (c .before .before .before .before .before .before .before .before .before .before .before .before .struct-told .given .1 .1 .1 .1 .1 .1 .1 .1 .1 .1 .1 .1 .1 .1 .0 .1) (c .before .before .in-range4 .ensures) (c .before .if4 .left)) (all-last _ _ refl))))

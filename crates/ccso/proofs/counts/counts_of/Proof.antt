@@ -4,69 +4,49 @@ use Rattle.ccso.proofs.Signed.{back-within, back-is}
 use borrow.Author.Needs.{needs}
 use Rattle.ccso.proofs.counts.counts_of.Statement.{statement}
 use Rattle.ccso.proofs.counts.counts_of.Tie as tie
-use Rattle.ccso.proofs.counts.counts_of.Reads as reads
-use Rattle.ccso.proofs.counts.counts_of.Lts as lts
-use Rattle.ccso.proofs.counts.each_way.Reads as each-way-reads
-use Rattle.ccso.proofs.counts.raised.Reads as raised-reads
-use Rattle.rules.proofs.depth.Depth.top.Reads as top-reads
 
--- src/counts.rt:44:13
 raised-requires : tie.Need-raised-requires
 raised-requires c κs = (back-within _ _ (c .before .pre .lo) (omega arith), omega arith)
 
--- src/counts.rt:45:13
 raised-requires-2 : tie.Need-raised-requires-2
 raised-requires-2 c κs = (back-within _ _ (c .before .before .before .pre .hi) (omega arith), omega arith)
 
--- src/counts.rt:46:14
 raised-requires-3 : tie.Need-raised-requires-3
 raised-requires-3 c κs = (back-within _ _ (c .before .before .before .before .before .pre .dx0) (omega arith), omega arith)
 
--- src/counts.rt:46:14
 cast-t6 : tie.Need-cast-t6
 cast-t6 c = search needs
 
--- src/counts.rt:47:14
 raised-requires-4 : tie.Need-raised-requires-4
 raised-requires-4 c κs = (back-within _ _ (c .before .before .before .before .before .before .before .pre .dy0) (omega arith), omega arith)
 
--- src/counts.rt:47:14
 cast-t8 : tie.Need-cast-t8
 cast-t8 c = search needs
 
--- src/counts.rt:48:14
 raised-requires-5 : tie.Need-raised-requires-5
 raised-requires-5 c κs = (back-within _ _ (c .before .before .before .before .before .before .before .before .before .pre .dx1) (omega arith), omega arith)
 
--- src/counts.rt:48:14
 cast-t10 : tie.Need-cast-t10
 cast-t10 c = search needs
 
--- src/counts.rt:49:14
 raised-requires-6 : tie.Need-raised-requires-6
 raised-requires-6 c κs = (back-within _ _ (c .before .before .before .before .before .before .before .before .before .before .before .pre .dy1) (omega arith), omega arith)
 
--- src/counts.rt:49:14
 cast-t12 : tie.Need-cast-t12
 cast-t12 c = search needs
 
--- src/counts.rt:50:17
 each-way-requires : tie.Need-each-way-requires
 each-way-requires c κs = search needs
 
--- src/counts.rt:51:15
 each-way-requires-2 : tie.Need-each-way-requires-2
 each-way-requires-2 c κs = search needs
 
--- src/counts.rt:52:14
 top-requires : tie.Need-top-requires
 top-requires c κs = search needs
 
--- src/counts.rt:52:14
 cast-t16 : tie.Need-cast-t16
 cast-t16 c = search needs
 
--- src/counts.rt:38:1
 returns : tie.Need-returns
 returns c = let p = c .before .before .before .before .before .before .before .before .before .before .before .before .before .before .before .pre in record { ranges = p; lo = back-is _ (p .lo) (omega arith) (c .before .before .before .before .before .before .before .before .before .before .before .before .before .raised .ensures); hi = back-is _ (p .hi) (omega arith) (c .before .before .before .before .before .before .before .before .before .before .before .raised2 .ensures); dx0 = back-is _ (p .dx0) (omega arith) (c .before .before .before .before .before .before .before .before .before .raised3 .ensures); dy0 = back-is _ (p .dy0) (omega arith) (c .before .before .before .before .before .before .before .raised4 .ensures); dx1 = back-is _ (p .dx1) (omega arith) (c .before .before .before .before .before .raised5 .ensures); dy1 = back-is _ (p .dy1) (omega arith) (c .before .before .before .raised6 .ensures); across = c .before .before .each-way .ensures; down = c .before .each-way2 .ensures; top = c .top .ensures; top-most = omega (arith, c .top .ensures, top-most _ (p .depth)) }
 

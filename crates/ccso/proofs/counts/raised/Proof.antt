@@ -10,8 +10,6 @@ use Rattle.laws.specs.Whole.{Is, recast, over, under, self, count, plus, size-i
 use Rattle.laws.specs.Machine.{fits, word, held, non-neg}
 use Rattle.ccso.proofs.counts.raised.Statement.{statement}
 use Rattle.ccso.proofs.counts.raised.Tie as tie
-use Rattle.ccso.proofs.counts.raised.Reads as reads
-use Rattle.ccso.proofs.counts.raised.Lts as lts
 
 -- the sum as a difference of counts
 sum-is : (c : tie.Start) → Is (toZ w32 (ofZ w32 (c .args .v)) +ℤ toZ w32 (c .args .by)) (over (c .args .v) + c .args .by) (under (c .args .v) + 0)

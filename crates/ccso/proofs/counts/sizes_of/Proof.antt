@@ -6,38 +6,28 @@ use mathlib.Core.Path.{refl}
 use borrow.Author.Needs.{needs}
 use Rattle.ccso.proofs.counts.sizes_of.Statement.{statement}
 use Rattle.ccso.proofs.counts.sizes_of.Tie as tie
-use Rattle.ccso.proofs.counts.sizes_of.Reads as reads
-use Rattle.ccso.proofs.counts.sizes_of.Lts as lts
 
--- src/counts.rt:70:17
 add-t3 : tie.Need-add-t3
 add-t3 c = search needs
 
--- src/counts.rt:70:16
 div-t4 : tie.Need-div-t4
 div-t4 c = across-some (c .before .before .pre)
 
--- src/counts.rt:71:18
 add-t5 : tie.Need-add-t5
 add-t5 c = search needs
 
--- src/counts.rt:71:17
 div-t6 : tie.Need-div-t6
 div-t6 c = down-some (c .before .before .before .before .pre)
 
--- src/counts.rt:72:17
 div-t7 : tie.Need-div-t7
 div-t7 c = across-some (c .before .before .before .before .before .pre)
 
--- src/counts.rt:73:17
 div-t8 : tie.Need-div-t8
 div-t8 c = down-some (c .before .before .before .before .before .before .pre)
 
--- src/counts.rt:74:18
 add-t9 : tie.Need-add-t9
 add-t9 c = search needs
 
--- src/counts.rt:65:1
 returns : tie.Need-returns
 unfolding targetWidth targetHeight halved down superblocks
 returns c = let u = c .before .before .before .before .before .before .before .pre in record { width = rw (u .across); height = rw (u .down); blockw = rw (u .across); blockh = rw (u .down); blocks = refl }

@@ -4,48 +4,34 @@ use native.Mathlib.Omega.{arith}
 use borrow.Author.Needs.{needs}
 use Rattle.ccso.proofs.rows.block.Statement.{statement}
 use Rattle.ccso.proofs.rows.block.Tie as tie
-use Rattle.ccso.proofs.rows.block.Reads as reads
-use Rattle.ccso.proofs.rows.block.Lts as lts
-use Rattle.ccso.proofs.rows.cells.Reads as cells-reads
-use Rattle.laws.proofs.least.Reads as least-reads
 
--- src/rows.rt:76:14
 add-at : tie.Need-add-at
 add-at c = flag-fits (c .before .before .before .before .pre .0 .ranges) _ (flag-below (c .before .before .before .before .pre .0 .ranges) (c .before .before .before .before .pre .1 .1 .0) _ (c .before .before .before .before .pre .1 .1 .1 .1))
 
--- src/rows.rt:77:16
 shared-slice-read-flag : tie.Need-shared-slice-read-flag
 shared-slice-read-flag c = omega (arith, (flag-below (c .before .before .before .before .before .pre .0 .ranges) (c .before .before .before .before .before .pre .1 .1 .0) _ (c .before .before .before .before .before .pre .1 .1 .1 .1)), (c .before .before .before .before .before .pre .1 .1 .1 .0) .flags)
 
--- src/rows.rt:79:9
 returns : tie.Need-returns
 returns c = block-kept (c .before .before .before .before .before .before .pre .0 .ranges) (c .before .before .before .before .before .before .pre .1 .1 .0) _ (c .before .before .before .before .before .before .pre .1 .1 .1 .1) _ _ _ _ (c .if1 .taken)
 
--- src/rows.rt:81:17
 mul-start : tie.Need-mul-start
 mul-start c = record { fits = rw ((c .before .before .before .before .before .before .before .pre .1 .0) .blockw) (omega (arith, (start-below (c .before .before .before .before .before .before .before .pre .0 .ranges) (c .before .before .before .before .before .before .before .pre .1 .1 .0) _ (c .before .before .before .before .before .before .before .pre .1 .1 .1 .1)), width-most (c .before .before .before .before .before .before .before .pre .0 .ranges))) }
 
--- src/rows.rt:82:21
 add-least : tie.Need-add-least
 add-least c = record { fits = rw ((c .before .before .before .before .before .before .before .before .pre .1 .0) .blockw) (omega (arith, (start-below (c .before .before .before .before .before .before .before .before .pre .0 .ranges) (c .before .before .before .before .before .before .before .before .pre .1 .1 .0) _ (c .before .before .before .before .before .before .before .before .pre .1 .1 .1 .1)), width-most (c .before .before .before .before .before .before .before .before .pre .0 .ranges), block-most _ ((c .before .before .before .before .before .before .before .before .pre .0 .ranges) .ssx-most))) }
 
--- src/rows.rt:82:9
 least-requires : tie.Need-least-requires
 least-requires c κs = search needs
 
--- src/rows.rt:83:50
 sub-cells : tie.Need-sub-cells
 sub-cells c = start-le (c .before .before .before .before .before .before .before .before .before .before .pre .0 .ranges) (c .before .before .before .before .before .before .before .before .before .before .pre .1 .1 .0) _ (c .before .before .before .before .before .before .before .before .before .before .pre .1 .1 .1 .1) (c .before .before .before .before .before .before .before .before .before .before .pre .1 .0) _ (c .before .least .ensures)
 
--- src/rows.rt:83:5
 cells-requires : tie.Need-cells-requires
 cells-requires c κs = ((c .before .before .before .before .before .before .before .before .before .before .pre .0), ((c .before .before .before .before .before .before .before .before .before .before .pre .1 .1 .0), (((c .before .before .before .before .before .before .before .before .before .before .pre .1 .1 .1 .0) .lit, (c .before .before .before .before .before .before .before .before .before .before .pre .1 .1 .1 .0) .small, (c .before .before .before .before .before .before .before .before .before .before .pre .1 .1 .1 .0) .target), count-le (c .before .before .before .before .before .before .before .before .before .before .pre .0 .ranges) (c .before .before .before .before .before .before .before .before .before .before .pre .1 .1 .0) _ (c .before .before .before .before .before .before .before .before .before .before .pre .1 .1 .1 .1) (c .before .before .before .before .before .before .before .before .before .before .pre .1 .0) _ (c .before .least .ensures))))
 
--- src/rows.rt:68:1
 same-length : tie.Need-same-length
 same-length c = search needs
 
--- src/rows.rt:68:1
 returns-2 : tie.Need-returns-2
 returns-2 c = block-moved (c .before .before .before .before .before .before .before .before .before .before .before .before .before .pre .0 .ranges) (c .before .before .before .before .before .before .before .before .before .before .before .before .before .pre .1 .1 .0) _ (c .before .before .before .before .before .before .before .before .before .before .before .before .before .pre .1 .1 .1 .1) _ _ _ _ (c .before .before .before .before .before .before .before .before .before .before .before .before .before .pre .1 .0) (c .before .before .before .before .before .before .before .if1 .left) _ _ (c .before .before .before .before .least .ensures) (c .before .before .cells .ensures)
 

@@ -7,9 +7,6 @@ use Rattle.laws.specs.Loops.{turns, loops}
 use Rattle.ccso.specs.Lists.{movedCell}
 use Rattle.ccso.proofs.rows.cells.Statement.{statement}
 use Rattle.ccso.proofs.rows.cells.Tie as tie
-use Rattle.ccso.proofs.rows.cells.Reads as reads
-use Rattle.ccso.proofs.rows.cells.Lts as lts
-use Rattle.ccso.proofs.rows.cell.Reads as cell-reads
 
 abbrev Inv-loop : tie.InvT-loop
 Inv-loop luma target₀ offsets s k r start count j₀ target j =
@@ -18,35 +15,27 @@ Inv-loop luma target₀ offsets s k r start count j₀ target j =
 abbrev μ-loop : tie.MeasureT-loop
 μ-loop luma target₀ offsets s k r start count j₀ target j = count - j
 
--- src/rows.rt:62:5
 loop-holds : tie.Need-loop-holds Inv-loop μ-loop
 loop-holds c = search loops
 
--- src/rows.rt:63:46
 add-cell : tie.Need-add-cell Inv-loop μ-loop
 add-cell c = record { fits = omega (arith, (c .before .before .before .before .before .pre .1 .1 .1), width-most (c .before .before .before .before .before .pre .0 .ranges)) }
 
--- src/rows.rt:63:9
 cell-requires : tie.Need-cell-requires Inv-loop μ-loop
 cell-requires c κs = ((c .before .before .before .before .before .pre .0), ((c .before .before .before .before .before .pre .1 .0), (((c .before .before .before .before .before .pre .1 .1 .0) .0, (c .before .before .before .before .before .pre .1 .1 .0) .1, omega (arith, (c .before .before .before .before .before .pre .1 .1 .0) .2, c .before .before .loop .inv .2)), omega (arith, (c .before .before .before .before .before .pre .1 .1 .1), c .before .loop-test .taken))))
 
--- src/rows.rt:62:9
 add-j : tie.Need-add-j Inv-loop μ-loop
 add-j c = search loops
 
--- src/rows.rt:62:5
 loop-less : tie.Need-loop-less Inv-loop μ-loop
 loop-less c = search loops
 
--- src/rows.rt:62:5
 loop-again : tie.Need-loop-again Inv-loop μ-loop
 loop-again c = search loops
 
--- src/rows.rt:55:1
 same-length : tie.Need-same-length Inv-loop μ-loop
 same-length c = search loops
 
--- src/rows.rt:55:1
 returns : tie.Need-returns Inv-loop μ-loop
 returns c = search loops
 

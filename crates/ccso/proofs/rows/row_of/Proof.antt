@@ -6,47 +6,34 @@ use mathlib.Core.Path.{refl, ap}
 use Prim.Native.Nat.{ℕ, _*_}
 use Rattle.ccso.proofs.rows.row_of.Statement.{statement}
 use Rattle.ccso.proofs.rows.row_of.Tie as tie
-use Rattle.ccso.proofs.rows.row_of.Reads as reads
-use Rattle.ccso.proofs.rows.row_of.Lts as lts
-use Rattle.ccso.proofs.taps.limited.Reads as limited-reads
 
--- src/rows.rt:27:14
 mul-at : tie.Need-mul-at
 mul-at c = line-fits (c .before .pre .0) _ (c .before .pre .1 .1)
 
--- src/rows.rt:28:9
 limited-requires : tie.Need-limited-requires
 limited-requires c κs = (omega (arith, (c .before .pre .0 .ranges) .some-height), line-most (c .before .pre .0) _ (c .before .pre .1 .1), omega (arith, (c .before .pre .0) .dy0, (c .before .pre .0 .ranges) .dy0 .high))
 
--- src/rows.rt:29:9
 limited-requires-2 : tie.Need-limited-requires-2
 limited-requires-2 c κs = (omega (arith, (c .before .before .pre .0 .ranges) .some-height), line-most (c .before .before .pre .0) _ (c .before .before .pre .1 .1), omega (arith, (c .before .before .pre .0) .dy1, (c .before .before .pre .0 .ranges) .dy1 .high))
 
--- src/rows.rt:32:13
 mul-t9 : tie.Need-mul-t9
 mul-t9 c = product-fits _ _ (omega (arith, (c .before .before .before .before .pre .1 .1), height-most (c .before .before .before .before .pre .0 .ranges))) (omega (arith, (c .before .before .before .before .pre .1 .0) .width, width-most (c .before .before .before .before .pre .0 .ranges)))
 
--- src/rows.rt:33:17
 mul-t10 : tie.Need-mul-t10
 mul-t10 c = product-fits _ _ (omega (arith, line (c .before .before .before .before .pre .0) _ (c .before .before .before .before .pre .1 .1), (c .before .before .before .before .pre .0 .ranges) .height-most)) ((c .before .before .before .before .pre .0 .ranges) .width-most)
 
--- src/rows.rt:34:15
 mul-t11 : tie.Need-mul-t11
 mul-t11 c = product-fits _ _ (omega (arith, c .before .before .limited .ensures .0, (c .before .before .before .before .pre .0 .ranges) .height-most)) ((c .before .before .before .before .pre .0 .ranges) .width-most)
 
--- src/rows.rt:35:15
 mul-t12 : tie.Need-mul-t12
 mul-t12 c = product-fits _ _ (omega (arith, c .before .limited2 .ensures .0, (c .before .before .before .before .pre .0 .ranges) .height-most)) ((c .before .before .before .before .pre .0 .ranges) .width-most)
 
--- src/rows.rt:36:16
 div-t13 : tie.Need-div-t13
 div-t13 c = rw ((c .before .before .before .before .before .pre .1 .0) .blockh) (block-some _ ((c .before .before .before .before .before .pre .0 .ranges) .ssy-most))
 
--- src/rows.rt:36:16
 mul-t14 : tie.Need-mul-t14
 mul-t14 c = product-fits _ _ (omega (arith, div-le-self (c .before .before .before .before .before .before .args .y) (c .before .before .before .before .before .before .args .z .blockh), (c .before .before .before .before .before .before .pre .1 .1), height-most (c .before .before .before .before .before .before .pre .0 .ranges))) (omega (arith, (c .before .before .before .before .before .before .pre .1 .0) .blocks, blocks-most (c .before .before .before .before .before .before .pre .0 .ranges)))
 
--- src/rows.rt:20:1
 returns : tie.Need-returns
 unfolding up
 returns c = let u = (c .before .before .before .before .before .before .pre .0) in let z = (c .before .before .before .before .before .before .pre .1 .0) in (record { inside = (c .before .before .before .before .before .before .pre .1 .1); at = rw (z .width); centre = rw (u .down); tap0 = ap (λ (n : ℕ). n * c .before .before .before .before .before .before .args .s .width) (tap-row-is u _ _ _ (c .before .before .before .before .limited .ensures .1 _ (u .dy0))); tap1 = ap (λ (n : ℕ). n * c .before .before .before .before .before .before .args .s .width) (tap-row-is u _ _ _ (c .before .before .before .limited2 .ensures .1 _ (u .dy1))); flags = rw (z .blockh, z .blocks) }, refl)

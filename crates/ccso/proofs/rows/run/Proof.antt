@@ -9,11 +9,6 @@ use Rattle.ccso.proofs.Places.{height-most}
 use Rattle.ccso.proofs.Blocks.{fit-same, rows-end}
 use Rattle.ccso.proofs.rows.run.Statement.{statement}
 use Rattle.ccso.proofs.rows.run.Tie as tie
-use Rattle.ccso.proofs.rows.run.Reads as reads
-use Rattle.ccso.proofs.rows.run.Lts as lts
-use Rattle.ccso.proofs.counts.counts_of.Reads as counts-of-reads
-use Rattle.ccso.proofs.counts.sizes_of.Reads as sizes-of-reads
-use Rattle.ccso.proofs.rows.row.Reads as row-reads
 
 abbrev Inv-loop : tie.InvT-loop
 Inv-loop luma target₀ flags offsets s k z rows y₀ target y =
@@ -22,39 +17,30 @@ Inv-loop luma target₀ flags offsets s k z rows y₀ target y =
 abbrev μ-loop : tie.MeasureT-loop
 μ-loop luma target₀ flags offsets s k z rows y₀ target y = rows - y
 
--- src/rows.rt:107:9
 counts-of-requires : tie.Need-counts-of-requires Inv-loop μ-loop
 counts-of-requires c κs = (c .before .before .before .pre .0)
 
--- src/rows.rt:108:9
 sizes-of-requires : tie.Need-sizes-of-requires Inv-loop μ-loop
 sizes-of-requires c κs = c .counts-of .ensures
 
--- src/rows.rt:110:5
 loop-holds : tie.Need-loop-holds Inv-loop μ-loop
 loop-holds c = (omega arith, turns-none _ _, refl)
 
--- src/rows.rt:111:9
 row-requires : tie.Need-row-requires Inv-loop μ-loop
 row-requires c κs = (c .before .before .before .before .counts-of .ensures, (c .before .before .before .sizes-of .ensures, (fit-same (c .before .before .loop .inv .2) (c .before .before .before .before .before .before .before .before .pre .1), omega (arith, c .before .loop-test .taken, c .before .before .before .sizes-of .ensures .height))))
 
--- src/rows.rt:110:9
 add-y : tie.Need-add-y Inv-loop μ-loop
 add-y c = record { fits = omega (arith, c .before .before .before .before .loop-test .taken, c .before .before .before .before .before .before .sizes-of .ensures .height, height-most (c .before .before .before .before .before .before .before .before .before .before .before .pre .0)) }
 
--- src/rows.rt:110:5
 loop-less : tie.Need-loop-less Inv-loop μ-loop
 loop-less c = omega (arith, c .before .before .before .before .loop-test .taken)
 
--- src/rows.rt:110:5
 loop-again : tie.Need-loop-again Inv-loop μ-loop
 loop-again c = (omega (arith, c .before .before .before .before .loop-test .taken), turns-more _ _ _ (c .before .before .before .before .before .loop .inv .1) (c .before .before .row .ensures), search needs)
 
--- src/rows.rt:102:1
 same-length : tie.Need-same-length Inv-loop μ-loop
 same-length c = search needs
 
--- src/rows.rt:102:1
 returns : tie.Need-returns Inv-loop μ-loop
 returns c = rows-end _ _ _ _ _ _ _ _ (c .before .before .sizes-of .ensures .height) (c .loop-test .left) (c .before .loop .inv .0) (c .before .loop .inv .1)
 

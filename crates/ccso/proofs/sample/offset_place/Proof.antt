@@ -3,38 +3,28 @@ use Rattle.ccso.proofs.Offsets.{bands}
 use borrow.Author.Needs.{needs}
 use Rattle.ccso.proofs.sample.offset_place.Statement.{statement}
 use Rattle.ccso.proofs.sample.offset_place.Tie as tie
-use Rattle.ccso.proofs.sample.offset_place.Reads as reads
-use Rattle.ccso.proofs.sample.offset_place.Lts as lts
 
--- src/sample.rt:22:33
 sub-band : tie.Need-sub-band
 sub-band c = search needs
 
--- src/sample.rt:22:33
 cast-band : tie.Need-cast-band
 cast-band c = search needs
 
--- src/sample.rt:22:16
 shr-band : tie.Need-shr-band
 shr-band c = search needs
 
--- src/sample.rt:23:5
 mul-result : tie.Need-mul-result
 mul-result c = search bands
 
--- src/sample.rt:23:17
 mul-result-2 : tie.Need-mul-result-2
 mul-result-2 c = search needs
 
--- src/sample.rt:23:5
 add-result : tie.Need-add-result
 add-result c = search bands
 
--- src/sample.rt:23:5
 add-result-2 : tie.Need-add-result-2
 add-result-2 c = search bands
 
--- src/sample.rt:17:1
 returns : tie.Need-returns
 unfolding offsetPlace
 returns c = search bands

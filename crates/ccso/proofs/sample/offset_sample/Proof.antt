@@ -2,47 +2,34 @@ use Rattle.ccso.proofs.Offsets.{moves}
 use borrow.Author.Needs.{needs}
 use Rattle.ccso.proofs.sample.offset_sample.Statement.{statement}
 use Rattle.ccso.proofs.sample.offset_sample.Tie as tie
-use Rattle.ccso.proofs.sample.offset_sample.Reads as reads
-use Rattle.ccso.proofs.sample.offset_sample.Lts as lts
-use Rattle.ccso.proofs.counts.raised.Reads as raised-reads
 
--- src/sample.rt:33:32
 cast-raised : tie.Need-cast-raised
 cast-raised c = search moves
 
--- src/sample.rt:33:25
 raised-requires : tie.Need-raised-requires
 raised-requires c κs = search moves
 
--- src/sample.rt:33:25
 mul-up : tie.Need-mul-up
 mul-up c = search moves
 
--- src/sample.rt:33:14
 add-up : tie.Need-add-up
 add-up c = search moves
 
--- src/sample.rt:34:16
 mul-down : tie.Need-mul-down
 mul-down c = search needs
 
--- src/sample.rt:36:9
 returns : tie.Need-returns
 returns c = search moves
 
--- src/sample.rt:39:24
 cast-result : tie.Need-cast-result
 cast-result c = search needs
 
--- src/sample.rt:39:46
 cast-result-2 : tie.Need-cast-result-2
 cast-result-2 c = search needs
 
--- src/sample.rt:27:1
 returns-2 : tie.Need-returns-2
 returns-2 c = search moves
 
--- src/sample.rt:27:1
 returns-3 : tie.Need-returns-3
 returns-3 c = search moves
 

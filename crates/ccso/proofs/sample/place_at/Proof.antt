@@ -5,73 +5,52 @@ use native.Mathlib.Omega.{arith}
 use borrow.Author.Needs.{needs}
 use Rattle.ccso.proofs.sample.place_at.Statement.{statement}
 use Rattle.ccso.proofs.sample.place_at.Tie as tie
-use Rattle.ccso.proofs.sample.place_at.Reads as reads
-use Rattle.ccso.proofs.sample.place_at.Lts as lts
-use Rattle.ccso.proofs.sample.offset_place.Reads as offset-place-reads
-use Rattle.ccso.proofs.taps.classify.Reads as classify-reads
-use Rattle.ccso.proofs.taps.limited.Reads as limited-reads
 
--- src/sample.rt:51:14
 mul-at : tie.Need-mul-at
 mul-at c = column-fits (c .before .before .pre .0) _ (c .before .before .pre .1 .1 .0)
 
--- src/sample.rt:52:18
 add-centre : tie.Need-add-centre
 add-centre c = place-fits (c .before .before .before .pre .0 .ranges) _ (centre-below (c .before .before .before .pre .0 .ranges) (c .before .before .before .pre .1 .0) _ (column (c .before .before .before .pre .0) _ (c .before .before .before .pre .1 .1 .0)))
 
--- src/sample.rt:53:25
 limited-requires : tie.Need-limited-requires
 limited-requires c κs = (omega (arith, (c .before .before .before .pre .0 .ranges) .some-width), column-most (c .before .before .before .pre .0) _ (c .before .before .before .pre .1 .1 .0), omega (arith, (c .before .before .before .pre .0) .dx0, (c .before .before .before .pre .0 .ranges) .dx0 .high))
 
--- src/sample.rt:53:16
 add-tap0 : tie.Need-add-tap0
 add-tap0 c = place-fits (c .before .before .before .before .before .pre .0 .ranges) _ (tap0-below (c .before .before .before .before .before .pre .0 .ranges) (c .before .before .before .before .before .pre .1 .0) _ (c .before .limited .ensures .0))
 
--- src/sample.rt:54:25
 limited-requires-2 : tie.Need-limited-requires-2
 limited-requires-2 c κs = (omega (arith, (c .before .before .before .before .before .pre .0 .ranges) .some-width), column-most (c .before .before .before .before .before .pre .0) _ (c .before .before .before .before .before .pre .1 .1 .0), omega (arith, (c .before .before .before .before .before .pre .0) .dx1, (c .before .before .before .before .before .pre .0 .ranges) .dx1 .high))
 
--- src/sample.rt:54:16
 add-tap1 : tie.Need-add-tap1
 add-tap1 c = place-fits (c .before .before .before .before .before .before .before .pre .0 .ranges) _ (tap1-below (c .before .before .before .before .before .before .before .pre .0 .ranges) (c .before .before .before .before .before .before .before .pre .1 .0) _ (c .before .limited2 .ensures .0))
 
--- src/sample.rt:55:13
 mul-c : tie.Need-mul-c
 mul-c c = bytes-fit (c .before .before .before .before .before .before .before .pre .0 .ranges) _ (centre-below (c .before .before .before .before .before .before .before .pre .0 .ranges) (c .before .before .before .before .before .before .before .pre .1 .0) _ (column (c .before .before .before .before .before .before .before .pre .0) _ (c .before .before .before .before .before .before .before .pre .1 .1 .0)))
 
--- src/sample.rt:55:13
 shared-slice-read-c : tie.Need-shared-slice-read-c
 shared-slice-read-c c = place-there (c .before .before .before .before .before .before .before .before .pre .0 .ranges) _ (centre-below (c .before .before .before .before .before .before .before .before .pre .0 .ranges) (c .before .before .before .before .before .before .before .before .pre .1 .0) _ (column (c .before .before .before .before .before .before .before .before .pre .0) _ (c .before .before .before .before .before .before .before .before .pre .1 .1 .0))) _ (c .before .before .before .before .before .before .before .before .pre .1 .1 .1)
 
--- src/sample.rt:56:33
 mul-classify : tie.Need-mul-classify
 mul-classify c = bytes-fit (c .before .before .before .before .before .before .before .before .pre .0 .ranges) _ (tap0-below (c .before .before .before .before .before .before .before .before .pre .0 .ranges) (c .before .before .before .before .before .before .before .before .pre .1 .0) _ (c .before .before .before .before .limited .ensures .0))
 
--- src/sample.rt:56:33
 shared-slice-read-classify : tie.Need-shared-slice-read-classify
 shared-slice-read-classify c = place-there (c .before .before .before .before .before .before .before .before .before .pre .0 .ranges) _ (tap0-below (c .before .before .before .before .before .before .before .before .before .pre .0 .ranges) (c .before .before .before .before .before .before .before .before .before .pre .1 .0) _ (c .before .before .before .before .before .limited .ensures .0)) _ (c .before .before .before .before .before .before .before .before .before .pre .1 .1 .1)
 
--- src/sample.rt:56:9
 classify-requires : tie.Need-classify-requires
 classify-requires c κs = c .before .before .before .before .before .before .before .before .before .pre .0
 
--- src/sample.rt:57:33
 mul-classify-2 : tie.Need-mul-classify-2
 mul-classify-2 c = bytes-fit (c .before .before .before .before .before .before .before .before .before .before .pre .0 .ranges) _ (tap1-below (c .before .before .before .before .before .before .before .before .before .before .pre .0 .ranges) (c .before .before .before .before .before .before .before .before .before .before .pre .1 .0) _ (c .before .before .before .before .limited2 .ensures .0))
 
--- src/sample.rt:57:33
 shared-slice-read-classify-2 : tie.Need-shared-slice-read-classify-2
 shared-slice-read-classify-2 c = place-there (c .before .before .before .before .before .before .before .before .before .before .before .pre .0 .ranges) _ (tap1-below (c .before .before .before .before .before .before .before .before .before .before .before .pre .0 .ranges) (c .before .before .before .before .before .before .before .before .before .before .before .pre .1 .0) _ (c .before .before .before .before .before .limited2 .ensures .0)) _ (c .before .before .before .before .before .before .before .before .before .before .before .pre .1 .1 .1)
 
--- src/sample.rt:57:9
 classify-requires-2 : tie.Need-classify-requires-2
 classify-requires-2 c κs = c .before .before .before .before .before .before .before .before .before .before .before .pre .0
 
--- src/sample.rt:58:5
 offset-place-requires : tie.Need-offset-place-requires
 offset-place-requires c κs = ((c .before .before .before .before .before .before .before .before .before .before .before .before .pre .0 .ranges), (rw (c .before .before .classify .ensures) (class-most (c .before .before .before .before .before .before .before .before .before .before .before .before .pre .0 .ranges) _ _), rw (c .classify2 .ensures) (class-most (c .before .before .before .before .before .before .before .before .before .before .before .before .pre .0 .ranges) _ _)))
 
--- src/sample.rt:43:1
 returns : tie.Need-returns
 returns c = (place-is _ _ _ _ _ _ _ _ _ _ (centre-is (c .before .before .before .before .before .before .before .before .before .before .before .before .before .pre .0) (c .before .before .before .before .before .before .before .before .before .before .before .before .before .pre .1 .0) _ _) (tap0-is (c .before .before .before .before .before .before .before .before .before .before .before .before .before .pre .0) (c .before .before .before .before .before .before .before .before .before .before .before .before .before .pre .1 .0) _ _ _ (c .before .before .before .before .before .before .before .before .before .limited .ensures .1 _ ((c .before .before .before .before .before .before .before .before .before .before .before .before .before .pre .0) .dx0))) (tap1-is (c .before .before .before .before .before .before .before .before .before .before .before .before .before .pre .0) (c .before .before .before .before .before .before .before .before .before .before .before .before .before .pre .1 .0) _ _ _ (c .before .before .before .before .before .before .before .limited2 .ensures .1 _ ((c .before .before .before .before .before .before .before .before .before .before .before .before .before .pre .0) .dx1))) (c .before .before .before .classify .ensures) (c .before .classify2 .ensures) (c .offset-place .ensures), rw (c .offset-place .ensures) (place-below (c .before .before .before .before .before .before .before .before .before .before .before .before .before .pre .0 .ranges) _ _ _ ((c .before .before .before .before .before .before .before .before .before .before .before .before .before .pre .1 .1 .1) .top _ (centre-below (c .before .before .before .before .before .before .before .before .before .before .before .before .before .pre .0 .ranges) (c .before .before .before .before .before .before .before .before .before .before .before .before .before .pre .1 .0) _ (column (c .before .before .before .before .before .before .before .before .before .before .before .before .before .pre .0) _ (c .before .before .before .before .before .before .before .before .before .before .before .before .before .pre .1 .1 .0)))) (rw (c .before .before .before .classify .ensures) (class-most (c .before .before .before .before .before .before .before .before .before .before .before .before .before .pre .0 .ranges) _ _)) (rw (c .before .classify2 .ensures) (class-most (c .before .before .before .before .before .before .before .before .before .before .before .before .before .pre .0 .ranges) _ _))))
 

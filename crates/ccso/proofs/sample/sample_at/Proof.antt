@@ -3,24 +3,16 @@ use Rattle.ccso.proofs.Signed.{byte-kept}
 use borrow.Author.Needs.{needs}
 use Rattle.ccso.proofs.sample.sample_at.Statement.{statement}
 use Rattle.ccso.proofs.sample.sample_at.Tie as tie
-use Rattle.ccso.proofs.sample.sample_at.Reads as reads
-use Rattle.ccso.proofs.sample.sample_at.Lts as lts
-use Rattle.ccso.proofs.sample.offset_sample.Reads as offset-sample-reads
-use Rattle.ccso.proofs.sample.place_at.Reads as place-at-reads
 
--- src/sample.rt:71:9
 place-at-requires : tie.Need-place-at-requires
 place-at-requires c κs = search needs
 
--- src/sample.rt:72:28
 shared-slice-copy-out-offset-sample : tie.Need-shared-slice-copy-out-offset-sample
 shared-slice-copy-out-offset-sample c = search needs
 
--- src/sample.rt:72:5
 offset-sample-requires : tie.Need-offset-sample-requires
 offset-sample-requires c κs = (c .before .before .before .pre .0, byte-kept _ (c .before .before .before .pre .1 .1 .1 .1 .each _ (c .before .place-at .ensures .1)))
 
--- src/sample.rt:62:1
 returns : tie.Need-returns
 returns c = moved _ _ _ _ _ _ _ _ (c .before .before .before .before .pre .1 .1 .1 .1 .each _ (c .before .before .place-at .ensures .1)) (c .before .before .place-at .ensures .0) (c .offset-sample .ensures)
 

@@ -2,30 +2,22 @@ use Rattle.ccso.proofs.Classes.{classes}
 use borrow.Author.Needs.{needs}
 use Rattle.ccso.proofs.taps.classify.Statement.{statement}
 use Rattle.ccso.proofs.taps.classify.Tie as tie
-use Rattle.ccso.proofs.taps.classify.Reads as reads
-use Rattle.ccso.proofs.taps.classify.Lts as lts
 
--- src/taps.rt:31:13
 add-t : tie.Need-add-t
 add-t c = search needs
 
--- src/taps.rt:33:12
 add-if1 : tie.Need-add-if1
 add-if1 c = search needs
 
--- src/taps.rt:34:9
 returns : tie.Need-returns
 returns c = search classes
 
--- src/taps.rt:36:13
 add-if2 : tie.Need-add-if2
 add-if2 c = search needs
 
--- src/taps.rt:37:9
 returns-2 : tie.Need-returns-2
 returns-2 c = search classes
 
--- src/taps.rt:26:1
 returns-3 : tie.Need-returns-3
 returns-3 c = search classes
 

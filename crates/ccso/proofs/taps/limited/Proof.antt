@@ -3,26 +3,19 @@ use Rattle.ccso.proofs.Classes.{limited-is}
 use borrow.Author.Needs.{needs}
 use Rattle.ccso.proofs.taps.limited.Statement.{statement}
 use Rattle.ccso.proofs.taps.limited.Tie as tie
-use Rattle.ccso.proofs.taps.limited.Reads as reads
-use Rattle.ccso.proofs.taps.limited.Lts as lts
 
--- src/taps.rt:17:14
 add-to : tie.Need-add-to
 add-to c = search needs
 
--- src/taps.rt:19:9
 returns : tie.Need-returns
 returns c = (search needs, limited-is _ _ _ _ (omega arith))
 
--- src/taps.rt:21:16
 sub-last : tie.Need-sub-last
 sub-last c = search needs
 
--- src/taps.rt:12:1
 returns-2 : tie.Need-returns-2
 returns-2 c = (search needs, limited-is _ _ _ _ (omega arith))
 
--- src/taps.rt:12:1
 returns-3 : tie.Need-returns-3
 returns-3 c = (search needs, limited-is _ _ _ _ (omega arith))
 

@@ -1,0 +1,15 @@
+use Rattle.rules.specs.Frame.{chromaOn}
+use Rattle.laws.specs.Choose.{tests}
+use Rattle.frame_checks.proofs.planes.chroma_on.Statement.{statement}
+use Rattle.frame_checks.proofs.planes.chroma_on.Tie as tie
+
+returns : tie.Need-returns
+unfolding chromaOn
+returns c = search tests
+
+returns-2 : tie.Need-returns-2
+unfolding chromaOn
+returns-2 c = search tests
+
+pub chroma-on-spec : {M : Type 1} → statement M
+chroma-on-spec = tie.close (tie.spec returns returns-2)

@@ -1,0 +1,17 @@
+use Rattle.rules.specs.Frame.{eighths}
+use borrow.Author.Needs.{needs}
+use Rattle.frame_checks.proofs.planes.eights.Statement.{statement}
+use Rattle.frame_checks.proofs.planes.eights.Tie as tie
+
+add-result : tie.Need-add-result
+add-result c = search needs
+
+mul-result : tie.Need-mul-result
+mul-result c = search needs
+
+returns : tie.Need-returns
+unfolding eighths
+returns c = search needs
+
+pub eights-spec : {M : Type 1} → statement M
+eights-spec = tie.close (tie.spec add-result mul-result returns)

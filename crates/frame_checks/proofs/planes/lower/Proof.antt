@@ -1,0 +1,12 @@
+use Rattle.grid.proofs.Shifts.{down-none, down-half}
+use Rattle.frame_checks.proofs.planes.lower.Statement.{statement}
+use Rattle.frame_checks.proofs.planes.lower.Tie as tie
+
+returns : tie.Need-returns
+returns c = down-none _ _ (c .if1 .taken)
+
+returns-2 : tie.Need-returns-2
+returns-2 c = down-half _ _ (c .before .pre) (c .if1 .left)
+
+pub lower-spec : {M : Type 1} → statement M
+lower-spec = tie.close (tie.spec returns returns-2)

@@ -1,0 +1,19 @@
+// A frame's settings, plane by plane, and document 01's checks of a frame before its grids are built.
+
+// The settings of a frame's planes and grids.
+pub mod planes;
+
+// Sizes, subsampling and strides: refusal 2.
+mod sizes;
+
+// Lengths of the lent lists: refusal 3.
+pub mod lengths;
+
+// Deltas and caps: refusal 5.
+mod deltas;
+
+// Leaves: refusal 9.
+mod leaves;
+
+// The checks in their order: 1, 2, 3, 4, 5, 9.
+pub mod early;
