@@ -61,11 +61,12 @@ cells f true z =
 pub blocks : (f : Frame) (chroma : Bool) → Sized f → (8 ≤ planeOf f chroma .sbw) × (planeOf f chroma .sbw ≤ 16) × (8 ≤ planeOf f chroma .sbh) × (planeOf f chroma .sbh ≤ 16)
 unfolding lumaPlane chromaPlane
 blocks f false z = (omega arith, omega arith, omega arith, omega arith)
-blocks f true z =
-    (by-shift (λ n. 8 ≤ n) _ 16 (z .ssx-most) (omega arith) (omega arith),
-    by-shift (λ n. n ≤ 16) _ 16 (z .ssx-most) (omega arith) (omega arith),
-    by-shift (λ n. 8 ≤ n) _ 16 (z .ssy-most) (omega arith) (omega arith),
-    by-shift (λ n. n ≤ 16) _ 16 (z .ssy-most) (omega arith) (omega arith))
+blocks f true z = (
+  by-shift (λ n. 8 ≤ n) _ 16 (z .ssx-most) (omega arith) (omega arith),
+  by-shift (λ n. n ≤ 16) _ 16 (z .ssx-most) (omega arith) (omega arith),
+  by-shift (λ n. 8 ≤ n) _ 16 (z .ssy-most) (omega arith) (omega arith),
+  by-shift (λ n. n ≤ 16) _ 16 (z .ssy-most) (omega arith) (omega arith),
+)
 
 -- at most 64 superblocks of 64 samples, and at least one
 pub superblocks-some : (n : ℕ) → 1 ≤ n → 1 ≤ superblocks n

@@ -1,6 +1,7 @@
 // Document 01, refusal 5 of a frame: deltas and caps of both kinds of plane, also where chroma is not filtered.
 use grid::checks::cap_ok;
-use rules::refusals::{Answer, Refusal};
+use rules::refusals::Answer;
+use rules::refusals::Refusal;
 use rules::settings::Frame;
 use thresholds::checks::delta_ok;
 ghost use mathlib.Core.Path.{_≡_};

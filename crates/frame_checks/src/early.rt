@@ -1,10 +1,12 @@
 // Document 01's checks of a frame before its grids are built, in their order.
 use super::deltas::frame_settings;
 use super::leaves::frame_leaves;
-use super::lengths::{Lengths, frame_lengths};
+use super::lengths::Lengths;
+use super::lengths::frame_lengths;
 use super::sizes::frame_sizes;
 use rules::depth::Depth;
-use rules::refusals::{Answer, Refusal};
+use rules::refusals::Answer;
+use rules::refusals::Refusal;
 use rules::settings::Frame;
 use thresholds::checks::steps_check;
 ghost use mathlib.Core.Path.{_≡_};
@@ -12,7 +14,15 @@ ghost use Rattle.rules.specs.Frame.{given};
 ghost use Rattle.frame_checks.specs.Lengths.{earlyBy};
 
 // Order 1, 2, 3, 4, 5, 9.
-pub fn frame_early(steps: &[u32], sbq: &[u16], leaves: &[u16], chromaleaves: &[u16], skips: &[u16], f: Frame, n: Lengths) -> Answer
+pub fn frame_early(
+    steps: &[u32],
+    sbq: &[u16],
+    leaves: &[u16],
+    chromaleaves: &[u16],
+    skips: &[u16],
+    f: Frame,
+    n: Lengths,
+) -> Answer
     ensures { λ r. ⌜ r ≡ earlyBy f (given (now (steps .entry)) (now (sbq .entry)) (now (leaves .entry)) (now (chromaleaves .entry)) (now (skips .entry))) n ⌝ }
 {
     if !Depth::is(f.depth) {

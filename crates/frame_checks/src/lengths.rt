@@ -1,8 +1,11 @@
 // Document 01, refusal 3 of a frame: every list that it uses is long enough, and leaf lists have four numbers a leaf.
 // Lengths travel by value, so that the checks take none of the lists that are written.
-use super::planes::{blocks, chroma_on, plane_of};
+use super::planes::blocks;
+use super::planes::chroma_on;
+use super::planes::plane_of;
 use grid::checks::fours;
-use rules::refusals::{Answer, Refusal};
+use rules::refusals::Answer;
+use rules::refusals::Refusal;
 use rules::settings::Frame;
 ghost use mathlib.Core.Path.{_≡_};
 ghost use mathlib.Core.Bool.{true, false};
@@ -146,7 +149,14 @@ fn chroma_lengths(f: Frame, n: Lengths) -> Answer
 }
 
 // Refusal 3.
-pub fn frame_lengths(sbq: &[u16], leaves: &[u16], chromaleaves: &[u16], skips: &[u16], f: Frame, n: Lengths) -> Answer
+pub fn frame_lengths(
+    sbq: &[u16],
+    leaves: &[u16],
+    chromaleaves: &[u16],
+    skips: &[u16],
+    f: Frame,
+    n: Lengths,
+) -> Answer
     requires { ⌜ frameSizes f ≡ Accepted ⌝ }
     ensures { λ r. ⌜ r ≡ lengthsBy f (length (now (sbq .entry))) (length (now (leaves .entry))) (length (now (chromaleaves .entry))) (length (now (skips .entry))) n ⌝ }
 {

@@ -1,5 +1,8 @@
 // The settings of a frame's planes and grids, luma's or chroma's, in the words of rules' Frame.
-use rules::settings::{Frame, Plane, QindexGrid, TuGrid};
+use rules::settings::Frame;
+use rules::settings::Plane;
+use rules::settings::QindexGrid;
+use rules::settings::TuGrid;
 ghost use mathlib.Core.Path.{_≡_};
 ghost use Prim.Native.Nat.{_≤_};
 ghost use Rattle.rules.specs.Numbers.{down};
@@ -85,7 +88,11 @@ pub fn plane_of(f: Frame, chroma: bool) -> Plane
     requires { ⌜ Sized f ⌝ }
     ensures { λ r. ⌜ r ≡ planeOf f chroma ⌝ }
 {
-    if chroma { chroma_plane(f) } else { luma_plane(f) }
+    if chroma {
+        chroma_plane(f)
+    } else {
+        luma_plane(f)
+    }
 }
 
 // The TU grid's settings.

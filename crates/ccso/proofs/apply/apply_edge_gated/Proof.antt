@@ -1,3 +1,4 @@
+-- `apply_edge_gated` answers with the first check that fails, and runs where none does. Assumes nothing.
 use Rattle.ccso.proofs.Accepted.{entry, accepted, stated-run}
 use mathlib.Core.Path.{sym, _∙_}
 use borrow.Author.Needs.{needs}

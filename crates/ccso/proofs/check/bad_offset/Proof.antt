@@ -1,3 +1,4 @@
+-- `bad_offset`'s loop: no offset so far is bad. Assumes nothing.
 use mathlib.Core.Path.{_≡_}
 use Prim.Native.Nat.{ℕ, _+_, _-_, _≤_}
 use Rattle.rules.specs.declared.refusals.Found.the-variants.{Nothing}

@@ -1,3 +1,4 @@
+-- `check` leaves at the first check that fails. Assumes nothing.
 use Rattle.ccso.proofs.Accepted.{answer-depth, answer-size, answer-length, answer-setting, answer-offset, answer-samples, band-most, long}
 use Rattle.laws.specs.Choose.{told-yes-not, told-no-not}
 use mathlib.Core.Path.{sym}

@@ -1,3 +1,4 @@
+-- `classes_ok` tests the three class numbers. Assumes nothing.
 use Rattle.ccso.specs.Checks.{classesOk}
 use Rattle.laws.specs.Choose.{tests}
 use Rattle.ccso.proofs.check.classes_ok.Statement.{statement}

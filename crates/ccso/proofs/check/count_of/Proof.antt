@@ -1,3 +1,4 @@
+-- `count_of` is 16 times a power of two, at each band log2. Assumes nothing.
 use Rattle.rules.specs.Ccso.{offsetCount}
 use native.Mathlib.Omega.{arith}
 use mathlib.Core.Path.{_≡_}

@@ -1,3 +1,4 @@
+-- `cuts_ok` tests scale and cuts. Assumes nothing.
 use Rattle.ccso.proofs.Ranged.{range-yes, range-no, order-told}
 use Rattle.ccso.specs.Checks.{cutsOk}
 use Rattle.rules.specs.Numbers.{inRange}

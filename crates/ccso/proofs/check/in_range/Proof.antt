@@ -1,3 +1,4 @@
+-- `in_range` tests a signed number by its two counts. Assumes nothing.
 use Rattle.ccso.proofs.Ranged.{split-below, split-above}
 use Rattle.ccso.proofs.Ranged.{range-below, range-above}
 use native.Mathlib.Omega.{arith}

@@ -1,3 +1,4 @@
+-- `lengths_ok` tests the four lengths; its products fit. Assumes nothing.
 use Rattle.ccso.proofs.Lengths.{sizable, area-fits, target-fits, flags-fit, short-luma, short-target, short-flags, no-band, counted}
 use native.Mathlib.Omega.{arith}
 use borrow.Author.Needs.{needs}

@@ -1,3 +1,4 @@
+-- `samples_ok` looks through luma and then through the target. Assumes nothing.
 use Rattle.ccso.proofs.Lengths.{samples, sizable, target-fits, target-long}
 use borrow.Author.Needs.{needs}
 use Rattle.ccso.proofs.check.samples_ok.Statement.{statement}

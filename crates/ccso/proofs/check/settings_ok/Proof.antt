@@ -1,3 +1,4 @@
+-- `settings_ok` is its three parts. Assumes nothing.
 use Rattle.ccso.proofs.Ranged.{settings}
 use borrow.Author.Needs.{needs}
 use Rattle.ccso.proofs.check.settings_ok.Statement.{statement}

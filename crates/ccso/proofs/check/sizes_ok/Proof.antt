@@ -1,3 +1,4 @@
+-- `sizes_ok` tests both sizes and the subsampling. Assumes nothing.
 use Rattle.rules.specs.Numbers.{inRange, subsamplingOk}
 use Rattle.rules.specs.Ccso.{ccsoSizesOk}
 use Rattle.laws.specs.Choose.{tests}

@@ -1,3 +1,4 @@
+-- `taps_ok` tests both taps and the band log2. Assumes nothing.
 use Rattle.ccso.proofs.Ranged.{range-yes, range-no}
 use Rattle.ccso.specs.Checks.{tapsOk}
 use Rattle.rules.specs.Ccso.{bandOk}

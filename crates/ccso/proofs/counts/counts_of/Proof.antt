@@ -1,3 +1,4 @@
+-- `counts_of` raises each signed setting. Assumes nothing.
 use Rattle.ccso.proofs.Offsets.{top-most}
 use native.Mathlib.Omega.{arith}
 use Rattle.ccso.proofs.Signed.{back-within, back-is}

@@ -1,3 +1,4 @@
+-- `sizes_of` divides by the luma samples of a target sample. Assumes nothing.
 use Rattle.ccso.proofs.Places.{across-some, down-some}
 use Rattle.rules.specs.Ccso.{targetWidth, targetHeight}
 use Rattle.rules.specs.Frame.{halved, superblocks}

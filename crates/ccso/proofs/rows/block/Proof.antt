@@ -1,3 +1,4 @@
+-- `block` keeps its columns where the flag is 0, else moves each. Assumes nothing.
 use Rattle.ccso.proofs.Blocks.{flag-below, flag-fits, start-below, start-le, count-le, block-kept, block-moved}
 use Rattle.ccso.proofs.Places.{width-most, block-most}
 use native.Mathlib.Omega.{arith}

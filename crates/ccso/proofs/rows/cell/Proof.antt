@@ -1,3 +1,4 @@
+-- `cell` is one store of the rules, within the target. Assumes nothing.
 use Rattle.ccso.proofs.Blocks.{cell-is}
 use Rattle.ccso.proofs.Places.{target-below, sample-fits, sample-bytes}
 use native.Mathlib.Nat.{lt-of-lt-of-le}

@@ -1,3 +1,4 @@
+-- `cells`' loop: each column so far has its store. Assumes nothing.
 use Rattle.ccso.proofs.Places.{width-most}
 use native.Mathlib.Omega.{arith}
 use mathlib.Core.Path.{_≡_}

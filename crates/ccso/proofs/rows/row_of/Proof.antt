@@ -1,3 +1,4 @@
+-- `row_of` finds where the row's lists start; its products fit. Assumes nothing.
 use Rattle.ccso.proofs.Places.{line, line-fits, line-most, height-most, width-most, product-fits, block-some, blocks-most, tap-row-is}
 use Rattle.rules.specs.Numbers.{up}
 use native.Mathlib.Nat.{div-le-self}

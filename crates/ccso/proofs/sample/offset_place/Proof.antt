@@ -1,3 +1,4 @@
+-- `offset_place` is the rules' place; nothing overflows. Assumes nothing.
 use Rattle.rules.specs.Ccso.{offsetPlace}
 use Rattle.ccso.proofs.Offsets.{bands}
 use borrow.Author.Needs.{needs}

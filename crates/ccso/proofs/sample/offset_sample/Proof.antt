@@ -1,3 +1,4 @@
+-- `offset_sample` limits a sample with its offset. Assumes nothing.
 use Rattle.ccso.proofs.Offsets.{moves}
 use borrow.Author.Needs.{needs}
 use Rattle.ccso.proofs.sample.offset_sample.Statement.{statement}

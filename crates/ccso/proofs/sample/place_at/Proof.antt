@@ -1,3 +1,4 @@
+-- `place_at` reads centre and taps within luma. Assumes nothing.
 use Rattle.ccso.proofs.Offsets.{place-below}
 use Rattle.ccso.proofs.Places.{column, column-fits, column-most, centre-below, tap0-below, tap1-below, place-fits, bytes-fit, place-there, centre-is, tap0-is, tap1-is, place-is}
 use Rattle.ccso.proofs.Classes.{class-most}

@@ -1,3 +1,4 @@
+-- `sample_at` reads the offset at its place. Assumes nothing.
 use Rattle.ccso.proofs.Offsets.{moved}
 use Rattle.ccso.proofs.Signed.{byte-kept}
 use borrow.Author.Needs.{needs}

@@ -1,3 +1,4 @@
+-- `classify` compares counts as the rules compare differences. Assumes nothing.
 use Rattle.ccso.proofs.Classes.{classes}
 use borrow.Author.Needs.{needs}
 use Rattle.ccso.proofs.taps.classify.Statement.{statement}

@@ -1,3 +1,4 @@
+-- `limited` stays within the picture. Assumes nothing.
 use native.Mathlib.Omega.{arith}
 use Rattle.ccso.proofs.Classes.{limited-is}
 use borrow.Author.Needs.{needs}

@@ -1,3 +1,4 @@
+-- `frame_settings` is luma's deltas and caps, then chroma's. Assumes nothing.
 use mir.Syntax.{w32}
 use mir.Facts.{toZ-ofZ}
 use Rattle.rules.specs.Frame.{frameSettings}

@@ -1,3 +1,4 @@
+-- `kind_ok` tests one kind's delta and both caps. Assumes nothing.
 use Rattle.laws.specs.Choose.{all-bad, all-ok, all-last, told-yes-not, told-no-not}
 use mir.Facts.{toZ-ofZ}
 use borrow.Author.Needs.{needs}

@@ -1,3 +1,4 @@
+-- `frame_early` leaves at the first check that refuses, in document 01's order. Assumes nothing.
 use Rattle.rules.specs.Frame.{frameLeaves}
 use mathlib.Core.Path.{sym, _∙_}
 use Rattle.frame_checks.specs.Lengths.{earlyBy}

@@ -1,3 +1,4 @@
+-- `frame_leaves` looks through luma's, chroma's and the skip leaves in turn. Assumes nothing.
 use Rattle.scan.proofs.Checks.{stop-by, go-on-by}
 use borrow.Author.Needs.{needs}
 use Rattle.frame_checks.proofs.leaves.frame_leaves.Statement.{statement}

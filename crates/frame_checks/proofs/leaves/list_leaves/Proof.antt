@@ -1,3 +1,4 @@
+-- `list_leaves` turns a list's first bad leaf into a refusal. Assumes nothing.
 use mathlib.Core.Path.{refl}
 use Rattle.scan.proofs.Checks.{found-bad-by, found-good-by}
 use Rattle.rules.specs.declared.refusals.Refusal.the-variants.{Leaf}

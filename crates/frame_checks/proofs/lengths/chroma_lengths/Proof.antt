@@ -1,3 +1,4 @@
+-- `chroma_lengths` counts only where chroma is filtered. Assumes nothing.
 use Rattle.frame_checks.proofs.Accepted.{frame-sized, chroma-by}
 use Rattle.scan.proofs.Checks.{checks}
 use borrow.Author.Needs.{needs}

@@ -1,3 +1,4 @@
+-- `chroma_long` tests both chroma planes and their grid. Assumes nothing.
 use Rattle.frame_checks.specs.Lengths.{chromaLong}
 use Rattle.laws.specs.Choose.{tests}
 use borrow.Author.Needs.{needs}

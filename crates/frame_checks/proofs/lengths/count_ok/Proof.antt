@@ -1,3 +1,4 @@
+-- `count_ok` tests that the superblocks have their qindex entries. Assumes nothing.
 use Rattle.frame_checks.proofs.Ranges.{superblocks-fit}
 use borrow.Author.Needs.{needs}
 use Rattle.frame_checks.proofs.lengths.count_ok.Statement.{statement}

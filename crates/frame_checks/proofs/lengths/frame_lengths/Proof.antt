@@ -1,3 +1,4 @@
+-- `frame_lengths` is luma's lists, chroma's, then those that are only read. Assumes nothing.
 use Rattle.frame_checks.specs.Lengths.{lengthsBy}
 use Rattle.frame_checks.proofs.Accepted.{frame-sized, luma-sizes}
 use Rattle.scan.proofs.Checks.{stop, stop-by, go-on, go-on-by, unless-bad, unless-good}

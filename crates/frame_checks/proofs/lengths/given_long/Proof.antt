@@ -1,3 +1,4 @@
+-- `given_long` tests the lists that are only read. Assumes nothing.
 use Rattle.frame_checks.specs.Lengths.{givenLong}
 use Rattle.laws.specs.Choose.{all-bad, all-ok, told-yes-not, told-no-not}
 use borrow.Author.Needs.{needs}

@@ -1,3 +1,4 @@
+-- `leaves_long` tests that each leaf list has four numbers a leaf. Assumes nothing.
 use Rattle.laws.specs.Choose.{tests}
 use borrow.Author.Needs.{needs}
 use Rattle.frame_checks.proofs.lengths.leaves_long.Statement.{statement}

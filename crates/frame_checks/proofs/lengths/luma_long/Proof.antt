@@ -1,3 +1,4 @@
+-- `luma_long` tests luma's plane and grid. Assumes nothing.
 use Rattle.frame_checks.specs.Lengths.{lumaLong}
 use Rattle.laws.specs.Choose.{tests}
 use borrow.Author.Needs.{needs}

@@ -1,3 +1,4 @@
+-- `samples_long` tests a plane's length; its product fits. Assumes nothing.
 use Rattle.frame_checks.proofs.Accepted.{four-rows-fit, samples-fit}
 use borrow.Author.Needs.{needs}
 use Rattle.frame_checks.proofs.lengths.samples_long.Statement.{statement}

@@ -1,3 +1,4 @@
+-- `blocks` counts superblocks. Assumes nothing.
 use Rattle.rules.specs.Frame.{superblocks}
 use borrow.Author.Needs.{needs}
 use Rattle.frame_checks.proofs.planes.blocks.Statement.{statement}

@@ -1,3 +1,4 @@
+-- `chroma_on` holds where a frame filters chroma. Assumes nothing.
 use Rattle.rules.specs.Frame.{chromaOn}
 use Rattle.laws.specs.Choose.{tests}
 use Rattle.frame_checks.proofs.planes.chroma_on.Statement.{statement}

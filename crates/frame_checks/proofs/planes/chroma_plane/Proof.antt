@@ -1,3 +1,4 @@
+-- `chroma_plane` is the rules' chroma plane. Assumes nothing.
 use mir.Syntax.{w32}
 use mir.Facts.{toZ-ofZ}
 use Rattle.frame_checks.proofs.Ranges.{chroma-is, eighths-by, down-by}

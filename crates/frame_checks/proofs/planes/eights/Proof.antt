@@ -1,3 +1,4 @@
+-- `eights` rounds up to 8. Assumes nothing.
 use Rattle.rules.specs.Frame.{eighths}
 use borrow.Author.Needs.{needs}
 use Rattle.frame_checks.proofs.planes.eights.Statement.{statement}

@@ -1,3 +1,4 @@
+-- `half` shifts a size, rounded up. Assumes nothing.
 use Rattle.frame_checks.proofs.Ranges.{half-most}
 use Rattle.rules.specs.Frame.{halved}
 use borrow.Author.Needs.{needs}

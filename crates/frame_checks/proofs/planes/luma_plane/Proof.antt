@@ -1,3 +1,4 @@
+-- `luma_plane` is the rules' luma plane. Assumes nothing.
 use mir.Syntax.{w32}
 use mir.Facts.{toZ-ofZ}
 use Rattle.frame_checks.proofs.Ranges.{luma-is}

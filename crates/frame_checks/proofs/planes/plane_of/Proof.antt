@@ -1,3 +1,4 @@
+-- `plane_of` is luma's or chroma's plane. Assumes nothing.
 use borrow.Author.Needs.{needs}
 use Rattle.frame_checks.proofs.planes.plane_of.Statement.{statement}
 use Rattle.frame_checks.proofs.planes.plane_of.Tie as tie

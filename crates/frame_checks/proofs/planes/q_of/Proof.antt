@@ -1,3 +1,4 @@
+-- `q_of` is the rules' qindex grid settings, luma's or chroma's. Assumes nothing.
 use Rattle.rules.specs.Frame.{chromaQ, lumaQ}
 use borrow.Author.Needs.{needs}
 use Rattle.frame_checks.proofs.planes.q_of.Statement.{statement}

@@ -1,3 +1,4 @@
+-- `tu_of` is the rules' TU grid settings, luma's or chroma's. Assumes nothing.
 use Rattle.rules.specs.Frame.{chromaTu, lumaTu}
 use borrow.Author.Needs.{needs}
 use Rattle.frame_checks.proofs.planes.tu_of.Statement.{statement}

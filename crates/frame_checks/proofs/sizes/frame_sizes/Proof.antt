@@ -1,3 +1,4 @@
+-- `frame_sizes` is luma's sizes, then chroma's stride where chroma is filtered. Assumes nothing.
 use Rattle.rules.specs.Frame.{frameSizes}
 use Rattle.frame_checks.proofs.Accepted.{sized-by}
 use Rattle.scan.proofs.Checks.{stop, go-on, unless-bad, unless-good, only-yes, only-no}

@@ -1,3 +1,4 @@
+-- `luma_ok` tests size, subsampling and luma's stride. Assumes nothing.
 use Rattle.frame_checks.proofs.Accepted.{size-by}
 use Rattle.laws.specs.Choose.{all-bad, all-ok, all-last, told-yes-not, told-no-not}
 use borrow.Author.Needs.{needs}

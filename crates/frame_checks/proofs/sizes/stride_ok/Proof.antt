@@ -1,3 +1,4 @@
+-- `stride_ok` tests a plane's stride. Assumes nothing.
 use Rattle.frame_checks.proofs.Accepted.{four-cols-fit}
 use borrow.Author.Needs.{needs}
 use Rattle.frame_checks.proofs.sizes.stride_ok.Statement.{statement}
