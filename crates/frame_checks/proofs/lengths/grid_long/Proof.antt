@@ -1,4 +1,4 @@
--- `grid_long` tests the five lists of a grid. Assumes nothing.
+-- `grid_long` tests a plane's grid against its cells; their product fits. Assumes nothing.
 use Rattle.frame_checks.proofs.Accepted.{grid-fits}
 use borrow.Author.Needs.{needs}
 use Rattle.frame_checks.proofs.lengths.grid_long.Statement.{statement}

@@ -1,4 +1,4 @@
--- `lists_long` tests the lists of a grid against its cells; their product fits. Assumes nothing.
+-- `lists_long` tests the five lists of a grid. Assumes nothing.
 use Rattle.frame_checks.specs.Lengths.{gridLongBy}
 use Rattle.laws.specs.Choose.{tests}
 use Rattle.frame_checks.proofs.lengths.lists_long.Statement.{statement}
