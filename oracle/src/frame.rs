@@ -251,7 +251,21 @@ fn damaged_lists(random: &Random, c: &mut Case) {
 }
 
 pub fn make(random: &Random, refused: bool, _: Option<&[u32]>) -> Made {
+    finished(random, refused, good(random))
+}
+
+/// As `make`, on pictures of bins.
+pub fn make_bins(random: &Random, refused: bool, _: Option<&[u32]>) -> Made {
     let mut c = good(random);
+    for (k, stride) in [c.strides.0, c.strides.1, c.strides.1].into_iter().enumerate() {
+        if !c.planes[k].is_empty() {
+            c.planes[k] = picture::bin(random, stride as usize, c.planes[k].len(), c.depth);
+        }
+    }
+    finished(random, refused, c)
+}
+
+fn finished(random: &Random, refused: bool, mut c: Case) -> Made {
     if refused && random.once_in(3) {
         crowd(random, &mut c);
     } else if refused {

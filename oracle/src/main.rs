@@ -2,6 +2,7 @@
 
 mod ccso;
 mod damage;
+mod differences;
 mod frame;
 mod grid;
 mod line;
@@ -38,7 +39,7 @@ pub struct Made {
 /// Makes a case, one to be refused if asked so; it is given the step table of the case before.
 type Make = fn(&Random, bool, Option<&[u32]>) -> Made;
 
-const USAGE: &str = "oracle thresholds|segment|segment-limits|plane|grid|frame|ccso N SEED [--only accepted|refused]";
+const USAGE: &str = "oracle thresholds|segment|segment-limits|plane|plane-bins|grid|frame|frame-bins|ccso N SEED [--only accepted|refused], or: oracle differences";
 
 fn part(name: &str) -> Option<Make> {
     match name {
@@ -46,8 +47,10 @@ fn part(name: &str) -> Option<Make> {
         "segment" => Some(segment::make),
         "segment-limits" => Some(segment::make_limits),
         "plane" => Some(plane::make),
+        "plane-bins" => Some(plane::make_bins),
         "grid" => Some(grid::make),
         "frame" => Some(frame::make),
+        "frame-bins" => Some(frame::make_bins),
         "ccso" => Some(ccso::make),
         _ => None,
     }
@@ -93,6 +96,9 @@ fn run(make: Make, n: u64, seed: u64, only: Option<bool>, out: &mut impl Write) 
 
 fn main() {
     let words: Vec<String> = std::env::args().skip(1).collect();
+    if words == ["differences"] {
+        exit(if differences::show() { 0 } else { 1 });
+    }
     let asked = match words.as_slice() {
         [name, n, seed, rest @ ..] => match (part(name), n.parse(), seed.parse(), wanted(rest)) {
             (Some(make), Ok(n), Ok(seed), Some(only)) => Some((make, n, seed, only)),

@@ -1,4 +1,4 @@
-//! What a coder's pictures look like: block tilings, qindex entries and samples with steps between blocks.
+//! What a coder's pictures look like: block tilings, qindex entries, samples with steps between blocks, and bins on a scale.
 
 use crate::random::Random;
 use crate::refusals;
@@ -106,6 +106,34 @@ pub fn samples(random: &Random, stride: usize, rows: usize, depth: u64, spare: u
         plane.push(value.clamp(0, top) as u16);
     }
     plane
+}
+
+/// A bin on the scale as a coder leaves it: light that falls off over the picture, round fruit, each block at a coarse level of its own, and
+/// over these a bright tag with thin dark bars. The list has `n` samples in rows of `stride`.
+pub fn bin(random: &Random, stride: usize, n: usize, depth: u64) -> Vec<u16> {
+    let top = refusals::top(depth) as i64;
+    let unit = 1i64 << (depth - 8);
+    let rows = n.div_ceil(stride);
+    let fall = (random.within(-3, 3), random.within(-3, 3));
+    let (fruit, block, coarse) = (random.one_of(&[12, 20, 28]), random.one_of(&[4, 8, 16]), unit * random.one_of(&[1, 4, 8]));
+    let tag = (random.below(stride as u64) as usize, random.below(rows as u64) as usize, random.size(8, 60), random.size(6, 30));
+    let (bar, gap) = (random.size(1, 3), random.size(1, 4));
+    let light = |y: usize, x: usize| unit * (110 + (fall.0 * x as i64 + fall.1 * y as i64) / 4);
+    let skin = |y: usize, x: usize| {
+        let (dx, dy): (i64, i64) = ((x % fruit) as i64 - fruit as i64 / 2, (y % fruit) as i64 - fruit as i64 / 2);
+        unit * ((fruit * fruit / 4) as i64 - dx * dx - dy * dy).max(0) / 4
+    };
+    let level = |y: usize, x: usize| (light(y, x) + skin(y, x)) / coarse * coarse;
+    let on_tag = |y: usize, x: usize| x >= tag.0 && x < tag.0 + tag.2 && y >= tag.1 && y < tag.1 + tag.3;
+    let sample = |i: usize| {
+        let (y, x) = (i / stride, i % stride);
+        match on_tag(y, x) {
+            true if (x - tag.0) % (bar + gap) < bar => unit * 20,
+            true => unit * 235,
+            false => level(y / block * block, x / block * block) + random.within(0, 1),
+        }
+    };
+    (0..n).map(|i| sample(i).clamp(0, top) as u16).collect()
 }
 
 /// Some entries more than needed, now and then.

@@ -196,7 +196,17 @@ fn bad_cells(random: &Random, marks: &mut Marks, n: u64) {
 }
 
 pub fn make(random: &Random, refused: bool, _: Option<&[u32]>) -> Made {
+    finished(random, refused, good(random))
+}
+
+/// As `make`, on pictures of bins.
+pub fn make_bins(random: &Random, refused: bool, _: Option<&[u32]>) -> Made {
     let mut c = good(random);
+    c.plane = picture::bin(random, c.stride as usize, c.plane.len(), c.depth);
+    finished(random, refused, c)
+}
+
+fn finished(random: &Random, refused: bool, mut c: Case) -> Made {
     // A third of the refused cases lack room alone, a third lack nothing else.
     let kind = if refused { random.below(3) } else { 2 };
     if kind == 2 {

@@ -115,7 +115,18 @@ pub mod deblock {
     }
 
     pub fn qindex_grid(entries: &[u16], sb_cols: usize, cells: (usize, usize), sub: (usize, usize)) -> Vec<u16> {
-        build_qindex_grid(entries, sb_cols, cells.0, cells.1, sub.0, sub.1, 7)
+        qindex_grid_from(7, entries, sb_cols, cells, sub)
+    }
+
+    /// The same, from the `base_q` that is given.
+    pub fn qindex_grid_from(base: u16, entries: &[u16], sb_cols: usize, cells: (usize, usize), sub: (usize, usize)) -> Vec<u16> {
+        build_qindex_grid(entries, sb_cols, cells.0, cells.1, sub.0, sub.1, base)
+    }
+
+    /// A line's samples before and after an edge, as the Rust reads them.
+    pub fn line(floats: &[f32], base: isize, perp: isize) -> ([i32; 9], [i32; 9]) {
+        let line = read_line(floats, base, perp);
+        (line.p, line.q)
     }
 
     /// A plane's settings.
@@ -133,6 +144,11 @@ pub mod deblock {
 
     /// The plane after the Rust deblocked it.
     pub fn plane(s: &Settings, marks: &Marks, qindex: &[u16], plane: &[u16]) -> Vec<u16> {
+        plane_by(s, marks, qindex, plane, (true, true))
+    }
+
+    /// The same with the Rust's two flags: vertical edges, horizontal edges.
+    pub fn plane_by(s: &Settings, marks: &Marks, qindex: &[u16], plane: &[u16], flags: (bool, bool)) -> Vec<u16> {
         let mut floats = to_floats(plane);
         let vertical: Vec<bool> = marks.vertical.iter().map(|&m| m == 1).collect();
         let horizontal: Vec<bool> = marks.horizontal.iter().map(|&m| m == 1).collect();
@@ -157,7 +173,7 @@ pub mod deblock {
             sb_mi_w: s.superblock.0,
             sb_mi_h: s.superblock.1,
         };
-        deblock_plane(&mut config, &layout, true, true);
+        deblock_plane(&mut config, &layout, flags.0, flags.1);
         to_samples(&floats)
     }
 
@@ -214,6 +230,9 @@ pub mod ccso {
     include!(concat!(env!("MAROONTREE"), "/src/av2/ccso.rs"));
 
     use super::{to_floats, to_samples};
+
+    /// How many samples the Rust replicates beyond each border.
+    pub const BORDER: i64 = PAD as i64;
 
     /// A choice among the Rust's own settings.
     pub struct Choice {

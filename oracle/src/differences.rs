@@ -1,0 +1,90 @@
+//! What docs/DIFFERENCES.md says of the published Rust, each shown by running it.
+
+use crate::rust::ccso::{Choice, BORDER};
+use crate::rust::deblock::{self, Marks, Settings};
+use crate::rust::quant;
+use std::panic;
+
+/// What is said of the Rust, and whether it is so.
+type Said = (&'static str, fn() -> bool);
+
+const SAID: [Said; 9] = [
+    ("read_line clamps an offset before the plane to its first sample", clamps_before),
+    ("read_line clamps an offset past the plane to its last sample", clamps_after),
+    ("f32 samples are cut to whole numbers when read", cuts),
+    ("qstep gives entries 256..351 the step of 255", steps_end),
+    ("base_q never shows in a qindex grid", base_hidden),
+    ("build_qindex_grid panics on an empty list", empty_panics),
+    ("deblock_plane panics on a short qindex list", short_panics),
+    ("without its flags deblock_plane keeps the plane", flags_off),
+    ("every tap of the CCSO supports lies within the replicated border", taps_within),
+];
+
+fn clamps_before() -> bool {
+    deblock::line(&[5.0, 6.0, 7.0], 1, 1).0 == [5; 9]
+}
+
+fn clamps_after() -> bool {
+    deblock::line(&[5.0, 6.0, 7.0], 1, 1).1 == [6, 7, 7, 7, 7, 7, 7, 7, 7]
+}
+
+fn cuts() -> bool {
+    deblock::line(&[100.9, 8.5], 1, 1).0[0] == 100
+}
+
+fn steps_end() -> bool {
+    quant::steps()[256..].iter().all(|&step| step == quant::steps()[255])
+}
+
+fn base_hidden() -> bool {
+    let grid = |base| deblock::qindex_grid_from(base, &[1, 2, 3], 2, (40, 40), (0, 0));
+    grid(0) == grid(65535)
+}
+
+/// Whether a call panics; what it would print is kept back.
+fn panics(call: impl FnOnce() + panic::UnwindSafe) -> bool {
+    let hook = panic::take_hook();
+    panic::set_hook(Box::new(|_| ()));
+    let ended = panic::catch_unwind(call);
+    panic::set_hook(hook);
+    ended.is_err()
+}
+
+fn empty_panics() -> bool {
+    panics(|| drop(deblock::qindex_grid(&[], 1, (2, 2), (0, 0))))
+}
+
+/// A plane of two cells side by side with a step between them, and its edge marked.
+fn two_cells() -> (Settings, Marks, Vec<u16>) {
+    let settings =
+        Settings { cells: (2, 1), stride: 8, size: (8, 4), superblock: (16, 16), chroma: false, depth: 8, delta_q: 0, delta_side: 0 };
+    let marks = Marks { vertical: vec![0, 1], horizontal: vec![0, 0], width: vec![0, 0], height: vec![0, 0] };
+    (settings, marks, (0..32).map(|i| if i % 8 < 4 { 100 } else { 108 }).collect())
+}
+
+fn short_panics() -> bool {
+    let (settings, marks, plane) = two_cells();
+    panics(move || drop(deblock::plane(&settings, &marks, &[200], &plane)))
+}
+
+fn flags_off() -> bool {
+    let (settings, marks, plane) = two_cells();
+    let run = |flags| deblock::plane_by(&settings, &marks, &[200, 200], &plane, flags);
+    run((false, false)) == plane && run((true, true)) != plane
+}
+
+fn taps_within() -> bool {
+    let taps = (0..7).flat_map(|support| Choice { scale: 0, quantizer: 0, support, classifier: 0, bands: 0 }.taps());
+    taps.into_iter().all(|(dx, dy)| dx.abs().max(dy.abs()) <= BORDER)
+}
+
+/// Prints each sentence with its outcome; false where one does not hold.
+pub fn show() -> bool {
+    let mut all = true;
+    for (words, holds) in SAID {
+        let so = holds();
+        println!("differences: {words}: {}", if so { "so" } else { "NOT SO" });
+        all &= so;
+    }
+    all
+}
