@@ -45,12 +45,13 @@ pub fn shorten<T>(random: &Random, list: &mut Vec<T>, needed: u64) {
     list.truncate(keep as usize);
 }
 
-/// A step table with one to three faults.
+/// A step table with one to three faults; none of them mends the length that another spoiled.
 pub fn steps(random: &Random, steps: &mut Vec<u32>) {
+    let good = steps.len();
     for _ in 0..random.size(1, 3) {
         match random.below(6) {
             0 => steps.truncate(random.one_of(&[0, 1, 255, 351])),
-            1 => steps.push(64),
+            1 => steps.resize(steps.len() + 1 + (steps.len() + 1 == good) as usize, 64),
             2 if !steps.is_empty() => steps[0] = random.one_of(&[0, 63, 65, u32::MAX]),
             _ if !steps.is_empty() => {
                 let at = random.below(steps.len() as u64) as usize;
