@@ -4,8 +4,6 @@
 mod tx;
 // one qindex grid of the stream
 mod qindex;
-// what is counted and printed
-mod tally;
 
 use cases::Cursor;
 use tally::Tally;

@@ -1,11 +1,10 @@
 // One qindex grid: what the entry is asked, and what the stream says that it answers.
 ghost use Prim.Native.Nat.{_≤_};
 ghost use lib.ListN.{length};
-use crate::tally;
-use crate::tally::Tally;
 use cases::Cursor;
 use grid::qindex_grid::build_qindex_grid;
 use rules::settings::QindexGrid;
+use tally::Tally;
 
 // The settings, where the lists start, how long they are, the answer, and what follows it.
 struct Case {

@@ -1,12 +1,11 @@
 // One TU grid: what the entry is asked, and what the stream says that it answers.
 ghost use Prim.Native.Nat.{_≤_};
 ghost use lib.ListN.{length};
-use crate::tally;
-use crate::tally::Tally;
 use cases::Cursor;
 use cases::Listed;
 use grid::tx_grid::build_tx_grid;
 use rules::settings::TuGrid;
+use tally::Tally;
 
 // The settings and what follows them.
 struct Asked {

@@ -1,11 +1,10 @@
 // One plane: what the entry is asked, and what the stream says that it answers.
 ghost use Prim.Native.Nat.{_≤_};
 ghost use lib.ListN.{length};
-use crate::tally;
-use crate::tally::Tally;
 use cases::Cursor;
 use plane::deblock_plane;
 use rules::settings::Plane;
+use tally::Tally;
 
 // The settings and what follows them.
 struct Asked {

@@ -2,8 +2,6 @@
 
 // one plane of the stream
 mod case;
-// what is counted and printed
-mod tally;
 
 ghost use mathlib.Core.Path.{_≡_};
 ghost use lib.ListN.{length};

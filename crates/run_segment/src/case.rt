@@ -1,10 +1,9 @@
 // One case: what the entry is asked, and what the stream says that it answers and leaves.
-use crate::tally;
-use crate::tally::Tally;
 use cases::Cursor;
 use rules::refusals::Width;
 use rules::settings::Lone;
 use segment::filter_lone;
+use tally::Tally;
 ghost use mathlib.Core.Path.{_≡_};
 ghost use lib.ListN.{length};
 
@@ -96,9 +95,7 @@ pub fn read(text: &[u8], c: Cursor, plane: &mut [u16]) -> Case
 fn same(answer: Width, c: Case) -> bool {
     match answer {
         Width::Samples(w) => c.number == 0 && w == c.a,
-        Width::Refused(r) => {
-            rules::refusals::number(r) as usize == c.number && rules::refusals::place(r) == c.a
-        }
+        Width::Refused(r) => tally::refused(r, c.number, c.a),
     }
 }
 
@@ -119,9 +116,10 @@ pub fn compare(text: &[u8], c: Case, plane: &mut [u16], t: Tally) -> Tally
         return tally::unread(t);
     }
     let answer = filter_lone(plane, c.s);
-    let counted = tally::count(t, c.number, c.a);
-    if same(answer, c) && same_plane(text, c, plane) {
-        return counted;
+    let same = same(answer, c) && same_plane(text, c, plane);
+    let counted = tally::case(t, c.number, same);
+    if c.number == 0 {
+        return tally::width(counted, c.a);
     }
-    tally::differ(counted)
+    counted
 }

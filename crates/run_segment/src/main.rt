@@ -2,8 +2,6 @@
 
 // one case of the stream
 mod case;
-// what is counted and printed
-mod tally;
 
 use cases::Cursor;
 use tally::Tally;
@@ -53,5 +51,7 @@ fn replay_all(buf: &mut [u8], plane: &mut [u16]) -> Tally {
 fn main() {
     let mut buf = room();
     let mut plane = samples();
-    tally::print(replay_all(&mut buf, &mut plane));
+    let t = replay_all(&mut buf, &mut plane);
+    tally::print(t);
+    tally::print_widths(t);
 }

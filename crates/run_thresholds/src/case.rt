@@ -1,8 +1,7 @@
 // One case: what the entry is asked, and what the stream says that it answers.
-use crate::tally;
-use crate::tally::Tally;
 use cases::Cursor;
 use rules::refusals::Thresholds;
+use tally::Tally;
 use thresholds::combine::combine_thresholds;
 
 // The entry's numbers, the refusal's number or 0, and the answer's two numbers.
@@ -61,9 +60,7 @@ pub fn read(text: &[u8], c: Cursor) -> Case {
 fn same(answer: Thresholds, c: Case) -> bool {
     match answer {
         Thresholds::Both(q, side) => c.number == 0 && q as usize == c.a && side as usize == c.b,
-        Thresholds::Refused(r) => {
-            rules::refusals::number(r) as usize == c.number && rules::refusals::place(r) == c.a
-        }
+        Thresholds::Refused(r) => tally::refused(r, c.number, c.a),
     }
 }
 
@@ -73,9 +70,5 @@ pub fn compare(c: Case, steps: &[u32], t: Tally) -> Tally {
         return tally::unread(t);
     }
     let answer = combine_thresholds(c.curr, c.prev, c.deltaq, c.deltaside, c.depth, steps);
-    let counted = tally::count(t, c.number);
-    if same(answer, c) {
-        return counted;
-    }
-    tally::differ(counted)
+    tally::case(t, c.number, same(answer, c))
 }

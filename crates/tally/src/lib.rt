@@ -1,0 +1,113 @@
+// What a replay of recorded cases counts, and what it prints: the programs run_* speak through it, and oracle/compare reads it.
+use rules::refusals;
+use rules::refusals::Answer;
+use rules::refusals::Refusal;
+use std::num::wrapping_add_u64;
+
+// Cases by the refusal number that the stream gives them, 0 for none; accepted segments by their width; cases that differ; lines that can't be read.
+pub struct Tally {
+    pub numbers: [u64; 10],
+    pub widths: [u64; 9],
+    pub different: u64,
+    pub unread: u64,
+}
+
+pub fn none() -> Tally {
+    Tally {
+        numbers: [0; 10],
+        widths: [0; 9],
+        different: 0,
+        unread: 0,
+    }
+}
+
+// A line more that can't be read.
+pub fn unread(before: Tally) -> Tally {
+    let mut t = before;
+    t.unread = wrapping_add_u64(t.unread, 1);
+    t
+}
+
+// One case more, by its refusal's number, 0 for none.
+fn count(before: Tally, number: usize) -> Tally {
+    let mut t = before;
+    if number < 10 {
+        t.numbers[number] = wrapping_add_u64(t.numbers[number], 1);
+        return t;
+    }
+    unread(t)
+}
+
+// One case more, and whether its answer and its lists were the stream's.
+pub fn case(before: Tally, number: usize, same: bool) -> Tally {
+    let mut t = count(before, number);
+    if !same {
+        t.different = wrapping_add_u64(t.different, 1);
+    }
+    t
+}
+
+// The width of an accepted segment.
+pub fn width(before: Tally, samples: usize) -> Tally {
+    let mut t = before;
+    if samples < 9 {
+        t.widths[samples] = wrapping_add_u64(t.widths[samples], 1);
+    }
+    t
+}
+
+// Whether a refusal has this number and place.
+pub fn refused(r: Refusal, number: usize, place: usize) -> bool {
+    refusals::number(r) as usize == number && refusals::place(r) == place
+}
+
+// Whether an answer is the refusal of this number and place, or accepts where the number is 0.
+pub fn same(answer: Answer, number: usize, place: usize) -> bool {
+    match answer {
+        Answer::Accepted => number == 0,
+        Answer::Refused(r) => refused(r, number, place),
+    }
+}
+
+// A number after its name.
+fn part(name: &[u8], value: u64) {
+    io::write_all(1, name);
+    io::print_decimal(1, value);
+}
+
+fn print_numbers(n: [u64; 10]) {
+    part(b"accepted ", n[0]);
+    part(b", refused by 1: ", n[1]);
+    part(b", by 2: ", n[2]);
+    part(b", by 3: ", n[3]);
+    part(b", by 4: ", n[4]);
+    part(b", by 5: ", n[5]);
+    part(b", by 6: ", n[6]);
+    part(b", by 7: ", n[7]);
+    part(b", by 8: ", n[8]);
+    part(b", by 9: ", n[9]);
+}
+
+// How the cases came out, in one line.
+pub fn print(t: Tally) {
+    let n = t.numbers;
+    print_numbers(n);
+    part(b"; different ", t.different);
+    part(b", unread ", t.unread);
+    io::write_all(1, b"\n");
+}
+
+// How often each width was reached, in one line.
+pub fn print_widths(t: Tally) {
+    let w = t.widths;
+    part(b"width 0: ", w[0]);
+    part(b", 1: ", w[1]);
+    part(b", 2: ", w[2]);
+    part(b", 3: ", w[3]);
+    part(b", 4: ", w[4]);
+    part(b", 5: ", w[5]);
+    part(b", 6: ", w[6]);
+    part(b", 7: ", w[7]);
+    part(b", 8: ", w[8]);
+    io::write_all(1, b"\n");
+}
