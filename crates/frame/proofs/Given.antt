@@ -1,0 +1,178 @@
+-- What the accepted early checks of a frame give: all that building its grids and filtering its planes ask.
+-- Assumes nothing.
+use mathlib.Core.Path.{_≡_, refl, sym, ap, _∙_}
+use mathlib.Core.Bool.{Bool, true, false}
+use mathlib.Core.List.{List, [], _∷_}
+use Prim.Native.Nat.{ℕ, _+_, _*_, _≤_, _<_}
+use native.Mathlib.Nat.{mul-le-mul}
+use native.Mathlib.Omega.{arith}
+use borrow.Author.Tests.{leb-true}
+use lib.Dec.{leb}
+use lib.ListN.{length}
+use Rattle.laws.specs.Choose.{both, all, both-parts, all-parts}
+use Rattle.rules.specs.declared.settings.Frame.{Frame}
+use Rattle.rules.specs.declared.refusals.Refusal.the-variants.{Depth, Length, Setting, Leaf}
+use Rattle.rules.specs.declared.refusals.Answer.the-variants.{Accepted}
+use Rattle.rules.specs.Numbers.{depthOk, deltaOk}
+use Rattle.rules.specs.Refusals.{unless, onlyIf, found}
+use Rattle.rules.specs.Thresholds.{stepsCheck}
+use Rattle.rules.specs.Plane.{Grid}
+use Rattle.rules.specs.TuGrid.{capOk, foursOk}
+use Rattle.rules.specs.Frame.{Given, Lent, lumaPlane, chromaPlane, lumaTu, chromaTu, lumaQ, chromaQ, superblocks, chromaOn, samplesLong, gridLong, frameSizes, frameLengths, frameSettings, frameLeaves, frameEarly}
+use Rattle.scan.proofs.Checks.{else-parts, unless-true, found-nothing, only-part}
+use Rattle.grid.specs.Fit.{AllGood}
+use Rattle.grid.proofs.Checked.{by-cap, all-good}
+use Rattle.cells.specs.Fit.{Sizes}
+use Rattle.frame_checks.specs.Settings.{Sized, planeOf, tuOf, qOf}
+use Rattle.frame_checks.proofs.Ranges.{superblocks-some, superblocks-most}
+use Rattle.frame_checks.proofs.Accepted.{frame-sized, luma-sizes, chroma-sizes}
+use Rattle.frame.specs.Fit.{Sampled, Stepped, Buildable}
+
+cap-some : (n : ℕ) → capOk n ≡ true → 1 ≤ n
+cap-some = by-cap (λ n. 1 ≤ n) (omega arith) (omega arith) (omega arith) (omega arith) (omega arith)
+
+-- ---- a grid's lists and leaves
+
+record Lists (n : ℕ) (g : Grid) : Type 0 where
+  pub vedge : n ≤ length (g .vedge)
+  pub hedge : n ≤ length (g .hedge)
+  pub sqw : n ≤ length (g .sqw)
+  pub sqh : n ≤ length (g .sqh)
+  pub qindex : n ≤ length (g .qindex)
+
+lists : (n : ℕ) (g : Grid) → gridLong n g ≡ true → Lists n g
+unfolding gridLong
+lists n g e =
+    let p1 = all-parts _ _ e in
+    let p2 = all-parts _ _ (p1 .1) in
+    let p3 = all-parts _ _ (p2 .1) in
+    let p4 = all-parts _ _ (p3 .1) in
+    let p5 = all-parts _ _ (p4 .1) in
+    record { vedge = leb-true _ _ (p1 .0); hedge = leb-true _ _ (p2 .0); sqw = leb-true _ _ (p3 .0); sqh = leb-true _ _ (p4 .0); qindex = leb-true _ _ (p5 .0) }
+
+module _ (f : Frame) (leaves skips : List ℕ) (count : ℕ) (g : Grid) (z : Sized f) (a : AllGood leaves) (b : AllGood skips) (some : 1 ≤ count) where
+  luma-buildable : Sizes (lumaPlane f) → capOk (f .capw) ≡ true → capOk (f .caph) ≡ true → Lists (lumaPlane f .rows * lumaPlane f .cols) g → Buildable f false leaves skips count (length (g .vedge)) (length (g .hedge)) (length (g .sqw)) (length (g .sqh)) (length (g .qindex))
+  unfolding lumaTu lumaQ
+  luma-buildable s w h l =
+      record {
+        sized = z;
+        fit = record { cols-most = s .cols-most; rows-most = s .rows-most; long-v = l .vedge; long-h = l .hedge; long-w = l .sqw; long-t = l .sqh };
+        cut = record { ssx-most = omega arith; ssy-most = omega arith; some-w = cap-some _ w; some-h = cap-some _ h };
+        leaves-good = a;
+        skips-good = b;
+        q-fit = record { cols-most = s .cols-most; rows-most = s .rows-most; ssx-most = omega arith; ssy-most = omega arith; sbcols-most = omega (arith, superblocks-most (f .width) (z .width-most)); some = some; long = l .qindex };
+      }
+
+  chroma-buildable : Sizes (chromaPlane f) → capOk (f .ccapw) ≡ true → capOk (f .ccaph) ≡ true → Lists (chromaPlane f .rows * chromaPlane f .cols) g → Buildable f true leaves skips count (length (g .vedge)) (length (g .hedge)) (length (g .sqw)) (length (g .sqh)) (length (g .qindex))
+  unfolding chromaTu chromaQ
+  chroma-buildable s w h l =
+      record {
+        sized = z;
+        fit = record { cols-most = s .cols-most; rows-most = s .rows-most; long-v = l .vedge; long-h = l .hedge; long-w = l .sqw; long-t = l .sqh };
+        cut = record { ssx-most = z .ssx-most; ssy-most = z .ssy-most; some-w = cap-some _ w; some-h = cap-some _ h };
+        leaves-good = a;
+        skips-good = b;
+        q-fit = record { cols-most = s .cols-most; rows-most = s .rows-most; ssx-most = z .ssx-most; ssy-most = z .ssy-most; sbcols-most = omega (arith, superblocks-most (f .width) (z .width-most)); some = some; long = l .qindex };
+      }
+
+-- ---- deltas and caps
+
+record Settings (f : Frame) : Type 0 where
+  pub deltay : deltaOk (f .deltay) ≡ true
+  pub capw : capOk (f .capw) ≡ true
+  pub caph : capOk (f .caph) ≡ true
+  pub deltauv : deltaOk (f .deltauv) ≡ true
+  pub ccapw : capOk (f .ccapw) ≡ true
+  pub ccaph : capOk (f .ccaph) ≡ true
+
+settings : (f : Frame) → frameSettings f ≡ Accepted → Settings f
+unfolding frameSettings
+settings f e =
+    let p1 = all-parts _ _ (unless-true _ Setting e) in
+    let p2 = all-parts _ _ (p1 .1) in
+    let p3 = all-parts _ _ (p2 .1) in
+    let p4 = all-parts _ _ (p3 .1) in
+    let p5 = all-parts _ _ (p4 .1) in
+    let p6 = all-parts _ _ (p5 .1) in
+    record { deltay = p1 .0; capw = p2 .0; caph = p3 .0; deltauv = p4 .0; ccapw = p5 .0; ccaph = p6 .0 }
+
+-- ---- an accepted frame
+
+module _ (f : Frame) (n : Given) (l : Lent) (ok : frameEarly f n l ≡ Accepted) where
+  parts : (unless (depthOk (f .depth)) Depth ≡ Accepted) × (frameSizes f ≡ Accepted) × (frameLengths f n l ≡ Accepted) × (stepsCheck (n .steps) ≡ Accepted) × (frameSettings f ≡ Accepted) × (frameLeaves n ≡ Accepted)
+  unfolding frameEarly
+  parts =
+      let e1 = else-parts _ _ ok in
+      let e2 = else-parts _ _ (e1 .1) in
+      let e3 = else-parts _ _ (e2 .1) in
+      let e4 = else-parts _ _ (e3 .1) in
+      let e5 = else-parts _ _ (e4 .1) in
+      (e1 .0, e2 .0, e3 .0, e4 .0, e5 .0, e5 .1)
+
+  pub early-sized : Sized f
+  early-sized = frame-sized f (parts .1)
+
+  luma-long : (samplesLong (lumaPlane f) (length (l .planes .y)) ≡ true) × (gridLong (lumaPlane f .rows * lumaPlane f .cols) (l .grids .luma) ≡ true)
+  unfolding frameLengths
+  luma-long = both-parts _ _ (unless-true _ Length (else-parts _ _ (parts .2) .0))
+
+  chroma-long : chromaOn f ≡ true → (samplesLong (chromaPlane f) (length (l .planes .u)) ≡ true) × (samplesLong (chromaPlane f) (length (l .planes .v)) ≡ true) × (gridLong (chromaPlane f .rows * chromaPlane f .cols) (l .grids .chroma) ≡ true)
+  unfolding frameLengths
+  chroma-long on =
+      let p1 = all-parts _ _ (unless-true _ Length (only-part _ _ (else-parts _ _ (else-parts _ _ (parts .2) .1) .0) on)) in
+      let p2 = all-parts _ _ (p1 .1) in
+      let p3 = all-parts _ _ (p2 .1) in
+      (p1 .0, p2 .0, p3 .0)
+
+  some : 1 ≤ length (n .sbq)
+  unfolding frameLengths
+  some =
+      let p = all-parts _ _ (unless-true _ Length (else-parts _ _ (else-parts _ _ (parts .2) .1) .1)) in
+      let z = early-sized in
+      let long : superblocks (f .width) * superblocks (f .height) ≤ length (n .sbq) = leb-true _ _ (p .0) in
+      omega (arith, mul-le-mul (superblocks-some (f .width) (z .some-width)) (superblocks-some (f .height) (z .some-height)))
+
+  leaves : AllGood (n .leaves) × AllGood (n .chromaLeaves) × AllGood (n .skips)
+  unfolding frameLeaves
+  leaves =
+      let e1 = else-parts _ _ (parts .5) in
+      let e2 = else-parts _ _ (e1 .1) in
+      (all-good false _ (found-nothing _ Leaf (e1 .0)), all-good false _ (found-nothing _ Leaf (e2 .0)), all-good true _ (found-nothing _ Leaf (e2 .1)))
+
+  deep : depthOk (f .depth) ≡ true
+  deep = unless-true _ Depth (parts .0)
+
+  pub luma-stepped : Stepped f false (n .steps)
+  unfolding lumaPlane
+  luma-stepped = let s = settings f (parts .4) in record { steps-ok = parts .3; deltaq-ok = s .deltay; deltaside-ok = s .deltay }
+
+  pub chroma-stepped : Stepped f true (n .steps)
+  unfolding chromaPlane
+  chroma-stepped = let s = settings f (parts .4) in record { steps-ok = parts .3; deltaq-ok = s .deltauv; deltaside-ok = s .deltauv }
+
+  luma-deep : depthOk (lumaPlane f .depth) ≡ true
+  unfolding lumaPlane
+  luma-deep = deep
+
+  chroma-deep : depthOk (chromaPlane f .depth) ≡ true
+  unfolding chromaPlane
+  chroma-deep = deep
+
+  pub luma-sampled : Sampled f false (length (l .planes .y))
+  luma-sampled = record { sized = early-sized; depth = luma-deep; sizes-ok = luma-sizes f (parts .1); plane-long = leb-true _ _ (luma-long .0) }
+
+  pub u-sampled : chromaOn f ≡ true → Sampled f true (length (l .planes .u))
+  u-sampled on = record { sized = early-sized; depth = chroma-deep; sizes-ok = chroma-sizes f (parts .1) on; plane-long = leb-true _ _ (chroma-long on .0) }
+
+  pub v-sampled : chromaOn f ≡ true → Sampled f true (length (l .planes .v))
+  v-sampled on = record { sized = early-sized; depth = chroma-deep; sizes-ok = chroma-sizes f (parts .1) on; plane-long = leb-true _ _ (chroma-long on .1) }
+
+  pub luma-built : Buildable f false (n .leaves) (n .skips) (length (n .sbq)) (length (l .grids .luma .vedge)) (length (l .grids .luma .hedge)) (length (l .grids .luma .sqw)) (length (l .grids .luma .sqh)) (length (l .grids .luma .qindex))
+  luma-built =
+      let s = settings f (parts .4) in
+      luma-buildable f (n .leaves) (n .skips) _ (l .grids .luma) early-sized (leaves .0) (leaves .2) some (luma-sizes f (parts .1)) (s .capw) (s .caph) (lists _ _ (luma-long .1))
+
+  pub chroma-built : chromaOn f ≡ true → Buildable f true (n .chromaLeaves) (n .skips) (length (n .sbq)) (length (l .grids .chroma .vedge)) (length (l .grids .chroma .hedge)) (length (l .grids .chroma .sqw)) (length (l .grids .chroma .sqh)) (length (l .grids .chroma .qindex))
+  chroma-built on =
+      let s = settings f (parts .4) in
+      chroma-buildable f (n .chromaLeaves) (n .skips) _ (l .grids .chroma) early-sized (leaves .1) (leaves .2) some (chroma-sizes f (parts .1) on) (s .ccapw) (s .ccaph) (lists _ _ (chroma-long on .2))

@@ -1,0 +1,105 @@
+-- A built grid is long enough and its cells are good, so that its plane can be checked and run.
+-- Assumes nothing.
+use mathlib.Core.Path.{_≡_, refl, sym, ap, _∙_}
+use mathlib.Core.Bool.{Bool, true, false}
+use mathlib.Core.List.{List, [], _∷_}
+use Prim.Native.Nat.{ℕ, _*_, _≤_}
+use borrow.Author.Tests.{le-leb}
+use lib.Dec.{leb}
+use lib.ListN.{length}
+use Rattle.laws.specs.Choose.{all}
+use Rattle.rules.specs.declared.settings.Frame.{Frame}
+use Rattle.rules.specs.declared.settings.Plane.{Plane}
+use Rattle.rules.specs.declared.settings.TuGrid.{TuGrid}
+use Rattle.rules.specs.declared.settings.QindexGrid.{QindexGrid}
+use Rattle.rules.specs.declared.refusals.Found.the-variants.{Nothing}
+use Rattle.rules.specs.Plane.{Grid, grid, cellGood, badCell, noRoom, planeLengthsOk}
+use Rattle.rules.specs.TuGrid.{marks, txGridOf}
+use Rattle.rules.specs.QindexGrid.{qGridOf}
+use Rattle.rules.specs.Frame.{lumaPlane, chromaPlane, lumaTu, chromaTu, lumaQ, chromaQ, builtGrid}
+use Rattle.grid.proofs.Built.{no-bad-cell}
+use Rattle.plane.specs.Checked.{Checked}
+use Rattle.plane.proofs.Accepting.{lengths, readies-by}
+use Rattle.frame_checks.specs.Settings.{Sized, planeOf, tuOf, qOf}
+use Rattle.frame.specs.Fit.{Sampled, Marked, Stepped, Buildable, Gridded}
+
+-- the grid as its two callees leave it
+pub grid-is : (tu : TuGrid) (qs : QindexGrid) (ls ks sbq v h w t q v' h' w' t' q' : List ℕ) → marks v' h' w' t' ≡ txGridOf tu ls ks (marks v h w t) → q' ≡ qGridOf qs sbq q → grid v' h' w' t' q' ≡ builtGrid tu qs ls ks sbq (grid v h w t q)
+unfolding builtGrid
+grid-is tu qs ls ks sbq v h w t q v' h' w' t' q' e f = rw (← e, f)
+
+pub grid-by : {tu tu' : TuGrid} {qs qs' : QindexGrid} (ls ks sbq v h w t q v' h' w' t' q' : List ℕ) → tu ≡ tu' → qs ≡ qs' → marks v' h' w' t' ≡ txGridOf tu ls ks (marks v h w t) → q' ≡ qGridOf qs sbq q → grid v' h' w' t' q' ≡ builtGrid tu' qs' ls ks sbq (grid v h w t q)
+grid-by ls ks sbq v h w t q v' h' w' t' q' a b e f = rw (← a, ← b) (grid-is _ _ ls ks sbq v h w t q v' h' w' t' q' e f)
+
+-- the TU grid has the plane's cells
+rows-same : (f : Frame) (chroma : Bool) → planeOf f chroma .rows ≡ tuOf f chroma .rows
+unfolding lumaTu chromaTu
+rows-same f false = refl
+rows-same f true = refl
+
+cols-same : (f : Frame) (chroma : Bool) → planeOf f chroma .cols ≡ tuOf f chroma .cols
+unfolding lumaTu chromaTu
+cols-same f false = refl
+cols-same f true = refl
+
+q-long : (f : Frame) (chroma : Bool) (n : ℕ) → qOf f chroma .rows * qOf f chroma .cols ≤ n → planeOf f chroma .rows * planeOf f chroma .cols ≤ n
+unfolding lumaQ chromaQ
+q-long f false n h = h
+q-long f true n h = h
+
+tu-long : (f : Frame) (chroma : Bool) (n : ℕ) → tuOf f chroma .rows * tuOf f chroma .cols ≤ n → planeOf f chroma .rows * planeOf f chroma .cols ≤ n
+unfolding lumaTu chromaTu
+tu-long f false n h = h
+tu-long f true n h = h
+
+good-cells : (f : Frame) (chroma : Bool) (ls ks sbq : List ℕ) (g : Grid) → badCell (planeOf f chroma) (builtGrid (tuOf f chroma) (qOf f chroma) ls ks sbq g) ≡ Nothing
+unfolding builtGrid
+good-cells f chroma ls ks sbq g = no-bad-cell (planeOf f chroma) (tuOf f chroma) ls ks _ _ (rows-same f chroma) (cols-same f chroma)
+
+-- five lists and a plane by their lengths
+long-enough : (s : Plane) (n : ℕ) (v h w t q : List ℕ) → 4 * s .rows * s .stride ≤ n → s .rows * s .cols ≤ length v → s .rows * s .cols ≤ length h → s .rows * s .cols ≤ length w → s .rows * s .cols ≤ length t → s .rows * s .cols ≤ length q → planeLengthsOk s (grid v h w t q) n ≡ true
+unfolding planeLengthsOk all
+long-enough s n v h w t q a b c d e f = rw (le-leb _ _ a, le-leb _ _ b, le-leb _ _ c, le-leb _ _ d, le-leb _ _ e, le-leb _ _ f)
+
+-- lists of the same lengths that hold the built grid
+module _ (f : Frame) (chroma : Bool) (steps ls ks : List ℕ) (sbq : List ℕ) (g : Grid) (size : ℕ) (v h w t q : List ℕ) (lv lh lw lt lq : ℕ) where
+  pub gridded : Sampled f chroma size → Stepped f chroma steps → Buildable f chroma ls ks (length sbq) lv lh lw lt lq → length v ≡ lv → length h ≡ lh → length w ≡ lw → length t ≡ lt → length q ≡ lq → grid v h w t q ≡ builtGrid (tuOf f chroma) (qOf f chroma) ls ks sbq g → Gridded f chroma steps (grid v h w t q) size
+  gridded sampled stepped b ev eh ew et eq is =
+      record {
+        sampled = sampled;
+        stepped = stepped;
+        lengths =
+            long-enough (planeOf f chroma) size v h w t q (sampled .plane-long)
+            (rw ev (tu-long f chroma _ (b .fit .long-v)))
+            (rw eh (tu-long f chroma _ (b .fit .long-h)))
+            (rw ew (tu-long f chroma _ (b .fit .long-w)))
+            (rw et (tu-long f chroma _ (b .fit .long-t)))
+            (rw eq (q-long f chroma _ (b .q-fit .long)));
+        cells = rw is (good-cells f chroma ls ks sbq g);
+      }
+
+-- ---- what the checks and the run of a plane with such a grid ask
+
+module _ {f : Frame} {chroma : Bool} {steps v h w t q : List ℕ} {size : ℕ} (k : Gridded f chroma steps (grid v h w t q) size) where
+  same-cells : (p : List ℕ) → Nothing ≡ badCell (planeOf f chroma) (grid v h w t p)
+  unfolding badCell cellGood
+  same-cells p = sym (k .cells)
+
+  pub marked : Marked f chroma v h w t
+  marked =
+      let l = lengths (planeOf f chroma) (grid v h w t q) size (k .lengths) in
+      let r = readies-by v h w t (record { depth = k .sampled .depth; sizes-ok = k .sampled .sizes-ok; plane-long = l .samples; lists-long = l .lists }) same-cells refl in
+      record { sized = k .sampled .sized; vert = r .0; horz = r .1 }
+
+  pub checked : noRoom (planeOf f chroma) (grid v h w t q) ≡ Nothing → Checked (planeOf f chroma) steps (grid v h w t q) size
+  checked room =
+      record {
+        depth = k .sampled .depth;
+        sizes-ok = k .sampled .sizes-ok;
+        lengths = k .lengths;
+        steps-ok = k .stepped .steps-ok;
+        deltaq-ok = k .stepped .deltaq-ok;
+        deltaside-ok = k .stepped .deltaside-ok;
+        cells = k .cells;
+        room = room;
+      }

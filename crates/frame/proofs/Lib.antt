@@ -1,0 +1,5 @@
+-- The laws of a frame, one file a subject.
+pub mod Given
+pub mod Grids
+pub mod Ways
+pub mod Theorems

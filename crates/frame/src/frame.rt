@@ -1,0 +1,87 @@
+// A frame's entry: the early checks, then a frame with chroma or one without.
+use super::filter::luma_only;
+use super::filter::with_chroma;
+use frame_checks::early::frame_early;
+use frame_checks::lengths::GridLengths;
+use frame_checks::lengths::Lengths;
+use frame_checks::planes::chroma_on;
+use rules::refusals::Answer;
+use rules::settings::Frame;
+ghost use mathlib.Core.Path.{_≡_};
+ghost use Rattle.rules.specs.Plane.{grid};
+ghost use Rattle.rules.specs.Frame.{planes, grids, lent, given, done, frameOf};
+
+// Filters a frame of any settings and lists, or says why it does not: the answer and every lent list are those of rules' frameOf.
+pub fn deblock_frame(
+    y: &mut [u16],
+    u: &mut [u16],
+    v: &mut [u16],
+    lv: &mut [u8],
+    lh: &mut [u8],
+    lw: &mut [u8],
+    lt: &mut [u8],
+    lq: &mut [u16],
+    cv: &mut [u8],
+    ch: &mut [u8],
+    cw: &mut [u8],
+    ct: &mut [u8],
+    cq: &mut [u16],
+    steps: &[u32],
+    sbq: &[u16],
+    leaves: &[u16],
+    chromaleaves: &[u16],
+    skips: &[u16],
+    f: Frame,
+) -> Answer
+    ensures { λ r. ⌜ done r (lent (planes (now (y .exit)) (now (u .exit)) (now (v .exit))) (grids (grid (now (lv .exit)) (now (lh .exit)) (now (lw .exit)) (now (lt .exit)) (now (lq .exit))) (grid (now (cv .exit)) (now (ch .exit)) (now (cw .exit)) (now (ct .exit)) (now (cq .exit))))) ≡ frameOf f (given (now (steps .entry)) (now (sbq .entry)) (now (leaves .entry)) (now (chromaleaves .entry)) (now (skips .entry))) (lent (planes (now (y .entry)) (now (u .entry)) (now (v .entry))) (grids (grid (now (lv .entry)) (now (lh .entry)) (now (lw .entry)) (now (lt .entry)) (now (lq .entry))) (grid (now (cv .entry)) (now (ch .entry)) (now (cw .entry)) (now (ct .entry)) (now (cq .entry))))) ⌝ }
+{
+    let luma = GridLengths {
+        vedge: lv.len(),
+        hedge: lh.len(),
+        sqw: lw.len(),
+        sqh: lt.len(),
+        qindex: lq.len(),
+    };
+    let chroma = GridLengths {
+        vedge: cv.len(),
+        hedge: ch.len(),
+        sqw: cw.len(),
+        sqh: ct.len(),
+        qindex: cq.len(),
+    };
+    let n = Lengths {
+        y: y.len(),
+        u: u.len(),
+        v: v.len(),
+        luma: luma,
+        chroma: chroma,
+    };
+    let a = frame_early(steps, sbq, leaves, chromaleaves, skips, f, n);
+    if let Answer::Refused(r) = a {
+        return Answer::Refused(r);
+    }
+    if chroma_on(f) {
+        return with_chroma(
+            y,
+            u,
+            v,
+            lv,
+            lh,
+            lw,
+            lt,
+            lq,
+            cv,
+            ch,
+            cw,
+            ct,
+            cq,
+            steps,
+            sbq,
+            leaves,
+            chromaleaves,
+            skips,
+            f,
+        );
+    }
+    luma_only(y, lv, lh, lw, lt, lq, steps, sbq, leaves, skips, f)
+}
