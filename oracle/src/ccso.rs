@@ -30,9 +30,18 @@ impl Case {
 
 fn length(random: &Random) -> u64 {
     match random.below(40) {
-        0 => random.size(1, 200) as u64,
-        1..=5 => random.size(1, 80) as u64,
+        0 | 1 => random.size(1, 200) as u64,
+        2..=5 => random.size(1, 80) as u64,
         _ => random.size(1, 24) as u64,
+    }
+}
+
+/// Luma's width and height; seldom the largest that document 01 takes, along one of them.
+fn lengths(random: &Random) -> (u64, u64) {
+    match random.below(400) {
+        0 => (4096, random.size(1, 2) as u64),
+        1 => (random.size(1, 2) as u64, 4096),
+        _ => (length(random), length(random)),
     }
 }
 
@@ -55,7 +64,7 @@ fn offsets(random: &Random, bands: u64) -> Vec<i32> {
 /// A case with the Rust's own settings.
 fn good(random: &Random, choice: &Choice) -> Case {
     let mut c = Case {
-        size: (length(random), length(random)),
+        size: lengths(random),
         sub: random.one_of(&SUBSAMPLINGS),
         depth: random.one_of(&DEPTHS),
         scale: choice.scale() as u64,
