@@ -160,8 +160,8 @@ fn damaged_settings(random: &Random, c: &mut Case) {
         2 => c.size.1 = damage::count(random, 4096),
         3 => c.sub = damage::subsampling(random),
         4 => c.scale = damage::count(random, 16),
-        5 => c.cuts.0 = random.one_of(&[c.cuts.1 + 1, -4096, i32::MIN as i64]),
-        6 => c.cuts.1 = random.one_of(&[c.cuts.0 - 1, 4096, i32::MAX as i64]),
+        5 => c.cuts.0 = random.one_of(&[(c.cuts.1 + 1).min(i32::MAX as i64), -4096, i32::MIN as i64]),
+        6 => c.cuts.1 = random.one_of(&[(c.cuts.0 - 1).max(i32::MIN as i64), 4096, i32::MAX as i64]),
         7 => c.classes[random.below(3) as usize] = damage::above(random, 3),
         8 => {
             let tap = &mut c.taps[random.below(2) as usize];
