@@ -30,9 +30,18 @@ impl Case {
 
 fn length(random: &Random) -> u64 {
     match random.below(40) {
-        0 => random.size(1, 200) as u64,
-        1..=5 => random.size(1, 80) as u64,
+        0 | 1 => random.size(1, 200) as u64,
+        2..=5 => random.size(1, 80) as u64,
         _ => random.size(1, 24) as u64,
+    }
+}
+
+/// Luma's width and height; seldom the largest that document 01 takes, along one of them.
+fn lengths(random: &Random) -> (u64, u64) {
+    match random.below(400) {
+        0 => (4096, random.size(1, 2) as u64),
+        1 => (random.size(1, 2) as u64, 4096),
+        _ => (length(random), length(random)),
     }
 }
 
@@ -55,7 +64,7 @@ fn offsets(random: &Random, bands: u64) -> Vec<i32> {
 /// A case with the Rust's own settings.
 fn good(random: &Random, choice: &Choice) -> Case {
     let mut c = Case {
-        size: (length(random), length(random)),
+        size: lengths(random),
         sub: random.one_of(&SUBSAMPLINGS),
         depth: random.one_of(&DEPTHS),
         scale: choice.scale() as u64,
@@ -151,8 +160,8 @@ fn damaged_settings(random: &Random, c: &mut Case) {
         2 => c.size.1 = damage::count(random, 4096),
         3 => c.sub = damage::subsampling(random),
         4 => c.scale = damage::count(random, 16),
-        5 => c.cuts.0 = random.one_of(&[c.cuts.1 + 1, -4096, i32::MIN as i64]),
-        6 => c.cuts.1 = random.one_of(&[c.cuts.0 - 1, 4096, i32::MAX as i64]),
+        5 => c.cuts.0 = random.one_of(&[(c.cuts.1 + 1).min(i32::MAX as i64), -4096, i32::MIN as i64]),
+        6 => c.cuts.1 = random.one_of(&[(c.cuts.0 - 1).max(i32::MIN as i64), 4096, i32::MAX as i64]),
         7 => c.classes[random.below(3) as usize] = damage::above(random, 3),
         8 => {
             let tap = &mut c.taps[random.below(2) as usize];

@@ -197,6 +197,13 @@ module _ (s : Ccso) (luma flags : List ℕ) (offsets : List ℤ) (t : List ℕ) 
         },
       )
 
+  -- no sample of the target is over top
+  pub target-low : (i : ℕ) → i < targetHeight s * targetWidth s → getD t i 0 ≤ topOf (s .depth)
+  unfolding ccsoCheck
+  target-low =
+      let p5 = else-parts _ _ (else-parts _ _ (else-parts _ _ (else-parts _ _ (else-parts _ _ e .1) .1) .1) .1) in
+      clean _ _ _ (found-nothing _ Sample (else-parts _ _ (p5 .1) .1))
+
 -- the entry's two ways out
 module _ (s : Ccso) (luma flags : List ℕ) (offsets : List ℤ) (t : List ℕ) (a : Answer) (is : a ≡ ccsoCheck s luma flags offsets t) where
   pub stated-refused : {r : Refusal} → a ≡ Refused r → Stated s luma flags offsets t (Refused r) t

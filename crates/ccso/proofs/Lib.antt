@@ -6,3 +6,5 @@ pub mod Blocks
 pub mod Ranged
 pub mod Lengths
 pub mod Accepted
+pub mod Everywhere
+pub mod Theorems

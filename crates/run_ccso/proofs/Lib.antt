@@ -1,0 +1,3 @@
+-- The laws of this program's proofs.
+pub mod Fronts
+pub mod Bytes
