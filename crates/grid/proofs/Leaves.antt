@@ -14,7 +14,7 @@ use Rattle.laws.specs.Choose.{pick, either, both, all, either-parts, all-parts}
 use Rattle.rules.specs.declared.settings.TuGrid.{TuGrid}
 use Rattle.rules.specs.declared.settings.Tile.{Tile}
 use Rattle.rules.specs.Numbers.{down}
-use Rattle.rules.specs.TuGrid.{flagOf, bareOf, isSize, sizeOf, wholeOf, tuOf, tileOf, leafOf, leafGood, leafGoodAt}
+use Rattle.rules.specs.TuGrid.{flagOf, bareOf, isSize, sizeOf, wholeOf, tuOf, tileOf, leafGood}
 use Rattle.grid.specs.Fit.{Cut, Placed, sizeGood, Good, AllGood}
 
 -- ---- bit 4096
@@ -83,7 +83,7 @@ unfolding pick
 tu-some true n cap a c = a
 tu-some false n cap a c = omega arith
 
-pub placed : (s : TuGrid) (skip : Bool) (row col w h : ℕ) → Cut s → Good row col w h → Placed (tileOf s skip row col w h)
+placed : (s : TuGrid) (skip : Bool) (row col w h : ℕ) → Cut s → Good row col w h → Placed (tileOf s skip row col w h)
 unfolding tileOf
 placed s skip row col w h c g = record {
   row-most = omega (arith, down-le (s .ssy) row);
@@ -94,6 +94,5 @@ placed s skip row col w h c g = record {
   some-th = tu-some (wholeOf skip w (sizeOf (s .ssx) w) (sizeOf (s .ssy) h)) (sizeOf (s .ssy) h) (s .caph) (size-some (s .ssy) h) (c .some-h);
 }
 
-pub leaf-placed : (s : TuGrid) (skip : Bool) (ls : List ℕ) (k : ℕ) (a : Tile) → Cut s → AllGood ls → k < length ls / 4 → a ≡ leafOf s skip ls k → Placed a
-unfolding leafOf
-leaf-placed s skip ls k a c all h e = rw e (placed s skip _ _ _ _ c (all .each k h))
+pub tile-placed : (s : TuGrid) (skip : Bool) (row col w h : ℕ) (a : Tile) → Cut s → Good row col w h → a ≡ tileOf s skip row col w h → Placed a
+tile-placed s skip row col w h a c g e = rw e (placed s skip row col w h c g)

@@ -1,4 +1,4 @@
--- What painting does at each of its ways out: a cell outside the plane, a cell within, one leaf more, a grid built.
+-- What painting does at each of its ways out: a cell outside the plane, a cell within, a leaf, a grid built.
 -- Assumes nothing.
 use mathlib.Core.Path.{_≡_, refl, sym, ap, _∙_}
 use mathlib.Core.List.{List}
@@ -9,7 +9,7 @@ use borrow.Author.Tests.{lt-ltb, le-ltb}
 use Rattle.laws.specs.Choose.{pick, both}
 use Rattle.rules.specs.declared.settings.TuGrid.{TuGrid}
 use Rattle.rules.specs.declared.settings.Tile.{Tile}
-use Rattle.rules.specs.TuGrid.{Marks, marks, markOf, log2Of, storeCell, paintCell, paintOf, leafOf, leavesOf, blankOf, txGridOf}
+use Rattle.rules.specs.TuGrid.{Marks, marks, markOf, log2Of, storeCell, paintCell, paintOf, leavesOf, blankOf, txGridOf}
 
 module _ (s : TuGrid) (a : Tile) (dr dc : ℕ) (g : Marks) where
   pub cell-below : s .rows ≤ a .row + dr → g ≡ paintCell s a dr dc g
@@ -24,8 +24,8 @@ module _ (s : TuGrid) (a : Tile) (dr dc : ℕ) (g : Marks) where
   unfolding paintCell pick both
   cell-within m n i j r c em en ei ej e = rw (lt-ltb _ _ r, lt-ltb _ _ c, ← em, ← en, ← ei, ← ej) e
 
-pub leaf-more : (s : TuGrid) (skip : Bool) (ls : List ℕ) (k : ℕ) (a : Tile) (g : Marks) {g' : Marks} → a ≡ leafOf s skip ls k → g' ≡ paintOf s a g → g' ≡ paintOf s (leafOf s skip ls k) g
-leaf-more s skip ls k a g e f = rw e at f
+pub tile-painted : (s : TuGrid) (a b : Tile) (g : Marks) {g' : Marks} → a ≡ b → g' ≡ paintOf s a g → g' ≡ paintOf s b g
+tile-painted s a b g e f = rw e at f
 
 pub grid-built : (s : TuGrid) (ls skips : List ℕ) (g g0 g1 : Marks) {g2 : Marks} → g0 ≡ blankOf (s .rows * s .cols) g → g1 ≡ leavesOf s false ls g0 → g2 ≡ leavesOf s true skips g1 → g2 ≡ txGridOf s ls skips g
 unfolding txGridOf

@@ -61,7 +61,7 @@ pub fn fours(n: usize) -> bool
 }
 
 // Four lists have n entries each.
-fn marks_long(n: usize, v: usize, h: usize, w: usize, t: usize) -> bool
+pub fn marks_long(n: usize, v: usize, h: usize, w: usize, t: usize) -> bool
     ensures { λ r. ⌜ r ≡ all (leb n v ∷ leb n h ∷ leb n w ∷ leb n t ∷ []) ⌝ }
 {
     if v < n {

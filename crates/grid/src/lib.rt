@@ -6,8 +6,8 @@ pub mod leaf;
 // A leaf on a plane's cells.
 mod tile;
 
-// Painting tiles into the four lists.
-mod paint;
+// Painting leaves into the four lists.
+pub mod paint;
 
 // Sizes, lengths and caps in range.
 pub mod checks;

@@ -2,9 +2,9 @@
 ghost use mathlib.Core.Path.{_≡_};
 ghost use Prim.Native.Nat.{_≤_, _<_, _/_, _%_};
 ghost use lib.ListN.{length};
-ghost use Rattle.rules.specs.TuGrid.{marks, log2Of, markOf, storeCell, paintCell, paintRow, paintOf, leavesOf, clearOf, blankOf};
-ghost use Rattle.grid.specs.Fit.{Fit, Cut, Placed, AllGood};
-use super::tile::leaf;
+ghost use Rattle.rules.specs.TuGrid.{marks, log2Of, markOf, storeCell, paintCell, paintRow, paintOf, tileOf, leafOf, leavesOf, clearOf, blankOf};
+ghost use Rattle.grid.specs.Fit.{Fit, Cut, Placed, Good, AllGood};
+use super::tile::tile_of;
 use rules::settings::Tile;
 use rules::settings::TuGrid;
 
@@ -127,6 +127,53 @@ pub fn paint(vedge: &mut [u8], hedge: &mut [u8], sqw: &mut [u8], sqh: &mut [u8],
     }
 }
 
+// One leaf by its four numbers.
+pub fn paint_leaf(
+    vedge: &mut [u8],
+    hedge: &mut [u8],
+    sqw: &mut [u8],
+    sqh: &mut [u8],
+    s: TuGrid,
+    skip: bool,
+    row: u16,
+    col: u16,
+    w: u16,
+    h: u16,
+)
+    requires { ⌜ Fit s (length (now vedge)) (length (now hedge)) (length (now sqw)) (length (now sqh)) ⌝ }
+    requires { ⌜ Cut s ⌝ }
+    requires { ⌜ Good row col w h ⌝ }
+    ensures { λ _. ⌜ marks (now (vedge .exit)) (now (hedge .exit)) (now (sqw .exit)) (now (sqh .exit)) ≡ paintOf s (tileOf s skip row col w h) (marks (now (vedge .entry)) (now (hedge .entry)) (now (sqw .entry)) (now (sqh .entry))) ⌝ }
+{
+    let a = tile_of(s, skip, row, col, w, h);
+    paint(vedge, hedge, sqw, sqh, s, a);
+}
+
+// Leaf k of a list of four numbers a leaf.
+fn paint_at(
+    vedge: &mut [u8],
+    hedge: &mut [u8],
+    sqw: &mut [u8],
+    sqh: &mut [u8],
+    ls: &[u16],
+    s: TuGrid,
+    skip: bool,
+    k: usize,
+)
+    requires { ⌜ Fit s (length (now vedge)) (length (now hedge)) (length (now sqw)) (length (now sqh)) ⌝ }
+    requires { ⌜ Cut s ⌝ }
+    requires { ⌜ AllGood (now ls) ⌝ }
+    requires { ⌜ k < length (now ls) / 4 ⌝ }
+    ensures { λ _. ⌜ marks (now (vedge .exit)) (now (hedge .exit)) (now (sqw .exit)) (now (sqh .exit)) ≡ paintOf s (leafOf s skip (now (ls .entry)) k) (marks (now (vedge .entry)) (now (hedge .entry)) (now (sqw .entry)) (now (sqh .entry))) ⌝ }
+{
+    let at = k * 4;
+    let row = ls[at];
+    let col = ls[at + 1];
+    let w = ls[at + 2];
+    let h = ls[at + 3];
+    paint_leaf(vedge, hedge, sqw, sqh, s, skip, row, col, w, h);
+}
+
 // The leaves of a list, later ones over earlier ones.
 pub fn leaves(
     vedge: &mut [u8],
@@ -144,8 +191,7 @@ pub fn leaves(
 {
     let n = ls.len() / 4;
     for k in 0..n {
-        let a = leaf(ls, s, skip, k);
-        paint(vedge, hedge, sqw, sqh, s, a);
+        paint_at(vedge, hedge, sqw, sqh, ls, s, skip, k);
     }
 }
 

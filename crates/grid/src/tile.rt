@@ -1,11 +1,10 @@
 // A leaf on a plane's cells: its place and size shifted by the subsampling, and its TU size.
 ghost use mathlib.Core.Path.{_≡_};
-ghost use Prim.Native.Nat.{_≤_, _<_, _/_, max};
-ghost use lib.ListN.{length};
+ghost use Prim.Native.Nat.{_≤_, max};
 ghost use lib.Dec.{eqb};
 ghost use Rattle.laws.specs.Choose.{both};
 ghost use Rattle.rules.specs.Numbers.{down};
-ghost use Rattle.rules.specs.TuGrid.{wholeOf, tuOf, tileOf, leafOf};
+ghost use Rattle.rules.specs.TuGrid.{wholeOf, tuOf, tileOf};
 ghost use Rattle.grid.specs.Fit.{Cut};
 use super::leaf::bare;
 use super::leaf::flag;
@@ -87,21 +86,4 @@ pub fn tile_of(s: TuGrid, skip: bool, row: u16, col: u16, w: u16, h: u16) -> Til
         tw: tu(whole, bw, s.capw),
         th: tu(whole, bh, s.caph),
     }
-}
-
-// Leaf k of a list of four numbers a leaf.
-pub fn leaf(leaves: &[u16], s: TuGrid, skip: bool, k: usize) -> Tile
-    requires { ⌜ k < length (now leaves) / 4 ⌝ }
-    requires { ⌜ Cut s ⌝ }
-    ensures { λ r. ⌜ r ≡ leafOf s skip (now (leaves .entry)) k ⌝ }
-{
-    let at = k * 4;
-    tile_of(
-        s,
-        skip,
-        leaves[at],
-        leaves[at + 1],
-        leaves[at + 2],
-        leaves[at + 3],
-    )
 }

@@ -41,7 +41,7 @@ pub fn tx_grid(
     leaves(vedge, hedge, sqw, sqh, skips, s, true);
 }
 
-fn sizes_ok(s: TuGrid) -> bool
+pub fn sizes_ok(s: TuGrid) -> bool
     ensures { λ r. ⌜ r ≡ both (cellsOk (s .cols) (s .rows)) (subsamplingOk (s .ssx) (s .ssy)) ⌝ }
 {
     if !cells_ok(s.cols, s.rows) {
@@ -50,7 +50,7 @@ fn sizes_ok(s: TuGrid) -> bool
     subsampling_ok(s.ssx, s.ssy)
 }
 
-fn caps_ok(s: TuGrid) -> bool
+pub fn caps_ok(s: TuGrid) -> bool
     ensures { λ r. ⌜ r ≡ both (capOk (s .capw)) (capOk (s .caph)) ⌝ }
 {
     if !cap_ok(s.capw) {

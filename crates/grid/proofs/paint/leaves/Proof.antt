@@ -1,12 +1,10 @@
--- `leaves`' loop: the leaves passed so far are painted in turn; a good leaf's tile lies near the plane. Assumes nothing.
+-- `leaves`' loop: the leaves passed so far are painted in turn. Assumes nothing.
 use mathlib.Core.Path.{_≡_}
 use Prim.Native.Nat.{_-_, _≤_}
 use lib.ListN.{length}
 use borrow.Author.Needs.{needs}
 use Rattle.laws.specs.Loops.{turns, turns-more}
 use Rattle.rules.specs.TuGrid.{marks, paintOf, leafOf, leavesOf}
-use Rattle.grid.proofs.Painted.{leaf-more}
-use Rattle.grid.proofs.Leaves.{leaf-placed}
 use Rattle.grid.proofs.Turns.{loops}
 use Rattle.grid.proofs.paint.leaves.Statement.{statement}
 use Rattle.grid.proofs.paint.leaves.Tie as tie
@@ -20,11 +18,8 @@ abbrev μ-loop : tie.MeasureT-loop
 loop-holds : tie.Need-loop-holds Inv-loop μ-loop
 loop-holds c = search loops
 
-leaf-requires : tie.Need-leaf-requires Inv-loop μ-loop
-leaf-requires c κs = search loops
-
-paint-requires : tie.Need-paint-requires Inv-loop μ-loop
-paint-requires c κs = (search needs, leaf-placed _ _ _ _ _ (c .before .before .before .before .before .before .before .before .before .before .before .before .pre .1 .0) (c .before .before .before .before .before .before .before .before .before .before .before .before .pre .1 .1) (search needs) (c .before .before .before .before .leaf .ensures))
+paint-at-requires : tie.Need-paint-at-requires Inv-loop μ-loop
+paint-at-requires c κs = (search needs, (c .before .before .before .before .before .before .before .before .before .before .before .pre .1 .0, (c .before .before .before .before .before .before .before .before .before .before .before .pre .1 .1, search needs)))
 
 add-k : tie.Need-add-k Inv-loop μ-loop
 add-k c = search loops
@@ -33,7 +28,7 @@ loop-less : tie.Need-loop-less Inv-loop μ-loop
 loop-less c = search loops
 
 loop-again : tie.Need-loop-again Inv-loop μ-loop
-loop-again c = (search needs, turns-more _ _ _ (c .before .before .before .before .before .before .before .before .before .before .before .before .before .before .before .loop .inv .1) (leaf-more _ _ _ _ _ _ (c .before .before .before .before .before .before .before .before .before .before .before .before .before .leaf .ensures) (c .before .before .before .before .before .before .before .before .paint .ensures)), search needs, search needs, search needs, search needs)
+loop-again c = (search needs, turns-more _ _ _ (c .before .before .before .before .before .before .before .before .before .before .before .before .before .before .loop .inv .1) (c .before .before .before .before .before .before .before .before .paint-at .ensures), search needs, search needs, search needs, search needs)
 
 same-length : tie.Need-same-length Inv-loop μ-loop
 same-length c = search loops
@@ -58,8 +53,7 @@ leaves-spec =
     Inv-loop
     μ-loop
     loop-holds
-    leaf-requires
-    paint-requires
+    paint-at-requires
     add-k
     loop-less
     loop-again
