@@ -34,8 +34,8 @@ extern "C" {
         sqh: *const u8, sqh_len: usize,
         qindex: *const u16, qindex_len: usize,
         steps: *const u32, steps_len: usize,
-        cols: usize, rows: usize, stride: usize, width: usize, height: usize, sbw: usize, sbh: usize,
-        chroma: u32, depth: u32, deltaq: i32, deltaside: i32,
+        settings: *const i32, settings_len: usize,
+        place: *mut usize, place_len: usize,
     ) -> i32;
 }
 
@@ -127,6 +127,10 @@ fn run_rust(s: &Scene, f: &mut Floats) {
 
 #[inline(never)]
 fn run_ours(s: &Scene, plane: &mut [u16]) {
+    // cells each way, stride, width and height, superblock size in cells, chroma, depth, both deltas
+    let numbers = [s.cells, s.cells, s.size, s.size, s.size, SUPERBLOCK, SUPERBLOCK, 0, DEPTH as usize, 0, 0];
+    let settings: Vec<i32> = numbers.iter().map(|&n| n as i32).collect();
+    let mut place = [0usize];
     // SAFETY: each pointer is that of a live list, beside its length.
     let answer = unsafe {
         bihargesh_plane(
@@ -137,11 +141,11 @@ fn run_ours(s: &Scene, plane: &mut [u16]) {
             s.sizes.as_ptr(), s.sizes.len(),
             s.qindex.as_ptr(), s.qindex.len(),
             s.steps.as_ptr(), s.steps.len(),
-            s.cells, s.cells, s.size, s.size, s.size, SUPERBLOCK, SUPERBLOCK,
-            0, DEPTH, 0, 0,
+            settings.as_ptr(), settings.len(),
+            place.as_mut_ptr(), place.len(),
         )
     };
-    assert!(answer == 0, "the plane was refused by {}", -answer);
+    assert!(answer == 0, "the plane was refused by {} at {}", -answer, place[0]);
 }
 
 /// One run of one side, after what every run makes ready.

@@ -1,8 +1,10 @@
 -- What C is answered: a number that the machine holds, and the answer of a check in its terms.
 -- Assumes nothing.
-use mathlib.Core.Path.{_≡_, ap}
+use mathlib.Core.Path.{_≡_, refl, ap, _∙_}
+use mathlib.Core.List.{List, [], _∷_}
 use Prim.Native.Nat.{ℕ, _<_}
 use native.Mathlib.Omega.{arith}
+use lib.ListN.{length, set}
 use lib.IntN.{ℤ, pos, negsuc, negℤ}
 use mir.Syntax.{w32}
 use mir.Val.{toZ, ofZ}
@@ -11,8 +13,9 @@ use Rattle.rules.specs.declared.refusals.Refusal.{Refusal}
 use Rattle.rules.specs.declared.refusals.Refusal.the-variants.{Depth, Size, Length, Steps, Setting, Cell, Room, Sample, Leaf}
 use Rattle.rules.specs.declared.refusals.Answer.{Answer}
 use Rattle.rules.specs.declared.refusals.Answer.the-variants.{Accepted, Refused}
-use Rattle.rules.specs.Refusals.{numberOf}
+use Rattle.rules.specs.Refusals.{numberOf, placeOf}
 use Rattle.rules.specs.CSide.{cAnswer}
+use Rattle.cside.specs.Told.{placed, Told}
 
 -- a count that the machine holds
 pub held : (z : ℤ) (n : ℕ) → z ≡ pos n → n < 2147483648 → toZ w32 (ofZ w32 z) ≡ pos n
@@ -38,3 +41,28 @@ answer-refused a n e = rw (← e)
 pub answer-accepted : (a : Answer) (n : ℕ) {m : ℕ} → Accepted ≡ a → m ≡ n → pos m ≡ cAnswer a n
 unfolding cAnswer
 answer-accepted a n e f = rw (← e) (ap pos f)
+
+-- ---- an answer and the place of a refusal
+
+-- an empty list takes no place
+pub empty-set : (l : List ℕ) (k : ℕ) → length l ≡ 0 → l ≡ set l 0 k
+empty-set [] k e = refl
+empty-set (x ∷ l) k e = absurd (omega arith)
+
+pub told-accepted : {a : Answer} (lent : List ℕ) → a ≡ Accepted → Told a lent (pos 0) lent
+unfolding cAnswer placed
+told-accepted lent e = rw e (record { answer = refl; place-is = refl })
+
+pub told-refused : {a : Answer} {r : Refusal} (lent : List ℕ) {z : ℤ} {k : ℕ} {place : List ℕ} → a ≡ Refused r → k ≡ placeOf r → place ≡ set lent 0 k → z ≡ negℤ (pos (numberOf r)) → Told a lent (toZ w32 (ofZ w32 z)) place
+unfolding cAnswer placed
+told-refused {a} {r} lent {z} e f g h = rw e (record { answer = held-minus z r h; place-is = g ∙ ap (λ (k : ℕ). set lent 0 k) f })
+
+held-answer : (z : ℤ) (a : Answer) → z ≡ cAnswer a 0 → toZ w32 (ofZ w32 z) ≡ cAnswer a 0
+unfolding cAnswer
+held-answer z Accepted e = held z 0 e (omega arith)
+held-answer z (Refused r) e = held-minus z r e
+
+-- handed on by an export, whose check b gave the answer a
+pub told-by : {a b : Answer} {lent place : List ℕ} {z : ℤ} → a ≡ b → Told a lent z place → Told b lent (toZ w32 (ofZ w32 z)) place
+told-by {a} {b} {lent} {place} {z} e t =
+    record { answer = held-answer z b (t .answer ∙ ap (λ (a : Answer). cAnswer a 0) e); place-is = t .place-is ∙ ap (λ (a : Answer). placed a lent) e }

@@ -1,4 +1,4 @@
-// What C and Rust call: document 01's two exported functions.
+// What C and Rust call: document 01's two exported functions, and the entries.
 
 // Numbers in byte lists, low byte first.
 pub mod bytes;
@@ -11,3 +11,9 @@ pub mod two_blocks;
 
 // One segment on a window.
 pub mod window;
+
+// Settings as a list of numbers.
+pub mod settings;
+
+// One plane.
+pub mod planes;
