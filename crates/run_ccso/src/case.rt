@@ -1,12 +1,11 @@
 // One picture: what the entry is asked, and what the stream says that it answers.
 ghost use Prim.Native.Nat.{_≤_};
 ghost use lib.ListN.{length};
-use crate::tally;
-use crate::tally::Tally;
 use cases::Cursor;
 use cases::Listed;
 use ccso::apply::apply_edge_gated;
 use rules::settings::Ccso;
+use tally::Tally;
 
 // The settings and what follows them.
 struct Asked {

@@ -2,8 +2,6 @@
 
 // one picture of the stream
 mod case;
-// what is counted and printed
-mod tally;
 
 use cases::Cursor;
 use tally::Tally;
