@@ -26,7 +26,8 @@ use Rattle.cells.specs.Fit.{Sizes}
 use Rattle.frame_checks.specs.Settings.{Sized, planeOf, tuOf, qOf}
 use Rattle.frame_checks.proofs.Ranges.{superblocks-some, superblocks-most}
 use Rattle.frame_checks.proofs.Accepted.{frame-sized, luma-sizes, chroma-sizes}
-use Rattle.frame.specs.Fit.{Sampled, Stepped, Buildable}
+use Rattle.frame_planes.specs.Fit.{Sampled, Buildable}
+use Rattle.frame.specs.Fit.{Stepped}
 
 cap-some : (n : ℕ) → capOk n ≡ true → 1 ≤ n
 cap-some = by-cap (λ n. 1 ≤ n) (omega arith) (omega arith) (omega arith) (omega arith) (omega arith)

@@ -10,8 +10,6 @@ use lib.ListN.{length}
 use Rattle.laws.specs.Choose.{all}
 use Rattle.rules.specs.declared.settings.Frame.{Frame}
 use Rattle.rules.specs.declared.settings.Plane.{Plane}
-use Rattle.rules.specs.declared.settings.TuGrid.{TuGrid}
-use Rattle.rules.specs.declared.settings.QindexGrid.{QindexGrid}
 use Rattle.rules.specs.declared.refusals.Found.the-variants.{Nothing}
 use Rattle.rules.specs.Plane.{Grid, grid, cellGood, badCell, noRoom, planeLengthsOk}
 use Rattle.rules.specs.TuGrid.{marks, txGridOf}
@@ -21,15 +19,8 @@ use Rattle.grid.proofs.Built.{no-bad-cell}
 use Rattle.plane.specs.Checked.{Checked}
 use Rattle.plane.proofs.Accepting.{lengths, readies-by}
 use Rattle.frame_checks.specs.Settings.{Sized, planeOf, tuOf, qOf}
-use Rattle.frame.specs.Fit.{Sampled, Marked, Stepped, Buildable, Gridded}
-
--- the grid as its two callees leave it
-pub grid-is : (tu : TuGrid) (qs : QindexGrid) (ls ks sbq v h w t q v' h' w' t' q' : List ℕ) → marks v' h' w' t' ≡ txGridOf tu ls ks (marks v h w t) → q' ≡ qGridOf qs sbq q → grid v' h' w' t' q' ≡ builtGrid tu qs ls ks sbq (grid v h w t q)
-unfolding builtGrid
-grid-is tu qs ls ks sbq v h w t q v' h' w' t' q' e f = rw (← e, f)
-
-pub grid-by : {tu tu' : TuGrid} {qs qs' : QindexGrid} (ls ks sbq v h w t q v' h' w' t' q' : List ℕ) → tu ≡ tu' → qs ≡ qs' → marks v' h' w' t' ≡ txGridOf tu ls ks (marks v h w t) → q' ≡ qGridOf qs sbq q → grid v' h' w' t' q' ≡ builtGrid tu' qs' ls ks sbq (grid v h w t q)
-grid-by ls ks sbq v h w t q v' h' w' t' q' a b e f = rw (← a, ← b) (grid-is _ _ ls ks sbq v h w t q v' h' w' t' q' e f)
+use Rattle.frame_planes.specs.Fit.{Sampled, Marked, Buildable}
+use Rattle.frame.specs.Fit.{Stepped, Gridded}
 
 -- the TU grid has the plane's cells
 rows-same : (f : Frame) (chroma : Bool) → planeOf f chroma .rows ≡ tuOf f chroma .rows
@@ -62,7 +53,7 @@ unfolding planeLengthsOk all
 long-enough s n v h w t q a b c d e f = rw (le-leb _ _ a, le-leb _ _ b, le-leb _ _ c, le-leb _ _ d, le-leb _ _ e, le-leb _ _ f)
 
 -- lists of the same lengths that hold the built grid
-module _ (f : Frame) (chroma : Bool) (steps ls ks : List ℕ) (sbq : List ℕ) (g : Grid) (size : ℕ) (v h w t q : List ℕ) (lv lh lw lt lq : ℕ) where
+module _ {f : Frame} {chroma : Bool} {steps ls ks : List ℕ} (sbq : List ℕ) (g : Grid) {size : ℕ} {v h w t q : List ℕ} {lv lh lw lt lq : ℕ} where
   pub gridded : Sampled f chroma size → Stepped f chroma steps → Buildable f chroma ls ks (length sbq) lv lh lw lt lq → length v ≡ lv → length h ≡ lh → length w ≡ lw → length t ≡ lt → length q ≡ lq → grid v h w t q ≡ builtGrid (tuOf f chroma) (qOf f chroma) ls ks sbq g → Gridded f chroma steps (grid v h w t q) size
   gridded sampled stepped b ev eh ew et eq is =
       record {

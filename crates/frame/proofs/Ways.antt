@@ -15,19 +15,17 @@ use Rattle.rules.specs.Refusals.{orElse, found, onlyIf, settle}
 use Rattle.rules.specs.Plane.{Grid, grid, runPlane, noRoom, overPlane}
 use Rattle.rules.specs.Frame.{Planes, Grids, Given, Lent, Done, planes, grids, lent, done, lumaPlane, chromaPlane, lumaTu, chromaTu, lumaQ, chromaQ, chromaOn, builtGrid, builtGrids, frameEarly, frameRoom, frameSamples, frameLate, runFrame, frameBuilt, orDone, frameOf}
 use Rattle.scan.proofs.Checks.{else-parts, found-nothing}
-use Rattle.frame.specs.Luma.{One, one, lumaLate, lumaBuilt, besides}
+use Rattle.frame_planes.specs.Late.{lumaLate}
+use Rattle.frame_planes.proofs.Parts.{late-is}
+use Rattle.frame.specs.Luma.{One, one, lumaBuilt, besides}
 
--- ---- the late checks with chroma, by their parts
+-- ---- the late checks with chroma
 
 module _ (f : Frame) (on : chromaOn f ≡ true) (l c : Grid) (p : Planes) where
-  pub late-is : frameLate f (grids l c) p ≡ orElse (orElse (found (noRoom (lumaPlane f) l) Room) (found (noRoom (chromaPlane f) c) Room)) (orElse (found (overPlane (lumaPlane f) (p .y)) Sample) (orElse (found (overPlane (chromaPlane f) (p .u)) Sample) (found (overPlane (chromaPlane f) (p .v)) Sample)))
-  unfolding frameLate frameRoom frameSamples onlyIf
-  late-is = rw on
-
   -- accepted, every edge has room
   pub late-room : {a : Answer} → a ≡ frameLate f (grids l c) p → a ≡ Accepted → (noRoom (lumaPlane f) l ≡ Nothing) × (noRoom (chromaPlane f) c ≡ Nothing)
   late-room e h =
-      let r = else-parts _ _ (else-parts _ _ (sym late-is ∙ sym e ∙ h) .0) in
+      let r = else-parts _ _ (else-parts _ _ (sym (late-is f on l c p) ∙ sym e ∙ h) .0) in
       (found-nothing _ Room (r .0), found-nothing _ Room (r .1))
 
   -- refused, the planes are as lent; accepted, they are run
@@ -38,10 +36,6 @@ module _ (f : Frame) (on : chromaOn f ≡ true) (l c : Grid) (p : Planes) where
   pub late-run : (steps : List ℕ) {a : Answer} {q : Planes} → a ≡ frameLate f (grids l c) p → a ≡ Accepted → q ≡ planes (runPlane (lumaPlane f) steps l (p .y)) (runPlane (chromaPlane f) steps c (p .u)) (runPlane (chromaPlane f) steps c (p .v)) → done Accepted (lent q (grids l c)) ≡ frameBuilt f steps (grids l c) p
   unfolding frameBuilt settle runFrame pick
   late-run steps e h r = rw (sym e ∙ h, on, r)
-
--- the three planes, one run after the other
-pub all-ran : {y u v y' u' v' : List ℕ} → y' ≡ y → u' ≡ u → v' ≡ v → planes y' u' v' ≡ planes y u v
-all-ran e f g = rw (e, f, g)
 
 -- grids built, then checked and used
 pub built-then : (f : Frame) (n : Given) (steps : List ℕ) (l c l' c' : Grid) (p : Planes) {d : Done} → chromaOn f ≡ true → l' ≡ builtGrid (lumaTu f) (lumaQ f) (n .leaves) (n .skips) (n .sbq) l → c' ≡ builtGrid (chromaTu f) (chromaQ f) (n .chromaLeaves) (n .skips) (n .sbq) c → d ≡ frameBuilt f steps (grids l' c') p → d ≡ frameBuilt f steps (builtGrids f n (grids l c)) p
@@ -55,14 +49,19 @@ pub luma-room : (f : Frame) (g : Grid) (y : List ℕ) {a : Answer} → a ≡ lum
 unfolding lumaLate
 luma-room f g y e h = found-nothing _ Room (else-parts _ _ (sym e ∙ h) .0)
 
-module _ (f : Frame) (steps : List ℕ) (g b : Grid) (y : List ℕ) {a : Answer} (built : b ≡ g) (is : a ≡ lumaLate f b y) where
-  pub luma-stop : {r : Refusal} → a ≡ Refused r → one (Refused r) y b ≡ lumaBuilt f steps g y
+-- refused, the plane is as lent; accepted, it is run
+module _ (f : Frame) (steps : List ℕ) (g : Grid) (y : List ℕ) {a : Answer} (is : a ≡ lumaLate f g y) where
+  pub luma-stop : {r : Refusal} → a ≡ Refused r → one (Refused r) y g ≡ lumaBuilt f steps g y
   unfolding lumaBuilt settle
-  luma-stop e = rw (← built, sym is ∙ e)
+  luma-stop e = rw (sym is ∙ e)
 
-  pub luma-run : {y' : List ℕ} → a ≡ Accepted → y' ≡ runPlane (lumaPlane f) steps b y → one Accepted y' b ≡ lumaBuilt f steps g y
+  pub luma-run : {y' : List ℕ} → a ≡ Accepted → y' ≡ runPlane (lumaPlane f) steps g y → one Accepted y' g ≡ lumaBuilt f steps g y
   unfolding lumaBuilt settle
-  luma-run e r = rw (← built, sym is ∙ e, r)
+  luma-run e r = rw (sym is ∙ e, r)
+
+-- luma's grid built, then checked and used
+pub luma-then : (f : Frame) (steps y : List ℕ) {g b : Grid} {o : One} → b ≡ g → o ≡ lumaBuilt f steps b y → o ≡ lumaBuilt f steps g y
+luma-then f steps y e h = rw (← e) h
 
 else-none : (a : Answer) → orElse a Accepted ≡ a
 unfolding orElse

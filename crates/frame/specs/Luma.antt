@@ -3,11 +3,11 @@
 use mathlib.Core.List.{List}
 use Prim.Native.Nat.{ℕ}
 use Rattle.rules.specs.declared.settings.Frame.{Frame}
-use Rattle.rules.specs.declared.refusals.Refusal.the-variants.{Room, Sample}
 use Rattle.rules.specs.declared.refusals.Answer.{Answer}
-use Rattle.rules.specs.Refusals.{orElse, found, settle}
-use Rattle.rules.specs.Plane.{Grid, runPlane, noRoom, overPlane}
+use Rattle.rules.specs.Refusals.{settle}
+use Rattle.rules.specs.Plane.{Grid, runPlane}
 use Rattle.rules.specs.Frame.{Lent, Done, planes, grids, lent, done, lumaPlane}
+use Rattle.frame_planes.specs.Late.{lumaLate}
 
 -- luma's own lists with the answer
 pub record One : Type 0 where
@@ -17,10 +17,6 @@ pub record One : Type 0 where
 
 abbrev pub one : Answer → List ℕ → Grid → One
 one a y g = record { answer = a; y = y; grid = g }
-
--- checks 7 and 8 of luma alone
-unfoldable pub lumaLate : Frame → Grid → List ℕ → Answer
-lumaLate f g y = orElse (found (noRoom (lumaPlane f) g) Room) (found (overPlane (lumaPlane f) y) Sample)
 
 -- the grid g as built, the plane run only where the late checks accept
 unfoldable pub lumaBuilt : Frame → List ℕ → Grid → List ℕ → One

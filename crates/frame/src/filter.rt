@@ -1,10 +1,10 @@
 // A frame whose early checks are accepted: its grids are built, and its planes run where the late checks accept.
-use super::build::build;
-use super::build::build_both;
-use super::late::late;
-use super::late::luma_late;
-use super::run::run;
-use super::run::run_all;
+use frame_planes::build::build;
+use frame_planes::build::build_both;
+use frame_planes::late::late;
+use frame_planes::late::luma_late;
+use frame_planes::run::run;
+use frame_planes::run::run_all;
 use rules::refusals::Answer;
 use rules::settings::Frame;
 ghost use mathlib.Core.Path.{_≡_};
@@ -13,7 +13,8 @@ ghost use lib.ListN.{length};
 ghost use Rattle.rules.specs.declared.refusals.Answer.the-variants.{Accepted};
 ghost use Rattle.rules.specs.Plane.{grid};
 ghost use Rattle.rules.specs.Frame.{planes, grids, lent, given, done, lumaTu, lumaQ, builtGrid, builtGrids, chromaOn, frameEarly, frameBuilt};
-ghost use Rattle.frame.specs.Fit.{Sampled, Stepped, Buildable, Gridded};
+ghost use Rattle.frame_planes.specs.Fit.{Sampled, Buildable};
+ghost use Rattle.frame.specs.Fit.{Stepped, Gridded};
 ghost use Rattle.frame.specs.Luma.{one, lumaBuilt};
 
 // The late checks of a frame with chroma, and its planes run where they accept.
@@ -94,6 +95,28 @@ pub fn with_chroma(
     check_and_run(y, u, v, lv, lh, lw, lt, lq, cv, ch, cw, ct, cq, steps, f)
 }
 
+// The late checks of a frame without chroma, and luma run where they accept.
+fn check_and_run_luma(
+    y: &mut [u16],
+    lv: &[u8],
+    lh: &[u8],
+    lw: &[u8],
+    lt: &[u8],
+    lq: &[u16],
+    steps: &[u32],
+    f: Frame,
+) -> Answer
+    requires { ⌜ Gridded f false (now steps) (grid (now lv) (now lh) (now lw) (now lt) (now lq)) (length (now y)) ⌝ }
+    ensures { λ r. ⌜ one r (now (y .exit)) (grid (now (lv .entry)) (now (lh .entry)) (now (lw .entry)) (now (lt .entry)) (now (lq .entry))) ≡ lumaBuilt f (now (steps .entry)) (grid (now (lv .entry)) (now (lh .entry)) (now (lw .entry)) (now (lt .entry)) (now (lq .entry))) (now (y .entry)) ⌝ }
+{
+    let a = luma_late(y, lv, lh, lw, lt, f);
+    if let Answer::Refused(r) = a {
+        return Answer::Refused(r);
+    }
+    run(y, lv, lh, lw, lt, lq, steps, f, false);
+    Answer::Accepted
+}
+
 // Without chroma.
 pub fn luma_only(
     y: &mut [u16],
@@ -113,10 +136,5 @@ pub fn luma_only(
     ensures { λ r. ⌜ one r (now (y .exit)) (grid (now (lv .exit)) (now (lh .exit)) (now (lw .exit)) (now (lt .exit)) (now (lq .exit))) ≡ lumaBuilt f (now (steps .entry)) (builtGrid (lumaTu f) (lumaQ f) (now (leaves .entry)) (now (skips .entry)) (now (sbq .entry)) (grid (now (lv .entry)) (now (lh .entry)) (now (lw .entry)) (now (lt .entry)) (now (lq .entry)))) (now (y .entry)) ⌝ }
 {
     build(lv, lh, lw, lt, lq, leaves, skips, sbq, f, false);
-    let a = luma_late(y, lv, lh, lw, lt, f);
-    if let Answer::Refused(r) = a {
-        return Answer::Refused(r);
-    }
-    run(y, lv, lh, lw, lt, lq, steps, f, false);
-    Answer::Accepted
+    check_and_run_luma(y, lv, lh, lw, lt, lq, steps, f)
 }

@@ -1,3 +1,4 @@
+-- `deblock_frame` at its three ways out: refused early, with chroma, without. Assumes nothing.
 use Rattle.frame.proofs.Ways.{frame-refused, frame-both, frame-luma}
 use Rattle.frame.proofs.Given.{luma-sampled, luma-stepped, luma-built}
 use Rattle.frame_checks.proofs.Same.{early-is}
@@ -24,7 +25,10 @@ chroma-on-requires : tie.Need-chroma-on-requires
 chroma-on-requires c κs = search needs
 
 with-chroma-requires : tie.Need-with-chroma-requires
-with-chroma-requires c κs = (sym (c .before .before .before .before .before .before .before .before .before .before .before .before .before .before .before .before .before .frame-early .ensures ∙ early-is _ _ _) ∙ c .before .before .before .before .before .before .before .before .before .before .before .before .before .before .before .enum-told .given .1, sym (c .before .before .before .before .before .before .before .before .before .before .before .before .before .before .chroma-on .ensures) ∙ c .before .before .before .before .before .before .before .before .before .before .before .before .before .if1 .taken)
+with-chroma-requires c κs = (
+  sym (c .before .before .before .before .before .before .before .before .before .before .before .before .before .before .before .before .before .frame-early .ensures ∙ early-is _ _ _) ∙ c .before .before .before .before .before .before .before .before .before .before .before .before .before .before .before .enum-told .given .1,
+  sym (c .before .before .before .before .before .before .before .before .before .before .before .before .before .before .chroma-on .ensures) ∙ c .before .before .before .before .before .before .before .before .before .before .before .before .before .if1 .taken,
+)
 
 same-length : tie.Need-same-length
 same-length c = c .before .before .before .before .before .before .before .before .before .before .before .before .before .before .before .before .before .before .before .before .before .before .before .before .before .before .with-chroma .kept .0
@@ -66,10 +70,19 @@ same-length-13 : tie.Need-same-length-13
 same-length-13 c = c .before .before .before .before .before .before .before .before .before .before .before .before .before .before .before .before .before .before .before .before .before .before .before .before .before .before .with-chroma .kept .1 .1 .1 .1 .1 .1 .1 .1 .1 .1 .1 .1 .0
 
 returns-2 : tie.Need-returns-2
-returns-2 c = frame-both _ _ _ (c .before .before .before .before .before .before .before .before .before .before .before .before .before .before .before .before .before .before .before .before .before .before .before .before .before .before .before .before .before .before .before .before .before .before .before .before .before .before .before .before .before .before .before .before .frame-early .ensures ∙ early-is _ _ _) (c .before .before .before .before .before .before .before .before .before .before .before .before .before .before .before .before .before .before .before .before .before .before .before .before .before .before .before .before .before .before .before .before .before .before .before .before .before .before .before .before .before .before .enum-told .given .1) (c .before .before .before .before .before .before .before .before .before .before .before .before .before .before .before .before .before .before .before .before .before .before .before .before .before .before .with-chroma .ensures)
+returns-2 c =
+    frame-both _ _ _ (c .before .before .before .before .before .before .before .before .before .before .before .before .before .before .before .before .before .before .before .before .before .before .before .before .before .before .before .before .before .before .before .before .before .before .before .before .before .before .before .before .before .before .before .before .frame-early .ensures ∙ early-is _ _ _)
+    (c .before .before .before .before .before .before .before .before .before .before .before .before .before .before .before .before .before .before .before .before .before .before .before .before .before .before .before .before .before .before .before .before .before .before .before .before .before .before .before .before .before .before .enum-told .given .1)
+    (c .before .before .before .before .before .before .before .before .before .before .before .before .before .before .before .before .before .before .before .before .before .before .before .before .before .before .with-chroma .ensures)
 
 luma-only-requires : tie.Need-luma-only-requires
-luma-only-requires c κs = let ok = sym (c .before .before .before .before .before .before .before .before .before .before .frame-early .ensures ∙ early-is _ _ (lent (planes (c .before .before .before .before .before .before .before .before .before .before .before .before .before .before .before .before .before .before .before .before .before .before .before .before .before .before .before .before .before .args .y .now) (c .before .before .before .before .before .before .before .before .before .before .before .before .before .before .before .before .before .before .before .before .before .before .before .before .before .before .before .before .before .args .u .now) (c .before .before .before .before .before .before .before .before .before .before .before .before .before .before .before .before .before .before .before .before .before .before .before .before .before .before .before .before .before .args .v .now)) (grids (grid (c .before .before .before .before .before .before .before .before .before .before .before .before .before .before .before .before .before .before .before .before .before .before .before .before .before .before .before .before .before .args .lv .now) (c .before .before .before .before .before .before .before .before .before .before .before .before .before .before .before .before .before .before .before .before .before .before .before .before .before .before .before .before .before .args .lh .now) (c .before .before .before .before .before .before .before .before .before .before .before .before .before .before .before .before .before .before .before .before .before .before .before .before .before .before .before .before .before .args .lw .now) (c .before .before .before .before .before .before .before .before .before .before .before .before .before .before .before .before .before .before .before .before .before .before .before .before .before .before .before .before .before .args .lt .now) (c .before .before .before .before .before .before .before .before .before .before .before .before .before .before .before .before .before .before .before .before .before .before .before .before .before .before .before .before .before .args .lq .now)) (grid (c .before .before .before .before .before .before .before .before .before .before .before .before .before .before .before .before .before .before .before .before .before .before .before .before .before .before .before .before .before .args .cv .now) (c .before .before .before .before .before .before .before .before .before .before .before .before .before .before .before .before .before .before .before .before .before .before .before .before .before .before .before .before .before .args .ch .now) (c .before .before .before .before .before .before .before .before .before .before .before .before .before .before .before .before .before .before .before .before .before .before .before .before .before .before .before .before .before .args .cw .now) (c .before .before .before .before .before .before .before .before .before .before .before .before .before .before .before .before .before .before .before .before .before .before .before .before .before .before .before .before .before .args .ct .now) (c .before .before .before .before .before .before .before .before .before .before .before .before .before .before .before .before .before .before .before .before .before .before .before .before .before .before .before .before .before .args .cq .now))))) ∙ c .before .before .before .before .before .before .before .before .enum-told .given .1 in ((luma-sampled _ _ _ ok, luma-stepped _ _ _ ok), luma-built _ _ _ ok)
+luma-only-requires c κs =
+    let a = c .before .before .before .before .before .before .before .before .before .before .before .before .before .before .before .before .before .before .before .before .before .before .before .before .before .before .before .before .before .args in
+    let luma = grid (a .lv .now) (a .lh .now) (a .lw .now) (a .lt .now) (a .lq .now) in
+    let chroma = grid (a .cv .now) (a .ch .now) (a .cw .now) (a .ct .now) (a .cq .now) in
+    let l = lent (planes (a .y .now) (a .u .now) (a .v .now)) (grids luma chroma) in
+    let ok = sym (c .before .before .before .before .before .before .before .before .before .before .frame-early .ensures ∙ early-is _ _ l) ∙ c .before .before .before .before .before .before .before .before .enum-told .given .1 in
+    ((luma-sampled _ _ l ok, luma-stepped _ _ l ok), luma-built _ _ l ok)
 
 same-length-14 : tie.Need-same-length-14
 same-length-14 c = c .before .before .before .before .before .before .before .before .before .before .before .before .luma-only .kept .0
@@ -90,7 +103,11 @@ same-length-19 : tie.Need-same-length-19
 same-length-19 c = c .before .before .before .before .before .before .before .before .before .before .before .before .luma-only .kept .1 .1 .1 .1 .1 .0
 
 returns-3 : tie.Need-returns-3
-returns-3 c = frame-luma _ _ _ (c .before .before .before .before .before .before .before .before .before .before .before .before .before .before .before .before .before .before .before .before .before .before .before .frame-early .ensures ∙ early-is _ _ _) (c .before .before .before .before .before .before .before .before .before .before .before .before .before .before .before .before .before .before .before .before .before .enum-told .given .1) (sym (c .before .before .before .before .before .before .before .before .before .before .before .before .before .before .before .before .before .before .before .before .chroma-on .ensures) ∙ c .before .before .before .before .before .before .before .before .before .before .before .before .before .before .before .before .before .before .before .if1 .left) (c .before .before .before .before .before .before .before .before .before .before .before .before .luma-only .ensures)
+returns-3 c =
+    frame-luma _ _ _ (c .before .before .before .before .before .before .before .before .before .before .before .before .before .before .before .before .before .before .before .before .before .before .before .frame-early .ensures ∙ early-is _ _ _)
+    (c .before .before .before .before .before .before .before .before .before .before .before .before .before .before .before .before .before .before .before .before .before .enum-told .given .1)
+    (sym (c .before .before .before .before .before .before .before .before .before .before .before .before .before .before .before .before .before .before .before .before .chroma-on .ensures) ∙ c .before .before .before .before .before .before .before .before .before .before .before .before .before .before .before .before .before .before .before .if1 .left)
+    (c .before .before .before .before .before .before .before .before .before .before .before .before .luma-only .ensures)
 
 pub deblock-frame-spec : {M : Type 1} → statement M
 deblock-frame-spec =

@@ -1,9 +1,10 @@
+-- `room` is refusal 7 at the first edge of the plane that lacks room. Assumes nothing.
 use mathlib.Core.Path.{refl}
 use Rattle.rules.specs.declared.refusals.Refusal.the-variants.{Room}
 use Rattle.scan.proofs.Checks.{found-bad-by, found-good-by}
 use borrow.Author.Needs.{needs}
-use Rattle.frame.proofs.late.room.Statement.{statement}
-use Rattle.frame.proofs.late.room.Tie as tie
+use Rattle.frame_planes.proofs.late.room.Statement.{statement}
+use Rattle.frame_planes.proofs.late.room.Tie as tie
 
 plane-of-requires : tie.Need-plane-of-requires
 plane-of-requires c κs = c .before .before .before .before .pre .sized

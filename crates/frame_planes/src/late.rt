@@ -16,8 +16,8 @@ ghost use Rattle.rules.specs.Refusals.{orElse, found};
 ghost use Rattle.rules.specs.Plane.{grid, noRoom, overPlane};
 ghost use Rattle.rules.specs.Frame.{planes, grids, lumaPlane, chromaPlane, chromaOn, frameLate};
 ghost use Rattle.frame_checks.specs.Settings.{planeOf};
-ghost use Rattle.frame.specs.Fit.{Sampled, Marked};
-ghost use Rattle.frame.specs.Luma.{lumaLate};
+ghost use Rattle.frame_planes.specs.Fit.{Sampled, Marked};
+ghost use Rattle.frame_planes.specs.Late.{lumaLate};
 
 // Refusal 7 of one plane, whatever the qindex.
 fn room(vedge: &[u8], hedge: &[u8], sqw: &[u8], sqh: &[u8], f: Frame, chroma: bool) -> Answer

@@ -1,7 +1,8 @@
+-- `overs` is luma's refusal 8, else U's, else V's. Assumes nothing.
 use Rattle.scan.proofs.Checks.{stop-by, go-on-by}
 use borrow.Author.Needs.{needs}
-use Rattle.frame.proofs.late.overs.Statement.{statement}
-use Rattle.frame.proofs.late.overs.Tie as tie
+use Rattle.frame_planes.proofs.late.overs.Statement.{statement}
+use Rattle.frame_planes.proofs.late.overs.Tie as tie
 
 over-requires : tie.Need-over-requires
 over-requires c κs = c .before .before .before .pre .0

@@ -1,9 +1,10 @@
+-- `late` is rules' frameLate where chroma is filtered: 7 of both grids, then 8 of the three planes. Assumes nothing.
 use mathlib.Core.Path.{sym, _∙_}
-use Rattle.frame.proofs.Ways.{late-is}
+use Rattle.frame_planes.proofs.Parts.{late-is}
 use Rattle.scan.proofs.Checks.{stop-by, go-on-by}
 use borrow.Author.Needs.{needs}
-use Rattle.frame.proofs.late.late.Statement.{statement}
-use Rattle.frame.proofs.late.late.Tie as tie
+use Rattle.frame_planes.proofs.late.late.Statement.{statement}
+use Rattle.frame_planes.proofs.late.late.Tie as tie
 
 rooms-requires : tie.Need-rooms-requires
 rooms-requires c κs = (c .before .before .before .before .before .before .before .before .before .before .before .pre .1 .0, c .before .before .before .before .before .before .before .before .before .before .before .pre .1 .1 .0)

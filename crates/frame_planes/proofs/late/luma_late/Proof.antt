@@ -1,8 +1,9 @@
-use Rattle.frame.specs.Luma.{lumaLate}
+-- `luma_late` is luma's refusal 7, else its 8. Assumes nothing.
+use Rattle.frame_planes.specs.Late.{lumaLate}
 use Rattle.scan.proofs.Checks.{stop-by, go-on-by}
 use borrow.Author.Needs.{needs}
-use Rattle.frame.proofs.late.luma_late.Statement.{statement}
-use Rattle.frame.proofs.late.luma_late.Tie as tie
+use Rattle.frame_planes.proofs.late.luma_late.Statement.{statement}
+use Rattle.frame_planes.proofs.late.luma_late.Tie as tie
 
 room-requires : tie.Need-room-requires
 room-requires c κs = c .before .before .before .before .before .pre .1

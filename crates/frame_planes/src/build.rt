@@ -10,7 +10,7 @@ ghost use lib.ListN.{length};
 ghost use Rattle.rules.specs.Plane.{grid};
 ghost use Rattle.rules.specs.Frame.{builtGrid, lumaTu, lumaQ, chromaTu, chromaQ};
 ghost use Rattle.frame_checks.specs.Settings.{tuOf, qOf};
-ghost use Rattle.frame.specs.Fit.{Buildable};
+ghost use Rattle.frame_planes.specs.Fit.{Buildable};
 
 // The grid of luma or of chroma.
 pub fn build(

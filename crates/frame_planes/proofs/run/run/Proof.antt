@@ -1,6 +1,7 @@
+-- `run` is the plane's run by the settings that the frame has for it. Assumes nothing.
 use borrow.Author.Needs.{needs}
-use Rattle.frame.proofs.run.run.Statement.{statement}
-use Rattle.frame.proofs.run.run.Tie as tie
+use Rattle.frame_planes.proofs.run.run.Statement.{statement}
+use Rattle.frame_planes.proofs.run.run.Tie as tie
 
 plane-of-requires : tie.Need-plane-of-requires
 plane-of-requires c κs = c .before .before .before .before .before .before .before .before .pre .0

@@ -1,7 +1,8 @@
-use Rattle.frame.proofs.Ways.{all-ran}
+-- `run_all` runs each of the three planes by its kind's settings and grid. Assumes nothing.
+use Rattle.frame_planes.proofs.Parts.{all-ran}
 use borrow.Author.Needs.{needs}
-use Rattle.frame.proofs.run.run_all.Statement.{statement}
-use Rattle.frame.proofs.run.run_all.Tie as tie
+use Rattle.frame_planes.proofs.run.run_all.Statement.{statement}
+use Rattle.frame_planes.proofs.run.run_all.Tie as tie
 
 run-requires : tie.Need-run-requires
 run-requires c κs = (c .before .before .before .before .before .before .before .before .before .before .before .before .before .before .before .pre .0, c .before .before .before .before .before .before .before .before .before .before .before .before .before .before .before .pre .1 .0)

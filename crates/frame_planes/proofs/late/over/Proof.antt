@@ -1,9 +1,10 @@
+-- `over` is refusal 8 at the first sample of the plane above top. Assumes nothing.
 use mathlib.Core.Path.{refl}
 use Rattle.rules.specs.declared.refusals.Refusal.the-variants.{Sample}
 use Rattle.scan.proofs.Checks.{found-bad-by, found-good-by}
 use borrow.Author.Needs.{needs}
-use Rattle.frame.proofs.late.over.Statement.{statement}
-use Rattle.frame.proofs.late.over.Tie as tie
+use Rattle.frame_planes.proofs.late.over.Statement.{statement}
+use Rattle.frame_planes.proofs.late.over.Tie as tie
 
 plane-of-requires : tie.Need-plane-of-requires
 plane-of-requires c κs = c .before .pre .sized

@@ -1,7 +1,8 @@
+-- `rooms` is luma's refusal 7, else chroma's. Assumes nothing.
 use Rattle.scan.proofs.Checks.{stop-by, go-on-by}
 use borrow.Author.Needs.{needs}
-use Rattle.frame.proofs.late.rooms.Statement.{statement}
-use Rattle.frame.proofs.late.rooms.Tie as tie
+use Rattle.frame_planes.proofs.late.rooms.Statement.{statement}
+use Rattle.frame_planes.proofs.late.rooms.Tie as tie
 
 room-requires : tie.Need-room-requires
 room-requires c κs = c .before .before .before .before .before .before .before .before .pre .0

@@ -1,7 +1,8 @@
-use Rattle.frame.proofs.Grids.{grid-by}
+-- `build` leaves the marks and the qindex that the two grids' callees leave, which is the built grid. Assumes nothing.
+use Rattle.frame_planes.proofs.Parts.{grid-by}
 use borrow.Author.Needs.{needs}
-use Rattle.frame.proofs.build.build.Statement.{statement}
-use Rattle.frame.proofs.build.build.Tie as tie
+use Rattle.frame_planes.proofs.build.build.Statement.{statement}
+use Rattle.frame_planes.proofs.build.build.Tie as tie
 
 tu-of-requires : tie.Need-tu-of-requires
 tu-of-requires c κs = c .before .before .before .before .before .before .before .before .before .before .before .before .pre .sized
