@@ -1,9 +1,19 @@
 /* Bihargesh, the proved AV2 loop filters: what C may call. The functions stand in the static library libcside.a.
  *
- * Each function takes any numbers and lists of any length; a pointer must lead to as many bytes as the length after it says.
+ * Each function takes any numbers and lists of any length. A list is a pointer and the number of its entries; the pointer must lead
+ * to that many, a list that is not const overlaps no other, and an empty list may be NULL.
  * It does its work, or answers minus the number of document 01's refusal and leaves all lent memory as it was:
- * 1 depth is not 8, 10 or 12; 3 the window is not 144 bytes; 4 the step table is not 1,408 bytes, or its steps are bad;
- * 5 a setting is out of range; 8 a used sample exceeds 2^depth - 1.
+ *   1 depth is not 8, 10 or 12                     2 a size, stride, subsampling or count is out of range
+ *   3 a list is shorter than needed                4 the step table is bad
+ *   5 a delta, cap or other setting out of range   6 a grid cell has a bad mark or size index
+ *   7 an edge lacks room                           8 a used sample exceeds 2^depth - 1
+ *   9 a leaf is bad
+ * Where several hold, the answer is the first in the order 1, 2, 3, 4, 5, 9, 6, 7, 8.
+ *
+ * The functions with a list `settings` take their settings as numbers in a fixed order, given with each; numbers beyond those are not
+ * looked at, and a list with fewer is refused by 2 before all else. A number below 0 where a count stands is out of its range.
+ * The functions with a list `place` put the place of a refusal into its first entry, if it has one: the first bad step, cell, leaf
+ * or sample, counted from 0, and 0 where document 01 names none. `place` is left as lent where the answer is 0.
  */
 #ifndef BIHARGESH_H
 #define BIHARGESH_H
@@ -17,14 +27,52 @@ extern "C" {
 
 /* Both thresholds of the edge between two blocks, as q * 65536 + side.
  * curr and prev are the qindex of the block after and before the edge, delta_q and delta_side are -128..127,
- * steps is the table of 352 AC steps, four bytes a step, low first (1,408 bytes). Refusals 1, 4, 5, in this order. */
+ * steps is the table of 352 AC steps, four bytes a step, low first (1,408 bytes; 4 if not). Refusals 1, 4, 5, in this order. */
 int32_t bihargesh_thresholds(uint16_t curr, uint16_t prev, int32_t delta_q, int32_t delta_side, uint32_t depth,
                              const uint8_t *steps, size_t steps_len);
 
 /* Filters one segment in place and answers how many samples after the edge were filtered: 0, 1, 2, 3, 4, 6 or 8.
- * window is four lines of eighteen samples, each p8..p0 then q0..q8, two bytes a sample, low first (144 bytes);
+ * window is four lines of eighteen samples, each p8..p0 then q0..q8, two bytes a sample, low first (144 bytes; 3 if not);
  * pair is 0..7, q 0..2048, side 0..839. Only samples within the widths change. Refusals 1, 3, 5, 8, in this order. */
 int32_t bihargesh_segment(uint8_t *window, size_t window_len, uint32_t depth, uint32_t pair, uint32_t q, uint32_t side);
+
+/* Filters every marked edge of a plane, in document 01's order, and answers 0.
+ * plane has rows of stride samples. The grid has a number for each cell of 4x4 samples, row by row: vedge and hedge mark (0 or 1) an
+ * edge at the cell's left and upper side, sqw and sqh are the size indices 0..6 of its block, qindex is its block's.
+ * steps is the table of 352 AC steps. Only samples of 4*cols by 4*rows change.
+ * settings, eleven numbers: cols and rows (cells each way, 1..1024), stride (4*cols..8192), width (1..4*cols) and height (1..4*rows)
+ * of the border test, superblock width and height in cells (8 or 16), chroma (0 or 1; 2 if not), depth, delta_q and delta_side
+ * (-128..127). Refusals 1, 2, 3, 4, 5, 6, 7, 8, in this order. */
+int32_t bihargesh_plane(uint16_t *plane, size_t plane_len, const uint8_t *vedge, size_t vedge_len, const uint8_t *hedge, size_t hedge_len,
+                        const uint8_t *sqw, size_t sqw_len, const uint8_t *sqh, size_t sqh_len, const uint16_t *qindex, size_t qindex_len,
+                        const uint32_t *steps, size_t steps_len, const int32_t *settings, size_t settings_len,
+                        size_t *place, size_t place_len);
+
+/* Builds the marks and size indices of a plane's cells from its leaves, and answers 0.
+ * leaves and skips have four numbers a leaf: row, column (0..1023), width and height (1, 2, 4, .. 64, all in luma cells); 4096 added to
+ * a leaf's width keeps the leaf whole. A skip leaf is whole, carries no 4096, and comes after every other leaf.
+ * settings, six numbers: cols and rows (cells each way, 1..1024), subsampling across and down (0 0, 1 0 or 1 1), largest TU width and
+ * height in cells (1, 2, 4, 8 or 16). Entries from cols*rows on are kept. Refusals 2, 3, 5, 9, in this order. */
+int32_t bihargesh_tx_grid(const uint16_t *leaves, size_t leaves_len, const uint16_t *skips, size_t skips_len, uint8_t *vedge, size_t vedge_len,
+                          uint8_t *hedge, size_t hedge_len, uint8_t *sqw, size_t sqw_len, uint8_t *sqh, size_t sqh_len,
+                          const int32_t *settings, size_t settings_len, size_t *place, size_t place_len);
+
+/* Gives each cell of a plane the qindex of its superblock, and answers 0.
+ * superblocks has the qindex of each superblock of 64x64 luma samples, row by row; a cell beyond the last takes the last.
+ * settings, five numbers: cols and rows (cells each way, 1..1024), subsampling across and down (0 0, 1 0 or 1 1), superblocks across
+ * (1..128). Entries from cols*rows on are kept. Refusals 2, 3, in this order. */
+int32_t bihargesh_qindex_grid(const uint16_t *superblocks, size_t superblocks_len, uint16_t *qindex, size_t qindex_len,
+                              const int32_t *settings, size_t settings_len, size_t *place, size_t place_len);
+
+/* Adds the gated CCSO offsets to a plane, and answers 0.
+ * luma and target have no row padding; flags has a number for each block of 64x64 luma samples, row by row, and 0 keeps the block as it
+ * is; offsets has 16 numbers a band, each -10..7.
+ * settings, sixteen numbers: luma width and height (1..4096), subsampling across and down (0 0, 1 0 or 1 1), depth, scale (1..16), cuts
+ * lo <= hi (-4095..4095), class numbers below lo, from lo to hi and above hi (0..3), taps dx0, dy0, dx1, dy1 (-16..16), band log2 (0..3).
+ * Refusals 1, 2, 3, 5, 8, in this order; the place of 8 is in luma, or else in the target. */
+int32_t bihargesh_ccso(const uint16_t *luma, size_t luma_len, uint16_t *target, size_t target_len, const uint8_t *flags, size_t flags_len,
+                       const int8_t *offsets, size_t offsets_len, const int32_t *settings, size_t settings_len,
+                       size_t *place, size_t place_len);
 
 #ifdef __cplusplus
 }

@@ -2,20 +2,22 @@
 -- Assumes nothing.
 use mathlib.Core.Path.{_≡_, refl, ap, _∙_}
 use mathlib.Core.List.{List, [], _∷_}
-use Prim.Native.Nat.{ℕ, _<_}
+use Prim.Native.Nat.{ℕ, _≤_, _<_}
 use native.Mathlib.Omega.{arith}
 use lib.ListN.{length, set}
 use lib.IntN.{ℤ, pos, negsuc, negℤ}
 use mir.Syntax.{w32}
 use mir.Val.{toZ, ofZ}
+use Rattle.laws.specs.Choose.{is-le, not-le}
 use Rattle.laws.specs.Machine.{back}
 use Rattle.rules.specs.declared.refusals.Refusal.{Refusal}
 use Rattle.rules.specs.declared.refusals.Refusal.the-variants.{Depth, Size, Length, Steps, Setting, Cell, Room, Sample, Leaf}
 use Rattle.rules.specs.declared.refusals.Answer.{Answer}
 use Rattle.rules.specs.declared.refusals.Answer.the-variants.{Accepted, Refused}
-use Rattle.rules.specs.Refusals.{numberOf, placeOf}
+use Rattle.rules.specs.Refusals.{numberOf, placeOf, settle}
 use Rattle.rules.specs.CSide.{cAnswer}
-use Rattle.cside.specs.Told.{placed, Told}
+use Rattle.scan.proofs.Checks.{stop, go-on, unless-bad, unless-good, settle-refused}
+use Rattle.cside.specs.Told.{placed, Told, listed, Handed, Reported}
 
 -- a count that the machine holds
 pub held : (z : ℤ) (n : ℕ) → z ≡ pos n → n < 2147483648 → toZ w32 (ofZ w32 z) ≡ pos n
@@ -66,3 +68,30 @@ held-answer z (Refused r) e = held-minus z r e
 pub told-by : {a b : Answer} {lent place : List ℕ} {z : ℤ} → a ≡ b → Told a lent z place → Told b lent (toZ w32 (ofZ w32 z)) place
 told-by {a} {b} {lent} {place} {z} e t =
     record { answer = held-answer z b (t .answer ∙ ap (λ (a : Answer). cAnswer a 0) e); place-is = t .place-is ∙ ap (λ (a : Answer). placed a lent) e }
+
+-- ---- what is left of the lent lists
+
+module _ {A : Type 0} {check : Answer} (lent new : A) where
+  pub handed-refused : {r : Refusal} → Refused r ≡ check → Handed check lent new (Refused r) lent
+  handed-refused e = record { answer = e; left-is = settle-refused _ _ _ e }
+
+  -- by a check of the entry's own
+  pub handed-on : {own a : Answer} {left : A} → own ≡ check → a ≡ own → left ≡ settle own lent new → Handed check lent new a left
+  handed-on e f g = record { answer = f ∙ e; left-is = g ∙ ap (λ (x : Answer). settle x lent new) e }
+
+-- told to C
+pub reported : {A : Type 0} {check a : Answer} {lent new left : A} {p q : List ℕ} {z : ℤ} → Handed check lent new a left → Told a p z q → Reported check lent new p (toZ w32 (ofZ w32 z)) left q
+reported d t = record { told = told-by (d .answer) t; left-is = d .left-is }
+
+-- a settings list: too short, and long enough
+module _ {A : Type 0} (n : ℕ) (settings : List ℤ) (check : Answer) (lent new : A) where
+  pub short : length settings < n → Handed (listed n settings check) lent new (Refused Size) lent
+  unfolding listed
+  short h = handed-refused lent new (stop _ _ (unless-bad _ _ (not-le n (length settings) h)))
+
+  pub long-is : n ≤ length settings → check ≡ listed n settings check
+  unfolding listed
+  long-is h = go-on _ _ _ (unless-good _ _ (is-le n (length settings) h)) refl
+
+  pub long : n ≤ length settings → {a : Answer} {left : A} → a ≡ check → left ≡ settle check lent new → Handed (listed n settings check) lent new a left
+  long h e f = handed-on lent new (long-is h) e f

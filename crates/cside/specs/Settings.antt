@@ -6,6 +6,9 @@ use lib.Dec.{eqb}
 use lib.ListN.{getD}
 use lib.IntN.{ℤ, pos, negsuc}
 use Rattle.rules.specs.declared.settings.Plane.{Plane}
+use Rattle.rules.specs.declared.settings.TuGrid.{TuGrid}
+use Rattle.rules.specs.declared.settings.QindexGrid.{QindexGrid}
+use Rattle.rules.specs.declared.settings.Ccso.{Ccso}
 
 -- number k of the list
 unfoldable pub numberAt : List ℤ → ℕ → ℤ
@@ -33,4 +36,46 @@ planeOf l = record {
   depth = countAt l 8;
   deltaq = numberAt l 9;
   deltaside = numberAt l 10;
+}
+
+-- a TU grid's, six numbers
+unfoldable pub tuGridOf : List ℤ → TuGrid
+tuGridOf l = record {
+  cols = countAt l 0;
+  rows = countAt l 1;
+  ssx = countAt l 2;
+  ssy = countAt l 3;
+  capw = countAt l 4;
+  caph = countAt l 5;
+}
+
+-- a qindex grid's, five numbers
+unfoldable pub qindexGridOf : List ℤ → QindexGrid
+qindexGridOf l = record {
+  cols = countAt l 0;
+  rows = countAt l 1;
+  ssx = countAt l 2;
+  ssy = countAt l 3;
+  sbcols = countAt l 4;
+}
+
+-- CCSO's, sixteen numbers
+unfoldable pub offsetsOf : List ℤ → Ccso
+offsetsOf l = record {
+  width = countAt l 0;
+  height = countAt l 1;
+  ssx = countAt l 2;
+  ssy = countAt l 3;
+  depth = countAt l 4;
+  scale = countAt l 5;
+  lo = numberAt l 6;
+  hi = numberAt l 7;
+  below = countAt l 8;
+  within = countAt l 9;
+  above = countAt l 10;
+  dx0 = numberAt l 11;
+  dy0 = numberAt l 12;
+  dx1 = numberAt l 13;
+  dy1 = numberAt l 14;
+  bandlog = countAt l 15;
 }

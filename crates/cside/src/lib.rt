@@ -17,3 +17,10 @@ pub mod settings;
 
 // One plane.
 pub mod planes;
+
+// The grids of a plane.
+pub mod qindex_grids;
+pub mod tx_grids;
+
+// The gated CCSO offsets.
+pub mod gated_offsets;

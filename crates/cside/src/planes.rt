@@ -6,8 +6,10 @@ use plane::deblock_plane;
 use rules::depth::Depth;
 use rules::refusals::Answer;
 use rules::refusals::Refusal;
-ghost use Rattle.rules.specs.Plane.{grid};
-ghost use Rattle.cside.specs.Planes.{PlaneDone, PlaneTold};
+ghost use Rattle.rules.specs.Plane.{grid, runPlane};
+ghost use Rattle.cside.specs.Told.{Handed, Reported};
+ghost use Rattle.cside.specs.Settings.{planeOf};
+ghost use Rattle.cside.specs.Planes.{cPlaneCheck};
 
 // Deblocks a plane, or refuses it and leaves it as lent.
 fn deblock(
@@ -20,7 +22,7 @@ fn deblock(
     steps: &[u32],
     settings: &[i32],
 ) -> Answer
-    ensures { λ a. ⌜ PlaneDone (now (settings .entry)) (now (steps .entry)) (grid (now (vedge .entry)) (now (hedge .entry)) (now (sqw .entry)) (now (sqh .entry)) (now (qindex .entry))) (now (plane .entry)) a (now (plane .exit)) ⌝ }
+    ensures { λ a. ⌜ Handed (cPlaneCheck (now (settings .entry)) (now (steps .entry)) (grid (now (vedge .entry)) (now (hedge .entry)) (now (sqw .entry)) (now (sqh .entry)) (now (qindex .entry))) (now (plane .entry))) (now (plane .entry)) (runPlane (planeOf (now (settings .entry))) (now (steps .entry)) (grid (now (vedge .entry)) (now (hedge .entry)) (now (sqw .entry)) (now (sqh .entry)) (now (qindex .entry))) (now (plane .entry))) a (now (plane .exit)) ⌝ }
 {
     if settings.len() < 11 {
         return Answer::Refused(Refusal::Size);
@@ -48,7 +50,7 @@ pub extern "C" fn bihargesh_plane(
     settings: &[i32],
     place: &mut [usize],
 ) -> i32
-    ensures { λ r. ⌜ PlaneTold (now (settings .entry)) (now (steps .entry)) (grid (now (vedge .entry)) (now (hedge .entry)) (now (sqw .entry)) (now (sqh .entry)) (now (qindex .entry))) (now (plane .entry)) (now (place .entry)) r (now (plane .exit)) (now (place .exit)) ⌝ }
+    ensures { λ r. ⌜ Reported (cPlaneCheck (now (settings .entry)) (now (steps .entry)) (grid (now (vedge .entry)) (now (hedge .entry)) (now (sqw .entry)) (now (sqh .entry)) (now (qindex .entry))) (now (plane .entry))) (now (plane .entry)) (runPlane (planeOf (now (settings .entry))) (now (steps .entry)) (grid (now (vedge .entry)) (now (hedge .entry)) (now (sqw .entry)) (now (sqh .entry)) (now (qindex .entry))) (now (plane .entry))) (now (place .entry)) r (now (plane .exit)) (now (place .exit)) ⌝ }
 {
     let a = deblock(plane, vedge, hedge, sqw, sqh, qindex, steps, settings);
     told(a, place)

@@ -1,11 +1,14 @@
 // Settings as C lends them: a list of numbers, in the order of the settings' fields.
 use laws::split;
+use rules::settings::Ccso;
 use rules::settings::Plane;
+use rules::settings::QindexGrid;
+use rules::settings::TuGrid;
 ghost use mathlib.Core.Path.{_≡_};
 ghost use Prim.Native.Nat.{_≤_, _<_};
 ghost use lib.Dec.{eqb};
 ghost use lib.ListN.{length};
-ghost use Rattle.cside.specs.Settings.{numberAt, countOf, countAt, planeOf};
+ghost use Rattle.cside.specs.Settings.{numberAt, countOf, countAt, planeOf, tuGridOf, qindexGridOf, offsetsOf};
 
 // Number k of a list.
 fn number(list: &[i32], k: usize) -> i32
@@ -64,5 +67,59 @@ pub fn plane_of(list: &[i32]) -> Plane
         depth: count(list, 8),
         deltaq: number(list, 9),
         deltaside: number(list, 10),
+    }
+}
+
+// A TU grid's settings.
+pub fn tu_grid_of(list: &[i32]) -> TuGrid
+    requires { ⌜ 6 ≤ length (now list) ⌝ }
+    ensures { λ s. ⌜ s ≡ tuGridOf (now (list .entry)) ⌝ }
+{
+    TuGrid {
+        cols: size(list, 0),
+        rows: size(list, 1),
+        ssx: size(list, 2),
+        ssy: size(list, 3),
+        capw: size(list, 4),
+        caph: size(list, 5),
+    }
+}
+
+// A qindex grid's settings.
+pub fn qindex_grid_of(list: &[i32]) -> QindexGrid
+    requires { ⌜ 5 ≤ length (now list) ⌝ }
+    ensures { λ s. ⌜ s ≡ qindexGridOf (now (list .entry)) ⌝ }
+{
+    QindexGrid {
+        cols: size(list, 0),
+        rows: size(list, 1),
+        ssx: size(list, 2),
+        ssy: size(list, 3),
+        sbcols: size(list, 4),
+    }
+}
+
+// CCSO's settings.
+pub fn offsets_of(list: &[i32]) -> Ccso
+    requires { ⌜ 16 ≤ length (now list) ⌝ }
+    ensures { λ s. ⌜ s ≡ offsetsOf (now (list .entry)) ⌝ }
+{
+    Ccso {
+        width: size(list, 0),
+        height: size(list, 1),
+        ssx: size(list, 2),
+        ssy: size(list, 3),
+        depth: count(list, 4),
+        scale: count(list, 5),
+        lo: number(list, 6),
+        hi: number(list, 7),
+        below: count(list, 8),
+        within: count(list, 9),
+        above: count(list, 10),
+        dx0: number(list, 11),
+        dy0: number(list, 12),
+        dx1: number(list, 13),
+        dy1: number(list, 14),
+        bandlog: count(list, 15),
     }
 }

@@ -1,5 +1,5 @@
 -- `bihargesh_plane` answers by a plane's rules. Assumes nothing.
-use Rattle.cside.proofs.Done.{told-plane}
+use Rattle.cside.proofs.Numbers.{reported}
 use borrow.Author.Needs.{needs}
 use Rattle.cside.proofs.planes.bihargesh_plane.Statement.{statement}
 use Rattle.cside.proofs.planes.bihargesh_plane.Tie as tie
@@ -17,7 +17,7 @@ same-length-2 : tie.Need-same-length-2
 same-length-2 c = search needs
 
 returns : tie.Need-returns
-returns c = told-plane _ _ _ _ (c .before .before .before .before .before .before .deblock .ensures) (c .before .before .told .ensures)
+returns c = reported (c .before .before .before .before .before .before .deblock .ensures) (c .before .before .told .ensures)
 
 pub bihargesh-plane-spec : {M : Type 1} → statement M
 bihargesh-plane-spec =

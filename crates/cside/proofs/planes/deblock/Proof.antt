@@ -1,11 +1,11 @@
 -- `deblock` tests the settings, and hands on what the entry gives. Assumes nothing.
-use Rattle.cside.proofs.Done.{short, no-depth, no-kind, done}
+use Rattle.cside.proofs.Done.{plane-short, no-depth, no-kind, plane-done}
 use borrow.Author.Needs.{needs}
 use Rattle.cside.proofs.planes.deblock.Statement.{statement}
 use Rattle.cside.proofs.planes.deblock.Tie as tie
 
 returns : tie.Need-returns
-returns c = short _ _ _ _ (c .if1 .taken)
+returns c = plane-short _ _ _ _ (c .if1 .taken)
 
 plane-of-requires : tie.Need-plane-of-requires
 plane-of-requires c κs = search needs
@@ -29,7 +29,7 @@ same-length : tie.Need-same-length
 same-length c = search needs
 
 returns-4 : tie.Need-returns-4
-returns-4 c = done _ _ _ _ (c .before .before .before .before .before .before .before .before .before .if1 .left) (c .before .before .before .before .before .before .before .before .plane-of .ensures) (c .before .before .before .before .before .before .before .is .ensures) (c .before .before .before .before .before .before .if2 .left) (c .before .before .before .before .before .count .ensures) (c .before .before .before .before .if3 .left) (c .before .before .deblock-plane .ensures)
+returns-4 c = plane-done _ _ _ _ (c .before .before .before .before .before .before .before .before .before .if1 .left) (c .before .before .before .before .before .before .before .before .plane-of .ensures) (c .before .before .before .before .before .before .before .is .ensures) (c .before .before .before .before .before .before .if2 .left) (c .before .before .before .before .before .count .ensures) (c .before .before .before .before .if3 .left) (c .before .before .deblock-plane .ensures)
 
 pub deblock-spec : {M : Type 1} → statement M
 deblock-spec =

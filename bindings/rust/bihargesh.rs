@@ -1,0 +1,258 @@
+//! Bihargesh, the proved AV2 loop filters, for Rust: safe calls of the static library libcside.a, with a type for each answer.
+//!
+//! Every function takes any numbers and lists of any length. It does its work, or says why it does not and leaves every lent list as it was.
+//! include/bihargesh.h says what each number means and which are accepted.
+
+#[link(name = "cside", kind = "static")]
+extern "C" {
+    fn bihargesh_thresholds(curr: u16, prev: u16, delta_q: i32, delta_side: i32, depth: u32, steps: *const u8, steps_len: usize) -> i32;
+    fn bihargesh_segment(window: *mut u8, window_len: usize, depth: u32, pair: u32, q: u32, side: u32) -> i32;
+    fn bihargesh_plane(
+        plane: *mut u16, plane_len: usize, vedge: *const u8, vedge_len: usize, hedge: *const u8, hedge_len: usize,
+        sqw: *const u8, sqw_len: usize, sqh: *const u8, sqh_len: usize, qindex: *const u16, qindex_len: usize,
+        steps: *const u32, steps_len: usize, settings: *const i32, settings_len: usize, place: *mut usize, place_len: usize,
+    ) -> i32;
+    fn bihargesh_tx_grid(
+        leaves: *const u16, leaves_len: usize, skips: *const u16, skips_len: usize, vedge: *mut u8, vedge_len: usize,
+        hedge: *mut u8, hedge_len: usize, sqw: *mut u8, sqw_len: usize, sqh: *mut u8, sqh_len: usize,
+        settings: *const i32, settings_len: usize, place: *mut usize, place_len: usize,
+    ) -> i32;
+    fn bihargesh_qindex_grid(
+        superblocks: *const u16, superblocks_len: usize, qindex: *mut u16, qindex_len: usize,
+        settings: *const i32, settings_len: usize, place: *mut usize, place_len: usize,
+    ) -> i32;
+    fn bihargesh_ccso(
+        luma: *const u16, luma_len: usize, target: *mut u16, target_len: usize, flags: *const u8, flags_len: usize,
+        offsets: *const i8, offsets_len: usize, settings: *const i32, settings_len: usize, place: *mut usize, place_len: usize,
+    ) -> i32;
+}
+
+/// Document 01's refusals by name, in the order of their numbers.
+#[derive(Clone, Copy, Debug, PartialEq, Eq)]
+pub enum Reason {
+    /// The depth is not 8, 10 or 12.
+    Depth = 1,
+    /// A size, stride, subsampling or count is out of range.
+    Size,
+    /// A list is shorter than needed, or a list of leaves is cut.
+    Length,
+    /// The step table is bad.
+    Steps,
+    /// A delta, cap, threshold, pair or CCSO setting is out of range.
+    Setting,
+    /// A grid cell has a bad mark or size index.
+    Cell,
+    /// An edge lacks room.
+    Room,
+    /// A used sample exceeds the depth's largest.
+    Sample,
+    /// A leaf is bad.
+    Leaf,
+}
+
+const REASONS: [Reason; 9] = [
+    Reason::Depth,
+    Reason::Size,
+    Reason::Length,
+    Reason::Steps,
+    Reason::Setting,
+    Reason::Cell,
+    Reason::Room,
+    Reason::Sample,
+    Reason::Leaf,
+];
+
+impl Reason {
+    /// Document 01's number.
+    pub fn number(self) -> u32 {
+        self as u32
+    }
+
+    /// The reason of an answer below 0.
+    fn of(answer: i32) -> Reason {
+        REASONS[-answer as usize - 1]
+    }
+}
+
+/// Why an entry did nothing, and at which step, cell, leaf or sample: 0 where document 01 names none.
+#[derive(Clone, Copy, Debug, PartialEq, Eq)]
+pub struct Refusal {
+    pub reason: Reason,
+    pub place: usize,
+}
+
+/// Both thresholds of an edge.
+#[derive(Clone, Copy, Debug, PartialEq, Eq)]
+pub struct Thresholds {
+    pub q: u32,
+    pub side: u32,
+}
+
+/// Settings of a plane.
+#[derive(Clone, Copy, Debug, Default)]
+pub struct Plane {
+    pub cols: i32,
+    pub rows: i32,
+    pub stride: i32,
+    pub width: i32,
+    pub height: i32,
+    pub superblock_width: i32,
+    pub superblock_height: i32,
+    pub chroma: bool,
+    pub depth: i32,
+    pub delta_q: i32,
+    pub delta_side: i32,
+}
+
+/// A plane's grid: a number for each cell, row by row.
+#[derive(Clone, Copy, Debug)]
+pub struct Grid<'a> {
+    pub vedge: &'a [u8],
+    pub hedge: &'a [u8],
+    pub sqw: &'a [u8],
+    pub sqh: &'a [u8],
+    pub qindex: &'a [u16],
+}
+
+/// The four lists that a TU grid fills.
+#[derive(Debug)]
+pub struct Marks<'a> {
+    pub vedge: &'a mut [u8],
+    pub hedge: &'a mut [u8],
+    pub sqw: &'a mut [u8],
+    pub sqh: &'a mut [u8],
+}
+
+/// Settings of a TU grid.
+#[derive(Clone, Copy, Debug, Default)]
+pub struct TxGrid {
+    pub cols: i32,
+    pub rows: i32,
+    pub ssx: i32,
+    pub ssy: i32,
+    pub cap_width: i32,
+    pub cap_height: i32,
+}
+
+/// Settings of a qindex grid.
+#[derive(Clone, Copy, Debug, Default)]
+pub struct QindexGrid {
+    pub cols: i32,
+    pub rows: i32,
+    pub ssx: i32,
+    pub ssy: i32,
+    pub superblocks_across: i32,
+}
+
+/// Settings of the CCSO offsets.
+#[derive(Clone, Copy, Debug, Default)]
+pub struct Ccso {
+    pub width: i32,
+    pub height: i32,
+    pub ssx: i32,
+    pub ssy: i32,
+    pub depth: i32,
+    pub scale: i32,
+    pub lo: i32,
+    pub hi: i32,
+    pub below: i32,
+    pub within: i32,
+    pub above: i32,
+    pub dx0: i32,
+    pub dy0: i32,
+    pub dx1: i32,
+    pub dy1: i32,
+    pub band_log2: i32,
+}
+
+/// What was asked for, or the refusal with its place.
+fn told(answer: i32, place: [usize; 1]) -> Result<(), Refusal> {
+    if answer < 0 {
+        return Err(Refusal { reason: Reason::of(answer), place: place[0] });
+    }
+    Ok(())
+}
+
+// In each call below every pointer is that of a live list, beside its length, and the borrow checker keeps a `&mut` list apart from the others.
+
+/// Both thresholds of the edge between two blocks; `steps` has four bytes a step, low first.
+pub fn thresholds(curr: u16, prev: u16, delta_q: i32, delta_side: i32, depth: u32, steps: &[u8]) -> Result<Thresholds, Reason> {
+    // SAFETY: as above.
+    let answer = unsafe { bihargesh_thresholds(curr, prev, delta_q, delta_side, depth, steps.as_ptr(), steps.len()) };
+    if answer < 0 {
+        return Err(Reason::of(answer));
+    }
+    Ok(Thresholds { q: answer as u32 >> 16, side: answer as u32 & 65535 })
+}
+
+/// Filters one segment on a window of 144 bytes; how many samples after the edge were filtered.
+pub fn segment(window: &mut [u8], depth: u32, pair: u32, q: u32, side: u32) -> Result<usize, Reason> {
+    // SAFETY: as above.
+    let answer = unsafe { bihargesh_segment(window.as_mut_ptr(), window.len(), depth, pair, q, side) };
+    if answer < 0 {
+        return Err(Reason::of(answer));
+    }
+    Ok(answer as usize)
+}
+
+/// Filters every marked edge of a plane.
+pub fn deblock_plane(plane: &mut [u16], grid: Grid, steps: &[u32], s: Plane) -> Result<(), Refusal> {
+    let settings = [
+        s.cols, s.rows, s.stride, s.width, s.height, s.superblock_width, s.superblock_height, s.chroma as i32, s.depth, s.delta_q, s.delta_side,
+    ];
+    let mut place = [0];
+    // SAFETY: as above.
+    let answer = unsafe {
+        bihargesh_plane(
+            plane.as_mut_ptr(), plane.len(), grid.vedge.as_ptr(), grid.vedge.len(), grid.hedge.as_ptr(), grid.hedge.len(),
+            grid.sqw.as_ptr(), grid.sqw.len(), grid.sqh.as_ptr(), grid.sqh.len(), grid.qindex.as_ptr(), grid.qindex.len(),
+            steps.as_ptr(), steps.len(), settings.as_ptr(), settings.len(), place.as_mut_ptr(), place.len(),
+        )
+    };
+    told(answer, place)
+}
+
+/// Builds a plane's marks and size indices from its leaves and skip leaves, four numbers a leaf.
+pub fn build_tx_grid(leaves: &[u16], skips: &[u16], marks: Marks, s: TxGrid) -> Result<(), Refusal> {
+    let settings = [s.cols, s.rows, s.ssx, s.ssy, s.cap_width, s.cap_height];
+    let mut place = [0];
+    // SAFETY: as above.
+    let answer = unsafe {
+        bihargesh_tx_grid(
+            leaves.as_ptr(), leaves.len(), skips.as_ptr(), skips.len(), marks.vedge.as_mut_ptr(), marks.vedge.len(),
+            marks.hedge.as_mut_ptr(), marks.hedge.len(), marks.sqw.as_mut_ptr(), marks.sqw.len(), marks.sqh.as_mut_ptr(), marks.sqh.len(),
+            settings.as_ptr(), settings.len(), place.as_mut_ptr(), place.len(),
+        )
+    };
+    told(answer, place)
+}
+
+/// Gives each cell of a plane the qindex of its superblock.
+pub fn build_qindex_grid(superblocks: &[u16], qindex: &mut [u16], s: QindexGrid) -> Result<(), Refusal> {
+    let settings = [s.cols, s.rows, s.ssx, s.ssy, s.superblocks_across];
+    let mut place = [0];
+    // SAFETY: as above.
+    let answer = unsafe {
+        bihargesh_qindex_grid(
+            superblocks.as_ptr(), superblocks.len(), qindex.as_mut_ptr(), qindex.len(),
+            settings.as_ptr(), settings.len(), place.as_mut_ptr(), place.len(),
+        )
+    };
+    told(answer, place)
+}
+
+/// Adds the gated CCSO offsets to a plane.
+pub fn apply_edge_gated(luma: &[u16], target: &mut [u16], flags: &[u8], offsets: &[i8], s: Ccso) -> Result<(), Refusal> {
+    let settings = [
+        s.width, s.height, s.ssx, s.ssy, s.depth, s.scale, s.lo, s.hi, s.below, s.within, s.above, s.dx0, s.dy0, s.dx1, s.dy1, s.band_log2,
+    ];
+    let mut place = [0];
+    // SAFETY: as above.
+    let answer = unsafe {
+        bihargesh_ccso(
+            luma.as_ptr(), luma.len(), target.as_mut_ptr(), target.len(), flags.as_ptr(), flags.len(),
+            offsets.as_ptr(), offsets.len(), settings.as_ptr(), settings.len(), place.as_mut_ptr(), place.len(),
+        )
+    };
+    told(answer, place)
+}
