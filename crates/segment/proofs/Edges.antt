@@ -1,75 +1,141 @@
 -- One edge: room for what is read and stored, the answer, and either direction.
 -- Assumes nothing.
-use mathlib.Core.Path.{_≡_, refl, sym, ap, _∙_}
+use mathlib.Core.Path.{_≡_, refl, sym, ap, ap₂, _∙_}
 use mathlib.Core.Bool.{Bool, true, false}
-use mathlib.Core.List.{List, [], _∷_}
-use Prim.Native.Nat.{ℕ, zero, suc, _+_, _-_, _*_, _≤_, _<_, min}
+use mathlib.Core.List.{List, [], _∷_, _++_}
+use Prim.Native.Nat.{ℕ, _+_, _-_, _*_, _≤_, _<_, min, max}
 use native.Mathlib.Nat.{mul-le-mul-right, add-mul}
+use native.Mathlib.Decide.{decLe}
 use native.Mathlib.Omega.{arith}
 use borrow.Author.Tests.{eq-eqb, ne-eqb}
 use lib.Dec.{eqb}
-use Rattle.laws.specs.Loops.{each}
-use Rattle.laws.specs.Stores.{puts}
+use lib.ListN.{getD}
+use lib.IntN.{ℤ}
+use Rattle.laws.specs.Loops.{each, each-same}
+use Rattle.laws.specs.Stores.{Store, puts}
 use Rattle.rules.specs.declared.edge.Edge.{Edge}
 use Rattle.rules.specs.declared.edge.Place.{Place}
 use Rattle.rules.specs.declared.edge.Line.{Line}
 use Rattle.rules.specs.Lengths.{mostBefore, mostAfter, reachBefore, reachAfter}
-use Rattle.rules.specs.Width.{widthOf}
-use Rattle.rules.specs.Segment.{placed, placeOf, hasRoom, linesOf, windowOf, chosenOf, storesOf, fourStores, lineStores, widthAt, segmentOf}
+use Rattle.rules.specs.Width.{blank}
+use Rattle.rules.specs.Taps.{mostOf, before, after}
+use Rattle.rules.specs.Segment.{placed, placeOf, hasRoom, pAt, qAt, differenceOf, windowOf, chosenOf, storesOf, fourStores, lineStores, widthAt, segmentOf}
 use Rattle.choice.proofs.Lengths.{PairFacts, pair-facts}
 use Rattle.choice.proofs.Most.{width-most}
-use Rattle.segment.specs.Fit.{Room, Fit, Filtered, InPlane, EdgeFiltered}
-use Rattle.segment.proofs.Places.{room-less}
+use Rattle.segment.specs.Fit.{Room, Spread, Fit, Filtered, InPlane, EdgeFiltered}
+use Rattle.segment.specs.Sides.{differenceIn, lineTaps, fourTaps, Lanes}
+use Rattle.segment.proofs.Window.{window-p, window-q}
 use Rattle.segment.proofs.Cells.{Along, along-of, spread-of}
 
 -- ---- room
+step-of : {at step line b a : ℕ} → Spread at step line b a → 3 ≤ b → 1 ≤ step
+step-of {at} {step} {line} r h =
+    elim (decLe 1 step) [
+      | yes k ↦ k
+      | no k ↦ absurd (let z : step ≡ 0 = omega arith in let f = r .befores 0 0 0 1 (omega arith) (omega arith) (omega arith) (omega arith) (rw z (omega arith)) in omega arith)
+    ]
+
+spread-less : {at step line b a n w : ℕ} → Spread at step line b a → n ≤ b → w ≤ a → Spread at step line n w
+spread-less r hn hw = record {
+  befores = λ j k i m hj hk hi hm. r .befores j k i m hj (omega arith) hi (omega arith);
+  afters = λ j k i m hj hk hi hm. r .afters j k i m hj (omega arith) hi (omega arith);
+  across = λ j k i m hj hk hi hm. r .across j k i m hj (omega arith) hi (omega arith);
+}
+
 module _ (e : Place) {size : ℕ} (fit : Fit e size) where
-  pub read-room : {b a : ℕ} → b ≡ reachBefore (e .pair) → a ≡ reachAfter (e .pair) → Room (e .at) (e .step) (e .line) b a size
-  read-room p q = rw (p, q) (fit .room)
+  pub read-room : {b a : ℕ} → b ≡ reachBefore (e .pair) → a ≡ reachAfter (e .pair) → (3 ≤ b) × (3 ≤ a) × (Room (e .at) (e .step) (e .line) b a size)
+  read-room p q =
+      let f = pair-facts (e .pair) (fit .pair-is) in
+      let fb = f .before in
+      let fa = f .after in
+      (omega arith, omega arith, rw (p, q) (fit .room))
 
   pub choice-fits : {p : ℕ} → p ≡ mostAfter (e .pair) → (p ≤ 8) × (e .q ≤ 2048) × (e .side ≤ 839)
   choice-fits h = let f = pair-facts (e .pair) (fit .pair-is) .after in (omega arith, fit .q-most, fit .side-most)
 
-  -- the stores of a width that is not 0, after the edge and before it
-  pub store-room : (ls : List Line) {n w m : ℕ} → n ≡ mostBefore (e .pair) → w ≡ chosenOf e ls → (w ≡ 0 → ⊥) → m ≡ min w n
-      → (e .q ≤ 2048) × (1 ≤ m) × (Room (e .at) (e .step) (e .line) m w size)
+-- ---- the widths of an edge that filters
+module _ (e : Place) (l : List ℕ) {size : ℕ} (fit : Fit e size) {n w k : ℕ} (hw : w ≡ chosenOf e (windowOf e l)) (some : w ≡ 0 → ⊥) (hn : n ≡ mostBefore (e .pair)) (hk : k ≡ min w n) where
+  after-most : w ≤ mostAfter (e .pair)
   unfolding chosenOf
-  store-room ls {n} {w} {m} hn hw some hm =
+  after-most = rw hw (width-most (windowOf e l) (mostBefore (e .pair)) (e .q) (e .side) (pair-facts (e .pair) (fit .pair-is) .after-is))
+
+  pub widths-fit : (1 ≤ w) × (w ≤ 8) × (1 ≤ k) × (k ≤ 8)
+  widths-fit =
       let f = pair-facts (e .pair) (fit .pair-is) in
-      let b = f .before in
-      let a = f .after in
-      let g : w ≤ mostAfter (e .pair) = rw hw (width-most ls (mostBefore (e .pair)) (e .q) (e .side) (f .after-is)) in
-      (fit .q-most, omega arith, room-less (e .at) (e .step) (e .line) (reachBefore (e .pair)) (reachAfter (e .pair)) m w size (fit .room) (omega arith) (omega arith) (omega arith))
+      let fb = f .before in
+      let fa = f .after in
+      let m = after-most in
+      (omega arith, omega arith, omega arith, omega arith)
+
+  pub lanes-fit : Lanes (e .at) (e .step) (e .line) k w size
+  lanes-fit =
+      let f = pair-facts (e .pair) (fit .pair-is) in
+      let fb = f .before in
+      let fa = f .after in
+      let m = after-most in
+      let r = fit .room in
+      let b : k ≤ reachBefore (e .pair) = omega arith in
+      let c : w - 1 ≤ reachAfter (e .pair) - 1 = omega arith in
+      let b2 : 2 ≤ reachBefore (e .pair) = omega arith in
+      let c2 : 1 ≤ reachAfter (e .pair) - 1 = omega arith in
+      let x = mul-le-mul-right (e .step) b in
+      let y = mul-le-mul-right (e .step) c in
+      let x2 = mul-le-mul-right (e .step) b2 in
+      let y2 = mul-le-mul-right (e .step) c2 in
+      record {
+        step-some = step-of (fit .spread) (fb .reach-3);
+        after-some = omega arith;
+        before-most = omega arith;
+        after-most = omega arith;
+        low = omega arith;
+        low-2 = omega arith;
+        high = omega arith;
+        high-2 = omega arith;
+        spread = spread-less (fit .spread) (omega arith) (omega arith);
+      }
+
+-- ---- the taps of the plane are the stores of the window
+module _ (top : ℕ) (e : Place) (l : List ℕ) (f : PairFacts (e .pair)) (n w : ℕ) (hn : n ≤ reachBefore (e .pair)) (hw : w ≤ reachAfter (e .pair)) where
+  line-taps : (j : ℕ) → j < 4 → lineTaps top (e .at + j * e .line) (e .step) n w (e .q * mostOf w) l ≡ lineStores top (e .at + j * e .line) (e .step) n w (e .q) (getD (windowOf e l) j blank)
+  unfolding lineTaps lineStores
+  line-taps j h =
+      let fb = f .before in
+      let fa = f .after in
+      let d : differenceIn l (e .at + j * e .line) (e .step) (e .q * mostOf w) ≡ differenceOf (getD (windowOf e l) j blank) (e .q) w =
+      rw (window-p e l f j 1 h (omega arith), window-p e l f j 0 h (omega arith), window-q e l f j 0 h (omega arith), window-q e l f j 1 h (omega arith)) in
+      ap₂ (λ (x y : List Store). x ++ y)
+      (each-same _ _ n (λ i b. ap₂ (λ (x : ℕ) (z : ℤ). (pAt (e .at + j * e .line) (e .step) i, before top x z n i) ∷ []) (sym (window-p e l f j i h (omega arith))) d))
+      (each-same _ _ w (λ i b. ap₂ (λ (x : ℕ) (z : ℤ). (qAt (e .at + j * e .line) (e .step) i, after top x z w i) ∷ []) (sym (window-q e l f j i h (omega arith))) d))
+
+  taps-are : fourTaps top (e .at) (e .step) (e .line) n w (e .q * mostOf w) l ≡ fourStores top (e .at) (e .step) (e .line) n w (e .q) (windowOf e l)
+  unfolding fourTaps fourStores
+  taps-are = each-same _ _ 4 line-taps
 
 -- ---- the answer
-pub window-is : (e : Place) (l : List ℕ) {b a : ℕ} {ls : List Line} → b ≡ reachBefore (e .pair) → a ≡ reachAfter (e .pair) → ls ≡ linesOf l (e .at) (e .step) (e .line) b a → ls ≡ windowOf e l
-unfolding windowOf
-window-is e l hb ha hl = cc
-
-pub chosen-is : (e : Place) (ls : List Line) {n p w : ℕ} → n ≡ mostBefore (e .pair) → p ≡ mostAfter (e .pair) → w ≡ widthOf ls n p (e .q) (e .side) → w ≡ chosenOf e ls
-unfolding chosenOf
-chosen-is e ls hn hp hw = cc
-
 no-stores : (top at step line n q : ℕ) (ls : List Line) (l : List ℕ) → n ≡ 0 → l ≡ puts (fourStores top at step line n 0 q ls) l
 unfolding fourStores lineStores each puts
 no-stores top at step line n q ls l h = rw h
 
-pub filtered-none : (top : ℕ) (e : Place) (l : List ℕ) {w : ℕ} {ls : List Line} → ls ≡ windowOf e l → w ≡ chosenOf e ls → w ≡ 0 → Filtered top e l 0 l
+pub filtered-none : (top : ℕ) (e : Place) (l : List ℕ) {w : ℕ} → w ≡ chosenOf e (windowOf e l) → w ≡ 0 → Filtered top e l 0 l
 unfolding storesOf
-filtered-none top e l {w} {ls} hl hw hz =
+filtered-none top e l {w} hw hz =
     let z : chosenOf e (windowOf e l) ≡ 0 = cc in
     record {
       width = sym z;
       plane = rw z (no-stores top (e .at) (e .step) (e .line) (min 0 (mostBefore (e .pair))) (e .q) (windowOf e l) l (omega arith));
     }
 
-pub filtered-some : (top : ℕ) (e : Place) (l m : List ℕ) {n w k : ℕ} {ls : List Line} → ls ≡ windowOf e l → w ≡ chosenOf e ls → n ≡ mostBefore (e .pair) → k ≡ min w n
-    → m ≡ puts (fourStores top (e .at) (e .step) (e .line) k w (e .q) ls) l → Filtered top e l w m
+pub filtered-some : (top : ℕ) (e : Place) (l m : List ℕ) {size n w k lim : ℕ} → Fit e size → w ≡ chosenOf e (windowOf e l) → (w ≡ 0 → ⊥) → n ≡ mostBefore (e .pair) → k ≡ min w n
+    → m ≡ puts (fourTaps top (e .at) (e .step) (e .line) k w lim l) l → lim ≡ e .q * mostOf w → Filtered top e l w m
 unfolding storesOf
-filtered-some top e l m {n} {w} {k} {ls} hl hw hn hk hm = record {
-  width = cc;
-  plane = cc;
-}
+filtered-some top e l m {size} {n} {w} {k} {lim} fit hw some hn hk hm hl =
+    let f = pair-facts (e .pair) (fit .pair-is) in
+    let fb = f .before in
+    let fa = f .after in
+    let g = after-most e l fit hw some hn hk in
+    let t = taps-are top e l f k w (omega arith) (omega arith) in
+    let z : min w n ≡ min (chosenOf e (windowOf e l)) (mostBefore (e .pair)) = cc in
+    record { width = hw; plane = cc }
 
 -- ---- room in a plane, over the direction
 room-of : (t : Bool) (stride columns rows size : ℕ) (e : Edge) → columns ≤ stride → rows * stride ≤ size → PairFacts (e .pair)

@@ -1,9 +1,10 @@
 pub mod Places
 pub mod Cells
+pub mod Window
+pub mod Near
 pub mod Taps
 pub mod Edges
 pub mod Accepted
 pub mod Samples
-pub mod Window
 pub mod Demand
 pub mod Promises

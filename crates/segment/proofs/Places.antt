@@ -4,7 +4,7 @@ use mathlib.Core.Path.{_≡_}
 use Prim.Native.Nat.{ℕ, _+_, _-_, _*_, _≤_, _<_}
 use native.Mathlib.Nat.{mul-le-mul-right}
 use native.Mathlib.Omega.{arith}
-use Rattle.segment.specs.Fit.{Room, Reach}
+use Rattle.segment.specs.Sides.{Lane, Lanes}
 
 pub before-in : (i s step at : ℕ) → i < s → s * step ≤ at → (i + 1) * step ≤ at
 before-in i s step at h k = let l : i + 1 ≤ s = omega arith in omega (arith, mul-le-mul-right step l)
@@ -16,19 +16,14 @@ pub line-in : (j line : ℕ) → j < 4 → j * line ≤ 3 * line
 line-in j line h = let l : j ≤ 3 = omega arith in mul-le-mul-right line l
 
 -- each of the four lines has room
-pub reach-line : {at step line b a size : ℕ} → Room at step line b a size → (j k : ℕ) → j < 4 → k ≡ size → Reach (at + j * line) step b a k
-reach-line {at} {step} {line} {b} {a} {size} r j k h e = let m = line-in j line h in record {
+pub lane-line : {at step line n w size : ℕ} → Lanes at step line n w size → (j k : ℕ) → j < 4 → k ≡ size → Lane (at + j * line) step n w k
+lane-line {at} {step} {line} r j k h e = let m = line-in j line h in record {
+  step-some = r .step-some;
+  after-some = r .after-some;
+  before-most = r .before-most;
+  after-most = r .after-most;
   low = omega arith;
+  low-2 = omega arith;
   high = omega arith;
-  some = r .some;
-  most-before = r .most-before;
-  most-after = r .most-after;
+  high-2 = omega arith;
 }
-
--- fewer samples have room where more have
-pub room-less : (at step line b a n w size : ℕ) → Room at step line b a size → n ≤ b → w ≤ a → 1 ≤ w → Room at step line n w size
-room-less at step line b a n w size r hn hw one =
-    let l : w - 1 ≤ a - 1 = omega arith in
-    let x : n * step ≤ b * step = mul-le-mul-right step hn in
-    let y : (w - 1) * step ≤ (a - 1) * step = mul-le-mul-right step l in
-    record { low = omega arith; high = omega arith; some = one; most-before = omega arith; most-after = omega arith }

@@ -1,40 +1,227 @@
--- The stores of a line: what the code stores by a sign and a size is what the rules store by D.
--- Assumes nothing.
-use mathlib.Core.Path.{_≡_, refl, sym, ap, _∙_}
+-- The stores of a line: a sample that is read just before it is moved is still as it was, and what the code stores by a sign and a size
+-- is what the rules store by D. Assumes nothing.
+use mathlib.Core.Path.{_≡_, refl, sym, ap, ap₂, _∙_}
 use mathlib.Core.Bool.{Bool}
 use mathlib.Core.List.{List, [], _∷_, _++_}
-use Prim.Native.Nat.{ℕ, _+_, _-_, _*_, _≤_, _<_}
-use lib.ListN.{getD}
+use Prim.Native.Nat.{ℕ, _+_, _-_, _*_, _≤_, _<_, max}
+use native.Mathlib.Nat.{mul-le-mul-right, add-mul, le-antisymm}
+use native.Mathlib.Omega.{arith}
+use lib.ListN.{length, getD, set}
+use lib.Seq.{set-comm}
 use lib.IntN.{ℤ}
+use Rattle.laws.specs.Lists.{Each, each-append, each-loop}
+use Rattle.laws.specs.Loops.{each, each-same}
+use Rattle.laws.specs.Stores.{Store, puts, puts-append, puts-then, puts-one, puts-none, puts-more, puts-other, puts-length}
 use Rattle.laws.specs.Whole.{within}
-use Rattle.laws.specs.Stores.{Store, puts}
-use Rattle.rules.specs.declared.edge.Line.{Line}
-use Rattle.rules.specs.Taps.{weightOf, mostOf, difference, limited, before, after}
-use Rattle.rules.specs.Segment.{pAt, qAt, storesBefore, storesAfter, differenceOf, lineStores}
+use Rattle.rules.specs.Taps.{weightOf, difference, before, after}
+use Rattle.rules.specs.Segment.{pAt, qAt}
 use Rattle.taps.specs.Signed.{signed, along, against}
 use Rattle.taps.proofs.Signs.{before-is, after-is}
-use Rattle.segment.specs.Sides.{alongStores, againstStores}
-use Rattle.laws.specs.Loops.{each-same}
-use Rattle.laws.specs.Stores.{puts-then}
+use Rattle.segment.specs.Fit.{Spread}
+use Rattle.segment.specs.Sides.{alongStores, againstStores, bothStores, differenceIn, beforeTaps, afterTaps, lineTaps, fourTaps, Scales}
 
-module _ (top at step s size by : ℕ) (plus : Bool) (e : by ≡ size * weightOf s) (x : List ℕ) (k : ℕ) where
-  along-is : alongStores top at step s plus by x k ≡ storesBefore top at step s (signed plus size) x k
-  along-is = each-same _ _ k (λ i h. ap (λ (v : ℕ). (pAt at step i, v) ∷ []) (before-is top (getD x i 0) s i size by plus e))
+-- ---- places of one line
+p-apart : (at step j i : ℕ) → 1 ≤ step → j < i → (i + 1) * step ≤ at → pAt at step j ≡ pAt at step i → ⊥
+p-apart at step j i s h r q =
+    let l : j + 1 + 1 ≤ i + 1 = omega arith in
+    omega (arith, mul-le-mul-right step l, add-mul (j + 1) 1 step)
 
-  against-is : againstStores top at step s plus by x k ≡ storesAfter top at step s (signed plus size) x k
-  against-is = each-same _ _ k (λ i h. ap (λ (v : ℕ). (qAt at step i, v) ∷ []) (after-is top (getD x i 0) s i size by plus e))
+q-apart : (at step j i : ℕ) → 1 ≤ step → j < i → qAt at step j ≡ qAt at step i → ⊥
+q-apart at step j i s h q =
+    let l : j + 1 ≤ i = omega arith in
+    omega (arith, mul-le-mul-right step l, add-mul j 1 step)
 
--- both sides of one line; a, b and c are the plane before, between and after
-pub line-both : (top at step n w q size wn ww bn bw m : ℕ) (plus : Bool) (l : Line) (a b c : List ℕ)
-    → m ≡ q * mostOf w → signed plus size ≡ within m (difference (getD (l .p) 1 0) (getD (l .p) 0 0) (getD (l .q) 0 0) (getD (l .q) 1 0))
-    → wn ≡ weightOf n → bn ≡ size * wn → ww ≡ weightOf w → bw ≡ size * ww
-    → b ≡ puts (alongStores top at step n plus bn (l .p) n) a → c ≡ puts (againstStores top at step w plus bw (l .q) w) b
-    → c ≡ puts (lineStores top at step n w q l) a
-unfolding lineStores
-line-both top at step n w q size wn ww bn bw m plus l a b c hm hd hn hbn hw hbw e f =
-    let g : signed plus size ≡ differenceOf l q w = hd ∙ ap (λ (k : ℕ). within k (difference (getD (l .p) 1 0) (getD (l .p) 0 0) (getD (l .q) 0 0) (getD (l .q) 1 0))) hm in
-    let x : bn ≡ size * weightOf n = rw (← hn) hbn in
-    let y : bw ≡ size * weightOf w = rw (← hw) hbw in
-    puts-then (storesBefore top at step n (differenceOf l q w) (l .p) n) (storesAfter top at step w (differenceOf l q w) (l .q) w) a
-    (e ∙ ap (λ (ss : List Store). puts ss a) (along-is top at step n size bn plus x (l .p) n) ∙ ap (λ (d : ℤ). puts (storesBefore top at step n d (l .p) n) a) g)
-    (f ∙ ap (λ (ss : List Store). puts ss b) (against-is top at step w size bw plus y (l .q) w) ∙ ap (λ (d : ℤ). puts (storesAfter top at step w d (l .q) w) b) g)
+p-below : (at step n i k : ℕ) → 1 ≤ step → i < n → n * step ≤ at → pAt at step i ≡ qAt at step k → ⊥
+p-below at step n i k s h r q =
+    let l : i + 1 ≤ n = omega arith in
+    omega (arith, mul-le-mul-right step l, add-mul i 1 step)
+
+-- ---- one side, one store more
+module _ (top at step s by : ℕ) (plus : Bool) (l : List ℕ) (one : 1 ≤ step) where
+  before-unread : (i : ℕ) {q : List ℕ} → (i + 1) * step ≤ at → q ≡ puts (alongStores top at step s plus by l i) l → getD q (pAt at step i) 0 ≡ getD l (pAt at step i) 0
+  before-unread i h e =
+      ap (λ (x : List ℕ). getD x (pAt at step i) 0) e
+      ∙ puts-other (alongStores top at step s plus by l i) l (pAt at step i)
+      (each-loop (λ st. st .0 ≡ pAt at step i → ⊥) i (λ j. (pAt at step j, along top (getD l (pAt at step j) 0) plus (by * (s - j))) ∷ [])
+      (λ j b. (p-apart at step j i one b h, tt)))
+
+  pub before-more : (i v : ℕ) {q : List ℕ} → (i + 1) * step ≤ at → q ≡ puts (alongStores top at step s plus by l i) l → v ≡ along top (getD q (pAt at step i) 0) plus (by * (s - i))
+      → set q (pAt at step i) v ≡ puts (alongStores top at step s plus by l (i + 1)) l
+  before-more i v {q} h e g =
+      puts-more (λ j. (pAt at step j, along top (getD l (pAt at step j) 0) plus (by * (s - j))) ∷ []) l i e
+      (puts-one q (pAt at step i) v (along top (getD l (pAt at step i) 0) plus (by * (s - i)))
+      (g ∙ ap (λ (x : ℕ). along top x plus (by * (s - i))) (before-unread i h e)))
+
+  after-unread : (i : ℕ) {q : List ℕ} → q ≡ puts (againstStores top at step s plus by l i) l → getD q (qAt at step i) 0 ≡ getD l (qAt at step i) 0
+  after-unread i e =
+      ap (λ (x : List ℕ). getD x (qAt at step i) 0) e
+      ∙ puts-other (againstStores top at step s plus by l i) l (qAt at step i)
+      (each-loop (λ st. st .0 ≡ qAt at step i → ⊥) i (λ j. (qAt at step j, against top (getD l (qAt at step j) 0) plus (by * (s - j))) ∷ [])
+      (λ j b. (q-apart at step j i one b, tt)))
+
+  pub after-more : (i v : ℕ) {q : List ℕ} → q ≡ puts (againstStores top at step s plus by l i) l → v ≡ against top (getD q (qAt at step i) 0) plus (by * (s - i))
+      → set q (qAt at step i) v ≡ puts (againstStores top at step s plus by l (i + 1)) l
+  after-more i v {q} e g =
+      puts-more (λ j. (qAt at step j, against top (getD l (qAt at step j) 0) plus (by * (s - j))) ∷ []) l i e
+      (puts-one q (qAt at step i) v (against top (getD l (qAt at step i) 0) plus (by * (s - i)))
+      (g ∙ ap (λ (x : ℕ). against top x plus (by * (s - i))) (after-unread i e)))
+
+-- ---- both sides, one store more on each
+
+-- a store to a place that none of those before it goes to may come first
+puts-set : (ss : List Store) (l : List ℕ) (p v : ℕ) → Each (λ (st : Store). st .0 ≡ p → ⊥) ss → set (puts ss l) p v ≡ puts ss (set l p v)
+unfolding puts
+puts-set [] l p v h = refl
+puts-set (s ∷ ss) l p v h = puts-set ss (set l (s .0) (s .1)) p v (h .1) ∙ ap (λ (x : List ℕ). puts ss x) (set-comm l (s .0) p (s .1) v (h .0))
+
+module _ (top at step s by : ℕ) (plus : Bool) (l : List ℕ) (one : 1 ≤ step) where
+  abbrev P : ℕ → List Store
+  P i = alongStores top at step s plus by l i
+
+  abbrev Q : ℕ → List Store
+  Q i = againstStores top at step s plus by l i
+
+  pub pair-none : l ≡ puts (Q 0) (puts (P 0) l)
+  pair-none = puts-none _ l ∙ puts-none _ (puts (P 0) l)
+
+  -- those after the edge store nowhere before it
+  none-before-edge : (i : ℕ) → (i + 1) * step ≤ at → Each (λ (st : Store). st .0 ≡ pAt at step i → ⊥) (Q i)
+  none-before-edge i h =
+      each-loop (λ (st : Store). st .0 ≡ pAt at step i → ⊥) i (λ j. (qAt at step j, against top (getD l (qAt at step j) 0) plus (by * (s - j))) ∷ [])
+      (λ j b. (λ z. p-below at step (i + 1) i j one (omega arith) h (sym z), tt))
+
+  pair-before : (i v : ℕ) {q : List ℕ} → (i + 1) * step ≤ at → q ≡ puts (Q i) (puts (P i) l) → v ≡ along top (getD q (pAt at step i) 0) plus (by * (s - i))
+      → set q (pAt at step i) v ≡ puts (Q i) (puts (P (i + 1)) l)
+  pair-before i v {q} h e g =
+      let unread : getD q (pAt at step i) 0 ≡ getD (puts (P i) l) (pAt at step i) 0 =
+      ap (λ (x : List ℕ). getD x (pAt at step i) 0) e ∙ puts-other (Q i) (puts (P i) l) (pAt at step i) (none-before-edge i h) in
+      ap (λ (x : List ℕ). set x (pAt at step i) v) e
+      ∙ puts-set (Q i) (puts (P i) l) (pAt at step i) v (none-before-edge i h)
+      ∙ ap (λ (x : List ℕ). puts (Q i) x) (before-more top at step s by plus l one i v h refl (g ∙ ap (λ (x : ℕ). along top x plus (by * (s - i))) unread))
+
+  pub pair-more : (i v u : ℕ) {q : List ℕ} → (i + 1) * step ≤ at → q ≡ puts (Q i) (puts (P i) l) → v ≡ along top (getD q (pAt at step i) 0) plus (by * (s - i))
+      → u ≡ against top (getD (set q (pAt at step i) v) (qAt at step i) 0) plus (by * (s - i))
+      → set (set q (pAt at step i) v) (qAt at step i) u ≡ puts (Q (i + 1)) (puts (P (i + 1)) l)
+  pair-more i v u {q} h e g f =
+      let a = pair-before i v h e g in
+      let unread : getD (set q (pAt at step i) v) (qAt at step i) 0 ≡ getD l (qAt at step i) 0 =
+      ap (λ (x : List ℕ). getD x (qAt at step i) 0) a
+      ∙ puts-other (Q i) (puts (P (i + 1)) l) (qAt at step i)
+      (each-loop (λ (st : Store). st .0 ≡ qAt at step i → ⊥) i (λ j. (qAt at step j, against top (getD l (qAt at step j) 0) plus (by * (s - j))) ∷ [])
+      (λ j b. (q-apart at step j i one b, tt)))
+      ∙ puts-other (P (i + 1)) l (qAt at step i)
+      (each-loop (λ (st : Store). st .0 ≡ qAt at step i → ⊥) (i + 1) (λ j. (pAt at step j, along top (getD l (pAt at step j) 0) plus (by * (s - j))) ∷ [])
+      (λ j b. (p-below at step (i + 1) j i one b h, tt))) in
+      puts-more (λ j. (qAt at step j, against top (getD l (qAt at step j) 0) plus (by * (s - j))) ∷ []) (puts (P (i + 1)) l) i a
+      (puts-one (set q (pAt at step i) v) (qAt at step i) u (against top (getD l (qAt at step i) 0) plus (by * (s - i)))
+      (f ∙ ap (λ (x : ℕ). against top x plus (by * (s - i))) unread))
+
+  pub pair-end : (i : ℕ) {q : List ℕ} → q ≡ puts (Q i) (puts (P i) l) → i ≤ s → s ≤ i → q ≡ puts (bothStores top at step s s plus by by l) l
+  pair-end i e a b = (rw (le-antisymm a b) at e) ∙ sym (puts-append (P s) (Q s) l)
+
+-- ---- a side by D
+module _ (top at step s size by : ℕ) (plus : Bool) (e : by ≡ size * weightOf s) (l : List ℕ) where
+  along-is : alongStores top at step s plus by l s ≡ beforeTaps top at step s (signed plus size) l
+  along-is = each-same _ _ s (λ i h. ap (λ (v : ℕ). (pAt at step i, v) ∷ []) (before-is top (getD l (pAt at step i) 0) s i size by plus e))
+
+  against-is : againstStores top at step s plus by l s ≡ afterTaps top at step s (signed plus size) l
+  against-is = each-same _ _ s (λ i h. ap (λ (v : ℕ). (qAt at step i, v) ∷ []) (after-is top (getD l (qAt at step i) 0) s i size by plus e))
+
+-- the samples after the edge are as they were before those before it moved
+after-still : (top at step n w bn bw : ℕ) (plus : Bool) (a b : List ℕ) → 1 ≤ step → n * step ≤ at → b ≡ puts (alongStores top at step n plus bn a n) a
+    → againstStores top at step w plus bw b w ≡ againstStores top at step w plus bw a w
+after-still top at step n w bn bw plus a b one low e =
+    each-same _ _ w (λ i h. ap (λ (x : ℕ). (qAt at step i, against top x plus (bw * (w - i))) ∷ []) (still i))
+  where
+    still : (i : ℕ) → getD b (qAt at step i) 0 ≡ getD a (qAt at step i) 0
+    still i =
+        ap (λ (x : List ℕ). getD x (qAt at step i) 0) e
+        ∙ puts-other (alongStores top at step n plus bn a n) a (qAt at step i)
+        (each-loop (λ (st : Store). st .0 ≡ qAt at step i → ⊥) n (λ j. (pAt at step j, along top (getD a (pAt at step j) 0) plus (bn * (n - j))) ∷ [])
+        (λ j c. (p-below at step n j i one c low, tt)))
+
+-- one side after the other; a, b and c are the plane before, between and after
+pub sides-then : (top at step n w bn bw : ℕ) (plus : Bool) (a b c : List ℕ) → 1 ≤ step → n * step ≤ at
+    → b ≡ puts (alongStores top at step n plus bn a n) a → c ≡ puts (againstStores top at step w plus bw b w) b → c ≡ puts (bothStores top at step n w plus bn bw a) a
+sides-then top at step n w bn bw plus a b c one low e f =
+    puts-then (alongStores top at step n plus bn a n) (againstStores top at step w plus bw a w) a e
+    (f ∙ ap (λ (ss : List Store). puts ss b) (after-still top at step n w bn bw plus a b one low e))
+
+-- D from the four samples that the code reads
+read-difference : (l : List ℕ) (at step m : ℕ) → within m (difference (getD l (at - 2 * step) 0) (getD l (at - step) 0) (getD l at 0) (getD l (at + step) 0)) ≡ differenceIn l at step m
+read-difference l at step m =
+    let p : at - step ≡ pAt at step 0 = omega arith in
+    let q : at ≡ qAt at step 0 = omega arith in
+    let r : at + step ≡ qAt at step 1 = omega arith in
+    cc
+
+-- a line's taps: a and c are the plane before and after
+pub line-both : (top at step n w m size wn ww bn bw : ℕ) (plus : Bool) (a c : List ℕ) → Scales n w m wn ww
+    → signed plus size ≡ within m (difference (getD a (at - 2 * step) 0) (getD a (at - step) 0) (getD a at 0) (getD a (at + step) 0)) → bn ≡ size * wn → bw ≡ size * ww
+    → c ≡ puts (bothStores top at step n w plus bn bw a) a → c ≡ puts (lineTaps top at step n w m a) a
+unfolding lineTaps
+line-both top at step n w m size wn ww bn bw plus a c sc hs hn hw e =
+    let x : bn ≡ size * weightOf n = rw (← sc .weight-before) hn in
+    let y : bw ≡ size * weightOf w = rw (← sc .weight-after) hw in
+    let hd : signed plus size ≡ differenceIn a at step m = hs ∙ read-difference a at step m in
+    e
+    ∙ ap₂ (λ (s t : List Store). puts (s ++ t) a)
+    (along-is top at step n size bn plus x a ∙ ap (λ (z : ℤ). beforeTaps top at step n z a) hd)
+    (against-is top at step w size bw plus y a ∙ ap (λ (z : ℤ). afterTaps top at step w z a) hd)
+
+-- of equal widths
+pub line-equal : (top at step n w m size wn ww by : ℕ) (plus : Bool) (a c : List ℕ) → n ≡ w → Scales n w m wn ww
+    → signed plus size ≡ within m (difference (getD a (at - 2 * step) 0) (getD a (at - step) 0) (getD a at 0) (getD a (at + step) 0)) → by ≡ size * ww
+    → c ≡ puts (bothStores top at step w w plus by by a) a → c ≡ puts (lineTaps top at step n w m a) a
+line-equal top at step n w m size wn ww by plus a c q sc hs hw e =
+    let z : ww ≡ wn = sc .weight-after ∙ ap weightOf (sym q) ∙ sym (sc .weight-before) in
+    line-both top at step n w m size wn ww by by plus a c sc hs (hw ∙ ap (λ (x : ℕ). size * x) z) hw (rw q e)
+
+-- ---- one line more
+pub as-long : (ss : List Store) (l : List ℕ) {q : List ℕ} {n : ℕ} → q ≡ puts ss l → length l ≡ n → length q ≡ n
+as-long ss l e h = ap length e ∙ puts-length ss l ∙ h
+
+taps-agree : (top at step n w m : ℕ) (l q : List ℕ) → ((k : ℕ) → k < max n 2 → getD q (pAt at step k) 0 ≡ getD l (pAt at step k) 0) → ((k : ℕ) → k < max w 2 → getD q (qAt at step k) 0 ≡ getD l (qAt at step k) 0)
+    → lineTaps top at step n w m q ≡ lineTaps top at step n w m l
+unfolding lineTaps
+taps-agree top at step n w m l q hp hq =
+    let d : differenceIn q at step m ≡ differenceIn l at step m =
+    rw (hp 1 (omega arith), hp 0 (omega arith), hq 0 (omega arith), hq 1 (omega arith)) in
+    ap₂ (λ (x y : List Store). x ++ y)
+    (each-same _ _ n (λ i h. ap₂ (λ (x : ℕ) (z : ℤ). (pAt at step i, before top x z n i) ∷ []) (hp i (omega arith)) d))
+    (each-same _ _ w (λ i h. ap₂ (λ (x : ℕ) (z : ℤ). (qAt at step i, after top x z w i) ∷ []) (hq i (omega arith)) d))
+
+module _ (top at step line n w m : ℕ) (l : List ℕ) (r : Spread at step line (max n 2) (max w 2)) where
+  abbrev taps : ℕ → List Store
+  taps j = lineTaps top (at + j * line) step n w m l
+
+  -- the store of p_k and of q_k of line i
+  abbrev oneP : ℕ → ℕ → List Store
+  oneP i k = (pAt (at + i * line) step k, before top (getD l (pAt (at + i * line) step k) 0) (differenceIn l (at + i * line) step m) n k) ∷ []
+
+  abbrev oneQ : ℕ → ℕ → List Store
+  oneQ i k = (qAt (at + i * line) step k, after top (getD l (qAt (at + i * line) step k) 0) (differenceIn l (at + i * line) step m) w k) ∷ []
+
+  -- lines before line j store nowhere on it
+  none-before : (j k : ℕ) → j < 4 → k < max n 2 → Each (λ (st : Store). st .0 ≡ pAt (at + j * line) step k → ⊥) (each j taps)
+  unfolding lineTaps
+  none-before j k hj hk =
+      each-loop (λ (st : Store). st .0 ≡ pAt (at + j * line) step k → ⊥) j taps
+      (λ i b. each-append (λ (st : Store). st .0 ≡ pAt (at + j * line) step k → ⊥) (each n (oneP i)) (each w (oneQ i))
+      (each-loop (λ (st : Store). st .0 ≡ pAt (at + j * line) step k → ⊥) n (oneP i) (λ p c. (λ z. absurd (let f = r .befores i p j k (omega arith) (omega arith) hj hk z in omega arith), tt)))
+      (each-loop (λ (st : Store). st .0 ≡ pAt (at + j * line) step k → ⊥) w (oneQ i) (λ p c. (λ z. r .across j k i p hj hk (omega arith) (omega arith) (sym z), tt))))
+
+  none-after : (j k : ℕ) → j < 4 → k < max w 2 → Each (λ (st : Store). st .0 ≡ qAt (at + j * line) step k → ⊥) (each j taps)
+  unfolding lineTaps
+  none-after j k hj hk =
+      each-loop (λ (st : Store). st .0 ≡ qAt (at + j * line) step k → ⊥) j taps
+      (λ i b. each-append (λ (st : Store). st .0 ≡ qAt (at + j * line) step k → ⊥) (each n (oneP i)) (each w (oneQ i))
+      (each-loop (λ (st : Store). st .0 ≡ qAt (at + j * line) step k → ⊥) n (oneP i) (λ p c. (λ z. r .across i p j k (omega arith) (omega arith) hj hk z, tt)))
+      (each-loop (λ (st : Store). st .0 ≡ qAt (at + j * line) step k → ⊥) w (oneQ i) (λ p c. (λ z. absurd (let f = r .afters i p j k (omega arith) (omega arith) hj hk z in omega arith), tt))))
+
+  pub line-more : (j : ℕ) {q c : List ℕ} → j < 4 → q ≡ puts (each j taps) l → c ≡ puts (lineTaps top (at + j * line) step n w m q) q → c ≡ puts (each (j + 1) taps) l
+  line-more j {q} {c} hj e g =
+      let t = taps-agree top (at + j * line) step n w m l q
+      (λ k h. ap (λ (x : List ℕ). getD x (pAt (at + j * line) step k) 0) e ∙ puts-other (each j taps) l (pAt (at + j * line) step k) (none-before j k hj h))
+      (λ k h. ap (λ (x : List ℕ). getD x (qAt (at + j * line) step k) 0) e ∙ puts-other (each j taps) l (qAt (at + j * line) step k) (none-after j k hj h)) in
+      puts-more taps l j e (g ∙ ap (λ (ss : List Store). puts ss q) t)

@@ -19,14 +19,6 @@ pub record Room (at step line b a size : ℕ) : Type 0 where
   pub most-before : b ≤ 8
   pub most-after : a ≤ 8
 
--- one line of these
-pub record Reach (at step b a size : ℕ) : Type 0 where
-  pub low : b * step ≤ at
-  pub high : at + (a - 1) * step < size
-  pub some : 1 ≤ a
-  pub most-before : b ≤ 8
-  pub most-after : a ≤ 8
-
 -- no two of the samples within b before the edge and a after it, on four lines, stand at one place
 pub record Spread (at step line b a : ℕ) : Type 0 where
   pub befores : (j k i m : ℕ) → j < 4 → k < b → i < 4 → m < b → pAt (at + j * line) step k ≡ pAt (at + i * line) step m → (j ≡ i) × (k ≡ m)

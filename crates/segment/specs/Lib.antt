@@ -1,3 +1,4 @@
 pub mod Fit
+pub mod Near
 pub mod Sides
 pub mod Promises

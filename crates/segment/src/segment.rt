@@ -1,6 +1,6 @@
 // One edge on a lent plane: the width chosen from its window, and its taps.
 use super::read::read_lines;
-use super::store::store_lines;
+use super::store::filter_lines;
 use choice::choice::filt_choice;
 use choice::pairs::most_after;
 use choice::pairs::most_before;
@@ -9,28 +9,52 @@ use choice::pairs::reach_before;
 use laws::least;
 use rules::edge::Edge;
 use rules::edge::Place;
+use taps::tables::limit_of;
+use taps::tables::weight;
 ghost use mathlib.Core.Path.{_≡_};
 ghost use Prim.Native.Nat.{_+_, _*_, _<_};
 ghost use lib.ListN.{length};
-ghost use Rattle.rules.specs.Segment.{placeOf};
+ghost use Rattle.rules.specs.Segment.{placeOf, windowOf, chosenOf};
 ghost use Rattle.segment.specs.Fit.{Fit, Filtered, InPlane, EdgeFiltered};
+
+// How many samples after an edge are to be filtered, by its window.
+fn chosen_width(plane: &[u16], e: Place) -> usize
+    requires { ⌜ Fit e (length (now plane)) ⌝ }
+    ensures { λ r. ⌜ r ≡ chosenOf e (windowOf e (now (plane .entry))) ⌝ }
+{
+    let lines = read_lines(
+        plane,
+        e.at,
+        e.step,
+        e.line,
+        reach_before(e.pair),
+        reach_after(e.pair),
+    );
+    filt_choice(lines, most_before(e.pair), most_after(e.pair), e.q, e.side)
+}
 
 // Filters an edge that is given by offsets, and answers how many samples after it were filtered.
 pub fn filter_segment(plane: &mut [u16], e: Place, top: u16) -> usize
     requires { ⌜ Fit e (length (now plane)) ⌝ }
     ensures { λ r. ⌜ Filtered top e (now (plane .entry)) r (now (plane .exit)) ⌝ }
 {
-    let at = e.at;
-    let step = e.step;
-    let line = e.line;
-    let pair = e.pair;
-    let lines = read_lines(plane, at, step, line, reach_before(pair), reach_after(pair));
-    let n = most_before(pair);
-    let w = filt_choice(lines, n, most_after(pair), e.q, e.side);
+    let w = chosen_width(plane, e);
     if w == 0 {
         return 0;
     }
-    store_lines(plane, at, step, line, least(w, n), w, e.q, top, lines);
+    let n = least(w, most_before(e.pair));
+    filter_lines(
+        plane,
+        e.at,
+        e.step,
+        e.line,
+        n,
+        w,
+        limit_of(e.q, w),
+        weight(n),
+        weight(w),
+        top,
+    );
     w
 }
 

@@ -1,119 +1,104 @@
-// The stores of document 01's taps, line after line, each from the edge outwards.
-use rules::edge::Line;
+// The taps of document 01, line after line, each from the edge outwards; a sample is read just before it is moved.
 use taps::difference::limited;
 use taps::moves::move_after;
 use taps::moves::move_before;
-use taps::tables::limit_of;
-use taps::tables::weight;
 use taps::tables::weighted;
 ghost use mathlib.Core.Path.{_≡_};
 ghost use Prim.Native.Nat.{_+_, _-_, _*_, _≤_, _<_};
 ghost use lib.ListN.{length};
 ghost use Rattle.laws.specs.Stores.{puts};
-ghost use Rattle.rules.specs.Segment.{lineStores, fourStores};
-ghost use Rattle.segment.specs.Sides.{alongStores, againstStores};
-ghost use Rattle.segment.specs.Fit.{Reach, Room};
+ghost use Rattle.segment.specs.Sides.{alongStores, againstStores, bothStores, lineTaps, fourTaps, Scales, Lane, Lanes};
 
-// The samples p of a line before the edge, s of them, moved by D·W of this sign and size.
-fn store_before(
-    plane: &mut [u16],
-    at: usize,
-    step: usize,
-    s: usize,
-    plus: bool,
-    by: u32,
-    top: u16,
-    p: [u16; 9],
-)
-    requires { ⌜ (by ≤ 5570560) × (s ≤ 8) × (s * step ≤ at) × (at < length (now plane)) ⌝ }
-    ensures { λ r. ⌜ now (plane .exit) ≡ puts (alongStores top at step s plus by p s) (now (plane .entry)) ⌝ }
+// The s samples of a line before the edge, moved by D·W of this sign and size.
+fn side_before(plane: &mut [u16], at: usize, step: usize, s: usize, plus: bool, by: u32, top: u16)
+    requires { ⌜ (by ≤ 5570560) × (s ≤ 8) × (1 ≤ step) × (s * step ≤ at) × (at < length (now plane)) ⌝ }
+    ensures { λ r. ⌜ now (plane .exit) ≡ puts (alongStores top at step s plus by (now (plane .entry)) s) (now (plane .entry)) ⌝ }
 {
     let mut i: usize = 0;
     while i < s {
-        plane[at - (i + 1) * step] = move_before(p[i], plus, by, s - i, top);
+        let k = at - (i + 1) * step;
+        plane[k] = move_before(plane[k], plus, by, s - i, top);
         i += 1;
     }
 }
 
-// The samples q of a line after the edge.
-fn store_after(
-    plane: &mut [u16],
-    at: usize,
-    step: usize,
-    s: usize,
-    plus: bool,
-    by: u32,
-    top: u16,
-    q: [u16; 9],
-)
-    requires { ⌜ (by ≤ 5570560) × (s ≤ 8) × (at + (s - 1) * step < length (now plane)) ⌝ }
-    ensures { λ r. ⌜ now (plane .exit) ≡ puts (againstStores top at step s plus by q s) (now (plane .entry)) ⌝ }
+// The s samples of a line after the edge.
+fn side_after(plane: &mut [u16], at: usize, step: usize, s: usize, plus: bool, by: u32, top: u16)
+    requires { ⌜ (by ≤ 5570560) × (s ≤ 8) × (1 ≤ step) × (at + (s - 1) * step < length (now plane)) ⌝ }
+    ensures { λ r. ⌜ now (plane .exit) ≡ puts (againstStores top at step s plus by (now (plane .entry)) s) (now (plane .entry)) ⌝ }
 {
     let mut i: usize = 0;
     while i < s {
-        plane[at + i * step] = move_after(q[i], plus, by, s - i, top);
+        let k = at + i * step;
+        plane[k] = move_after(plane[k], plus, by, s - i, top);
         i += 1;
     }
 }
 
-// Both sides of a line: n samples before the edge and w after it.
-fn store_line(
+// The s samples of a line on either side of the edge, where both widths are s: each move is worked out once for two samples.
+fn both_sides(plane: &mut [u16], at: usize, step: usize, s: usize, plus: bool, by: u32, top: u16)
+    requires { ⌜ (by ≤ 5570560) × (s ≤ 8) × (1 ≤ step) × (s * step ≤ at) × (at + (s - 1) * step < length (now plane)) ⌝ }
+    ensures { λ r. ⌜ now (plane .exit) ≡ puts (bothStores top at step s s plus by by (now (plane .entry))) (now (plane .entry)) ⌝ }
+{
+    let mut i: usize = 0;
+    while i < s {
+        let k = at - (i + 1) * step;
+        plane[k] = move_before(plane[k], plus, by, s - i, top);
+        let m = at + i * step;
+        plane[m] = move_after(plane[m], plus, by, s - i, top);
+        i += 1;
+    }
+}
+
+// Both sides of a line: n samples before the edge and w after it, of weights wn and ww, by D limited to ±limit.
+fn apply_taps(
     plane: &mut [u16],
     at: usize,
     step: usize,
     n: usize,
     w: usize,
-    q: u32,
+    limit: u32,
+    wn: u32,
+    ww: u32,
     top: u16,
-    l: Line,
 )
-    requires { ⌜ (q ≤ 2048) × (1 ≤ n) × (Reach at step n w (length (now plane))) ⌝ }
-    ensures { λ r. ⌜ now (plane .exit) ≡ puts (lineStores top at step n w q l) (now (plane .entry)) ⌝ }
+    requires { ⌜ (Scales n w limit wn ww) × (Lane at step n w (length (now plane))) ⌝ }
+    ensures { λ r. ⌜ now (plane .exit) ≡ puts (lineTaps top at step n w limit (now (plane .entry))) (now (plane .entry)) ⌝ }
 {
-    let a = l.p;
-    let b = l.q;
-    let d = limited(a[1], a[0], b[0], b[1], limit_of(q, w));
-    store_before(
-        plane,
-        at,
-        step,
-        n,
-        d.plus,
-        weighted(d.size, weight(n)),
-        top,
-        a,
+    let d = limited(
+        plane[at - 2 * step],
+        plane[at - step],
+        plane[at],
+        plane[at + step],
+        limit,
     );
-    store_after(
-        plane,
-        at,
-        step,
-        w,
-        d.plus,
-        weighted(d.size, weight(w)),
-        top,
-        b,
-    );
+    if n == w {
+        both_sides(plane, at, step, w, d.plus, weighted(d.size, ww), top);
+        return;
+    }
+    side_before(plane, at, step, n, d.plus, weighted(d.size, wn), top);
+    side_after(plane, at, step, w, d.plus, weighted(d.size, ww), top);
 }
 
 // The four lines of an edge.
-pub fn store_lines(
+pub fn filter_lines(
     plane: &mut [u16],
     at: usize,
     step: usize,
     line: usize,
     n: usize,
     w: usize,
-    q: u32,
+    limit: u32,
+    wn: u32,
+    ww: u32,
     top: u16,
-    lines: [Line; 4],
 )
-    requires { ⌜ (q ≤ 2048) × (1 ≤ n) × (Room at step line n w (length (now plane))) ⌝ }
-    ensures { λ r. ⌜ now (plane .exit) ≡ puts (fourStores top at step line n w q lines) (now (plane .entry)) ⌝ }
+    requires { ⌜ (Scales n w limit wn ww) × (Lanes at step line n w (length (now plane))) ⌝ }
+    ensures { λ r. ⌜ now (plane .exit) ≡ puts (fourTaps top at step line n w limit (now (plane .entry))) (now (plane .entry)) ⌝ }
 {
     let mut j: usize = 0;
     while j < 4 {
-        let l = lines[j];
-        store_line(plane, at + j * line, step, n, w, q, top, l);
+        apply_taps(plane, at + j * line, step, n, w, limit, wn, ww, top);
         j += 1;
     }
 }

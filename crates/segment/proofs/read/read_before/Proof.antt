@@ -1,70 +1,146 @@
-use Prim.Native.Nat.{ℕ, _+_, _-_, _*_, _≤_, _<_}
-use native.Mathlib.Omega.{arith}
-use mathlib.Core.Path.{_≡_, refl, sym, ap, _∙_}
+-- Nine reads, each at its place outwards.
+use Rattle.segment.proofs.Near.{before-nine}
 use borrow.Author.Needs.{needs}
-use Rattle.rules.specs.Segment.{beforeOf, zeros, pAt}
-use Rattle.laws.specs.Loops.{filled-none, filled-more, filled-end}
-use Rattle.segment.proofs.Places.{before-in}
 use Rattle.segment.proofs.read.read_before.Statement.{statement}
 use Rattle.segment.proofs.read.read_before.Tie as tie
 
-abbrev Inv-loop : tie.InvT-loop
-Inv-loop plane at step b p₀ k₀ p k = (k ≤ b) × (p ≡ beforeOf plane at step k)
+mul-t5 : tie.Need-mul-t5
+mul-t5 c = search needs
 
-abbrev μ-loop : tie.MeasureT-loop
-μ-loop plane at step b p₀ k₀ p k = b - k
+shared-slice-read-t7 : tie.Need-shared-slice-read-t7
+shared-slice-read-t7 c = search needs
 
-loop-holds : tie.Need-loop-holds Inv-loop μ-loop
-loop-holds c = (omega arith, filled-none _ _)
+sub-t8 : tie.Need-sub-t8
+sub-t8 c = search needs
 
-add-p : tie.Need-add-p Inv-loop μ-loop
-add-p c = search needs
+mul-t9 : tie.Need-mul-t9
+mul-t9 c = search needs
 
-mul-p : tie.Need-mul-p Inv-loop μ-loop
-mul-p c = omega (arith, before-in (c .before .loop .k) (c .before .before .args .b) (c .before .before .args .step) (c .before .before .args .at) (c .loop-test .taken) (omega arith))
+shared-slice-read-t11 : tie.Need-shared-slice-read-t11
+shared-slice-read-t11 c = search needs
 
-sub-p : tie.Need-sub-p Inv-loop μ-loop
-sub-p c = before-in (c .before .loop .k) (c .before .before .args .b) (c .before .before .args .step) (c .before .before .args .at) (c .loop-test .taken) (omega arith)
+mul-t12 : tie.Need-mul-t12
+mul-t12 c = search needs
 
-mul-p-2 : tie.Need-mul-p-2 Inv-loop μ-loop
-mul-p-2 c = omega (arith, before-in (c .before .loop .k) (c .before .before .args .b) (c .before .before .args .step) (c .before .before .args .at) (c .loop-test .taken) (omega arith))
+sub-t13 : tie.Need-sub-t13
+sub-t13 c = search needs
 
-shared-slice-read-p : tie.Need-shared-slice-read-p Inv-loop μ-loop
-shared-slice-read-p c = omega (arith, before-in (c .before .before .loop .k) (c .before .before .before .args .b) (c .before .before .before .args .step) (c .before .before .before .args .at) (c .before .loop-test .taken) (omega arith))
+mul-t14 : tie.Need-mul-t14
+mul-t14 c = search needs
 
-mul-p-3 : tie.Need-mul-p-3 Inv-loop μ-loop
-mul-p-3 c = search needs
+shared-slice-read-t16 : tie.Need-shared-slice-read-t16
+shared-slice-read-t16 c = search needs
 
-array-write-p : tie.Need-array-write-p Inv-loop μ-loop
-array-write-p c = search needs
+out-requires : tie.Need-out-requires
+out-requires c κs = search needs
 
-add-k : tie.Need-add-k Inv-loop μ-loop
-add-k c = search needs
+sub-t18 : tie.Need-sub-t18
+sub-t18 c = search needs
 
-loop-less : tie.Need-loop-less Inv-loop μ-loop
-loop-less c = search needs
+mul-t19 : tie.Need-mul-t19
+mul-t19 c = search needs
 
-loop-again : tie.Need-loop-again Inv-loop μ-loop
-loop-again c = (omega arith, filled-more _ _ _ (c .before .before .loop .inv .1) refl)
+shared-slice-read-t21 : tie.Need-shared-slice-read-t21
+shared-slice-read-t21 c = search needs
 
-returns : tie.Need-returns Inv-loop μ-loop
-returns c = filled-end _ _ _ _ (c .before .loop .inv .1) (c .before .loop .inv .0) (omega arith)
+out-requires-2 : tie.Need-out-requires-2
+out-requires-2 c κs = search needs
+
+sub-t23 : tie.Need-sub-t23
+sub-t23 c = search needs
+
+mul-t24 : tie.Need-mul-t24
+mul-t24 c = search needs
+
+shared-slice-read-t26 : tie.Need-shared-slice-read-t26
+shared-slice-read-t26 c = search needs
+
+out-requires-3 : tie.Need-out-requires-3
+out-requires-3 c κs = search needs
+
+sub-t28 : tie.Need-sub-t28
+sub-t28 c = search needs
+
+mul-t29 : tie.Need-mul-t29
+mul-t29 c = search needs
+
+shared-slice-read-t31 : tie.Need-shared-slice-read-t31
+shared-slice-read-t31 c = search needs
+
+out-requires-4 : tie.Need-out-requires-4
+out-requires-4 c κs = search needs
+
+sub-t33 : tie.Need-sub-t33
+sub-t33 c = search needs
+
+mul-t34 : tie.Need-mul-t34
+mul-t34 c = search needs
+
+shared-slice-read-t36 : tie.Need-shared-slice-read-t36
+shared-slice-read-t36 c = search needs
+
+out-requires-5 : tie.Need-out-requires-5
+out-requires-5 c κs = search needs
+
+sub-t38 : tie.Need-sub-t38
+sub-t38 c = search needs
+
+mul-t39 : tie.Need-mul-t39
+mul-t39 c = search needs
+
+shared-slice-read-t41 : tie.Need-shared-slice-read-t41
+shared-slice-read-t41 c = search needs
+
+out-requires-6 : tie.Need-out-requires-6
+out-requires-6 c κs = search needs
+
+sub-t43 : tie.Need-sub-t43
+sub-t43 c = search needs
+
+mul-t44 : tie.Need-mul-t44
+mul-t44 c = search needs
+
+shared-slice-read-t46 : tie.Need-shared-slice-read-t46
+shared-slice-read-t46 c = search needs
+
+returns : tie.Need-returns
+returns c = before-nine _ _ _ _ (c .before .before .before .before .before .before .before .before .before .before .before .before .before .before .before .before .pre .0) (c .before .before .before .before .before .before .before .before .before .before .before .out .ensures .0) (c .before .before .before .before .before .before .before .before .before .out2 .ensures .0) (c .before .before .before .before .before .before .before .out3 .ensures .0) (c .before .before .before .before .before .out4 .ensures .0) (c .before .before .before .out5 .ensures .0) (c .before .out6 .ensures .0)
 
 pub read-before-spec : {M : Type 1} → statement M
 read-before-spec =
     tie.close
     (tie.spec
-    Inv-loop
-    μ-loop
-    loop-holds
-    add-p
-    mul-p
-    sub-p
-    mul-p-2
-    shared-slice-read-p
-    mul-p-3
-    array-write-p
-    add-k
-    loop-less
-    loop-again
+    mul-t5
+    shared-slice-read-t7
+    sub-t8
+    mul-t9
+    shared-slice-read-t11
+    mul-t12
+    sub-t13
+    mul-t14
+    shared-slice-read-t16
+    out-requires
+    sub-t18
+    mul-t19
+    shared-slice-read-t21
+    out-requires-2
+    sub-t23
+    mul-t24
+    shared-slice-read-t26
+    out-requires-3
+    sub-t28
+    mul-t29
+    shared-slice-read-t31
+    out-requires-4
+    sub-t33
+    mul-t34
+    shared-slice-read-t36
+    out-requires-5
+    sub-t38
+    mul-t39
+    shared-slice-read-t41
+    out-requires-6
+    sub-t43
+    mul-t44
+    shared-slice-read-t46
     returns)

@@ -1,20 +1,35 @@
-use Prim.Native.Nat.{ℕ, _+_, _-_, _*_, _≤_, _<_}
-use native.Mathlib.Omega.{arith}
-use mathlib.Core.Path.{_≡_, refl, sym, ap, _∙_}
+-- Both sides.
+use Rattle.segment.specs.Near.{nearLine}
 use borrow.Author.Needs.{needs}
-use Rattle.rules.specs.Segment.{lineOf}
 use Rattle.segment.proofs.read.read_line.Statement.{statement}
 use Rattle.segment.proofs.read.read_line.Tie as tie
 
+sub-read-before : tie.Need-sub-read-before
+sub-read-before c = search needs
+
+sub-read-before-2 : tie.Need-sub-read-before-2
+sub-read-before-2 c = search needs
+
 read-before-requires : tie.Need-read-before-requires
 read-before-requires c κs = search needs
+
+sub-read-after : tie.Need-sub-read-after
+sub-read-after c = search needs
 
 read-after-requires : tie.Need-read-after-requires
 read-after-requires c κs = search needs
 
 returns : tie.Need-returns
-unfolding lineOf
+unfolding nearLine
 returns c = cc
 
 pub read-line-spec : {M : Type 1} → statement M
-read-line-spec = tie.close (tie.spec read-before-requires read-after-requires returns)
+read-line-spec =
+    tie.close
+    (tie.spec
+    sub-read-before
+    sub-read-before-2
+    read-before-requires
+    sub-read-after
+    read-after-requires
+    returns)

@@ -1,0 +1,81 @@
+-- The plane so far holds the stores of the samples passed; the next sample is still as it was.
+use mathlib.Core.Path.{_≡_, refl}
+use Prim.Native.Nat.{_-_, _≤_}
+use native.Mathlib.Omega.{arith}
+use borrow.Author.Needs.{needs}
+use lib.ListN.{length, length-set}
+use Rattle.laws.specs.Stores.{puts, puts-none, puts-end}
+use Rattle.segment.specs.Sides.{againstStores}
+use Rattle.segment.proofs.Places.{after-in}
+use Rattle.segment.proofs.Taps.{after-more}
+use Rattle.segment.proofs.store.side_after.Statement.{statement}
+use Rattle.segment.proofs.store.side_after.Tie as tie
+
+abbrev Inv-loop : tie.InvT-loop
+Inv-loop plane₀ at step s plus by top i₀ plane i = (i ≤ s) × (length plane ≡ length plane₀) × (plane ≡ puts (againstStores top at step s plus by plane₀ i) plane₀)
+
+abbrev μ-loop : tie.MeasureT-loop
+μ-loop plane₀ at step s plus by top i₀ plane i = s - i
+
+loop-holds : tie.Need-loop-holds Inv-loop μ-loop
+loop-holds c = (omega arith, refl, puts-none _ _)
+
+mul-k : tie.Need-mul-k Inv-loop μ-loop
+mul-k c = omega (arith, after-in (c .before .loop .i) (c .before .before .before .args .s) (c .before .before .before .args .step) (c .loop-test .taken))
+
+add-k : tie.Need-add-k Inv-loop μ-loop
+add-k c = omega (arith, after-in (c .before .loop .i) (c .before .before .before .args .s) (c .before .before .before .args .step) (c .loop-test .taken))
+
+mul-move-after : tie.Need-mul-move-after Inv-loop μ-loop
+mul-move-after c = omega (arith, after-in (c .before .loop .i) (c .before .before .before .args .s) (c .before .before .before .args .step) (c .loop-test .taken))
+
+slice-read-move-after : tie.Need-slice-read-move-after Inv-loop μ-loop
+slice-read-move-after c = omega (arith, after-in (c .before .before .loop .i) (c .before .before .before .before .args .s) (c .before .before .before .before .args .step) (c .before .loop-test .taken))
+
+sub-move-after : tie.Need-sub-move-after Inv-loop μ-loop
+sub-move-after c = search needs
+
+move-after-requires : tie.Need-move-after-requires Inv-loop μ-loop
+move-after-requires c κs = search needs
+
+mul-plane : tie.Need-mul-plane Inv-loop μ-loop
+mul-plane c = omega (arith, after-in (c .before .before .before .loop .i) (c .before .before .before .before .before .args .s) (c .before .before .before .before .before .args .step) (c .before .before .loop-test .taken))
+
+slice-write-plane : tie.Need-slice-write-plane Inv-loop μ-loop
+slice-write-plane c = omega (arith, after-in (c .before .before .before .loop .i) (c .before .before .before .before .before .args .s) (c .before .before .before .before .before .args .step) (c .before .before .loop-test .taken))
+
+add-i : tie.Need-add-i Inv-loop μ-loop
+add-i c = search needs
+
+loop-less : tie.Need-loop-less Inv-loop μ-loop
+loop-less c = search needs
+
+loop-again : tie.Need-loop-again Inv-loop μ-loop
+loop-again c = let inv = c .before .before .before .loop .inv in (omega arith, simp length-set (inv .1), after-more _ _ _ _ _ _ (c .before .before .before .before .before .args .plane .now) (c .before .before .before .before .before .pre .2) _ _ (inv .2) (c .move-after .ensures))
+
+same-length : tie.Need-same-length Inv-loop μ-loop
+same-length c = search needs
+
+returns : tie.Need-returns Inv-loop μ-loop
+returns c = let inv = c .before .loop .inv in puts-end _ _ _ _ (inv .2) (inv .0) (omega arith)
+
+pub side-after-spec : {M : Type 1} → statement M
+side-after-spec =
+    tie.close
+    (tie.spec
+    Inv-loop
+    μ-loop
+    loop-holds
+    mul-k
+    add-k
+    mul-move-after
+    slice-read-move-after
+    sub-move-after
+    move-after-requires
+    mul-plane
+    slice-write-plane
+    add-i
+    loop-less
+    loop-again
+    same-length
+    returns)
