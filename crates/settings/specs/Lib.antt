@@ -1,0 +1,2 @@
+-- What `specs/` holds: the names.
+pub mod Names

@@ -1,0 +1,208 @@
+// A settings text, line by line, up to the first line that is not as it should be.
+ghost use mathlib.Core.Path.{_≡_};
+ghost use Prim.Native.Nat.{_≤_};
+ghost use lib.ListN.{length};
+use crate::names::kind;
+use crate::names::rule_of;
+use crate::values;
+use crate::values::Taken;
+use cases::Cursor;
+use words::place::content_end;
+use words::place::line_end;
+use words::place::spaces;
+use words::spell::read_word;
+
+// The line, and the kind of setting that was expected there; kind 0 is no fault, 21 is any name.
+pub struct Fault {
+    pub line: usize,
+    pub kind: usize,
+}
+
+// The numbers after a name, into the list that is theirs.
+fn take(
+    text: &[u8],
+    c: Cursor,
+    list: usize,
+    from: usize,
+    end: usize,
+    numbers: &mut [i32],
+    shorts: &mut [u16],
+    steps: &mut [u32],
+    flags: &mut [u8],
+    offsets: &mut [i8],
+) -> Taken
+    ensures { λ r. ⌜ from ≤ r .at ⌝ }
+    ensures { λ r. ⌜ (length (now (numbers .exit)) ≡ length (now (numbers .entry))) × (length (now (shorts .exit)) ≡ length (now (shorts .entry))) × (length (now (steps .exit)) ≡ length (now (steps .entry))) × (length (now (flags .exit)) ≡ length (now (flags .entry))) × (length (now (offsets .exit)) ≡ length (now (offsets .entry))) ⌝ }
+{
+    match list {
+        0 => values::signed(text, c, numbers, from, end),
+        1 => values::shorts(text, c, shorts, from, end),
+        2 => values::steps(text, c, steps, from, end),
+        3 => values::flags(text, c, flags, from, end),
+        _ => values::offsets(text, c, offsets, from, end),
+    }
+}
+
+// Where a line's numbers begin: signed numbers stand at a place of their own, others after those before them.
+fn start(list: usize, from: usize, place: usize) -> usize {
+    if list == 0 { from } else { place }
+}
+
+// Whether the line was read to its end and had as many numbers as it should.
+fn whole(t: Taken, from: usize, each: usize) -> bool
+    requires { ⌜ from ≤ t .at ⌝ }
+{
+    let rest = t.rest;
+    if !rest.good {
+        return false;
+    }
+    if rest.at < rest.end {
+        return false;
+    }
+    let n = t.at - from;
+    if each == 0 { 0 < n } else { n == each }
+}
+
+// The version of this form of settings.
+fn version_bad(kind: usize, numbers: &[i32]) -> bool {
+    if kind != 1 {
+        return false;
+    }
+    if numbers.len() == 0 {
+        return true;
+    }
+    numbers[0] != 1
+}
+
+// A line after its name, of a known kind: 0, or the kind that was expected.
+fn setting(
+    text: &[u8],
+    at: usize,
+    end: usize,
+    kind: usize,
+    numbers: &mut [i32],
+    shorts: &mut [u16],
+    steps: &mut [u32],
+    flags: &mut [u8],
+    offsets: &mut [i8],
+    places: &mut [usize; 21],
+) -> usize
+    requires { ⌜ kind ≤ 20 ⌝ }
+    ensures { λ r. ⌜ (length (now (numbers .exit)) ≡ length (now (numbers .entry))) × (length (now (shorts .exit)) ≡ length (now (shorts .entry))) × (length (now (steps .exit)) ≡ length (now (steps .entry))) × (length (now (flags .exit)) ≡ length (now (flags .entry))) × (length (now (offsets .exit)) ≡ length (now (offsets .entry))) ⌝ }
+{
+    if kind != 1 && places[1] == 0 {
+        return 1;
+    }
+    let rule = rule_of(kind);
+    let from = start(rule.list, rule.from, places[kind]);
+    let c = Cursor {
+        at,
+        end,
+        good: true,
+    };
+    let t = take(
+        text,
+        c,
+        rule.list,
+        from,
+        rule.end,
+        numbers,
+        shorts,
+        steps,
+        flags,
+        offsets,
+    );
+    if !whole(t, from, rule.each) {
+        return kind;
+    }
+    if version_bad(kind, numbers) {
+        return 1;
+    }
+    places[kind] = t.at;
+    0
+}
+
+// One line: 0, or the kind that was expected.
+fn line(
+    text: &[u8],
+    from: usize,
+    end: usize,
+    numbers: &mut [i32],
+    shorts: &mut [u16],
+    steps: &mut [u32],
+    flags: &mut [u8],
+    offsets: &mut [i8],
+    places: &mut [usize; 21],
+) -> usize
+    requires { ⌜ (from ≤ end) × (end ≤ length (now text)) ⌝ }
+    ensures { λ r. ⌜ (length (now (numbers .exit)) ≡ length (now (numbers .entry))) × (length (now (shorts .exit)) ≡ length (now (shorts .entry))) × (length (now (steps .exit)) ≡ length (now (steps .entry))) × (length (now (flags .exit)) ≡ length (now (flags .entry))) × (length (now (offsets .exit)) ≡ length (now (offsets .entry))) ⌝ }
+{
+    let at = spaces(text, from, end);
+    if at == end {
+        return 0;
+    }
+    let w = read_word(text, at, end);
+    let k = kind(w.value);
+    if k == 0 {
+        return 21;
+    }
+    setting(
+        text,
+        w.next,
+        end,
+        k,
+        numbers,
+        shorts,
+        steps,
+        flags,
+        offsets,
+        places,
+    )
+}
+
+// What is missing where every line was good: the first setting, or a qindex.
+fn missing(places: &[usize; 21]) -> usize {
+    if places[1] == 0 {
+        return 1;
+    }
+    if places[2] == 0 { 2 } else { 0 }
+}
+
+// Every line of a text; lines count from 1.
+pub fn parse(
+    text: &[u8],
+    numbers: &mut [i32],
+    shorts: &mut [u16],
+    steps: &mut [u32],
+    flags: &mut [u8],
+    offsets: &mut [i8],
+    places: &mut [usize; 21],
+) -> Fault {
+    let n = text.len();
+    let mut at: usize = 0;
+    let mut l: usize = 1;
+    while at < n {
+        let end = line_end(text, at, n);
+        let stop = content_end(text, at, end);
+        let k = line(
+            text,
+            at,
+            stop,
+            numbers,
+            shorts,
+            steps,
+            flags,
+            offsets,
+            places,
+        );
+        if k != 0 {
+            return Fault { line: l, kind: k };
+        }
+        at = end + 1;
+        l += 1;
+    }
+    Fault {
+        line: l,
+        kind: missing(places),
+    }
+}

@@ -1,0 +1,168 @@
+// The numbers of one line, into a lent list from a place on.
+ghost use mathlib.Core.Path.{_≡_};
+ghost use Prim.Native.Nat.{_≤_};
+ghost use lib.ListN.{length};
+use cases::Cursor;
+use words::place::spaces;
+
+// The place after the last number, and what is left of the line.
+pub struct Taken {
+    pub at: usize,
+    pub rest: Cursor,
+}
+
+// The same place of a line after its spaces.
+fn skip(text: &[u8], c: Cursor) -> Cursor {
+    let at = c.at;
+    let end = c.end;
+    if text.len() < end {
+        return c;
+    }
+    if end < at {
+        return c;
+    }
+    Cursor {
+        at: spaces(text, at, end),
+        end,
+        good: c.good,
+    }
+}
+
+// The smaller of two.
+fn least(a: usize, b: usize) -> usize
+    ensures { λ r. ⌜ r ≤ b ⌝ }
+{
+    if a < b { a } else { b }
+}
+
+// Whether a number is to be read.
+fn more(c: Cursor) -> bool {
+    c.good && c.at < c.end
+}
+
+// Numbers with a sign.
+pub fn signed(text: &[u8], c: Cursor, list: &mut [i32], from: usize, end: usize) -> Taken
+    ensures { λ r. ⌜ from ≤ r .at ⌝ }
+    ensures { λ r. ⌜ length (now (list .exit)) ≡ length (now (list .entry)) ⌝ }
+{
+    let stop = least(end, list.len());
+    let mut at = from;
+    let mut rest = skip(text, c);
+    while at < stop && more(rest) {
+        let n = cases::read_signed(text, rest);
+        let v = n.value;
+        list[at] = v;
+        rest = skip(text, n.rest);
+        at += 1;
+    }
+    Taken { at, rest }
+}
+
+// Numbers of two bytes.
+pub fn shorts(text: &[u8], c: Cursor, list: &mut [u16], from: usize, end: usize) -> Taken
+    ensures { λ r. ⌜ from ≤ r .at ⌝ }
+    ensures { λ r. ⌜ length (now (list .exit)) ≡ length (now (list .entry)) ⌝ }
+{
+    let stop = least(end, list.len());
+    let mut at = from;
+    let mut rest = skip(text, c);
+    while at < stop && more(rest) {
+        let n = cases::read_unsigned(text, rest, 65535);
+        let v = n.value;
+        list[at] = v as u16;
+        rest = skip(text, n.rest);
+        at += 1;
+    }
+    Taken { at, rest }
+}
+
+// Numbers of four bytes.
+pub fn steps(text: &[u8], c: Cursor, list: &mut [u32], from: usize, end: usize) -> Taken
+    ensures { λ r. ⌜ from ≤ r .at ⌝ }
+    ensures { λ r. ⌜ length (now (list .exit)) ≡ length (now (list .entry)) ⌝ }
+{
+    let stop = least(end, list.len());
+    let mut at = from;
+    let mut rest = skip(text, c);
+    while at < stop && more(rest) {
+        let n = cases::read_unsigned(text, rest, 4294967295);
+        let v = n.value;
+        list[at] = v as u32;
+        rest = skip(text, n.rest);
+        at += 1;
+    }
+    Taken { at, rest }
+}
+
+// Flags, 0 or 1.
+pub fn flags(text: &[u8], c: Cursor, list: &mut [u8], from: usize, end: usize) -> Taken
+    ensures { λ r. ⌜ from ≤ r .at ⌝ }
+    ensures { λ r. ⌜ length (now (list .exit)) ≡ length (now (list .entry)) ⌝ }
+{
+    let stop = least(end, list.len());
+    let mut at = from;
+    let mut rest = skip(text, c);
+    while at < stop && more(rest) {
+        let n = cases::read_unsigned(text, rest, 1);
+        let v = n.value;
+        list[at] = v as u8;
+        rest = skip(text, n.rest);
+        at += 1;
+    }
+    Taken { at, rest }
+}
+
+// An offset below zero; what is below -10 is none, and stands as the lowest number.
+fn below(size: usize) -> i8 {
+    match size {
+        0 => 0,
+        1 => -1,
+        2 => -2,
+        3 => -3,
+        4 => -4,
+        5 => -5,
+        6 => -6,
+        7 => -7,
+        8 => -8,
+        9 => -9,
+        10 => -10,
+        _ => -128,
+    }
+}
+
+// An offset from zero on; what is above 7 is none, and stands as the highest number.
+fn above(size: usize) -> i8 {
+    match size {
+        0 => 0,
+        1 => 1,
+        2 => 2,
+        3 => 3,
+        4 => 4,
+        5 => 5,
+        6 => 6,
+        7 => 7,
+        _ => 127,
+    }
+}
+
+fn offset(negative: bool, size: usize) -> i8 {
+    if negative { below(size) } else { above(size) }
+}
+
+// Offsets.
+pub fn offsets(text: &[u8], c: Cursor, list: &mut [i8], from: usize, end: usize) -> Taken
+    ensures { λ r. ⌜ from ≤ r .at ⌝ }
+    ensures { λ r. ⌜ length (now (list .exit)) ≡ length (now (list .entry)) ⌝ }
+{
+    let stop = least(end, list.len());
+    let mut at = from;
+    let mut rest = skip(text, c);
+    while at < stop && more(rest) {
+        let n = cases::next_number(text, rest);
+        let v = offset(n.negative, n.size);
+        list[at] = v;
+        rest = skip(text, n.rest);
+        at += 1;
+    }
+    Taken { at, rest }
+}

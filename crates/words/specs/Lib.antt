@@ -1,0 +1,3 @@
+-- What `specs/` holds: places and words.
+pub mod Places
+pub mod Words

@@ -1,0 +1,27 @@
+-- A word as one number, and where it ends. Assumes nothing.
+use Prim.Native.Nat.{ℕ, zero, suc, _+_, _-_, _*_}
+use mathlib.Core.List.{List}
+use mathlib.Core.Bool.{Bool, not}
+use lib.ListN.{getD}
+use lib.Dec.{eqb, leb, ltb}
+use Rattle.laws.specs.Choose.{pick, both}
+use Rattle.words.specs.declared.spell.Word.{Word}
+
+-- a byte is above the space, and the value so far has at most seven letters
+unfoldable pub goesOn : ℕ → ℕ → Bool
+goesOn b value = both (not (leb b 32)) (ltb value 72057594037927936)
+
+-- the letters from place at on, of which n bytes are there, after a value read so far
+unfoldable pub readLetters : List ℕ → ℕ → ℕ → ℕ → Word
+readLetters xs value at zero = record { value = value; next = at }
+readLetters xs value at (suc n) =
+    pick (goesOn (getD xs at 0) value) (readLetters xs (256 * value + getD xs at 0) (suc at) n) (record { value = value; next = at })
+
+-- letters that end the line or have a space after them
+unfoldable pub endedAt : List ℕ → ℕ → Word → Word
+endedAt xs end w =
+    pick (ltb (w .next) end) (pick (eqb (getD xs (w .next) 0) 32) w (record { value = 0; next = w .next })) w
+
+-- the word from a place on
+unfoldable pub wordAt : List ℕ → ℕ → ℕ → Word
+wordAt xs from end = endedAt xs end (readLetters xs 0 from (end - from))

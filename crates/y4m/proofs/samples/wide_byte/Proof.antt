@@ -1,0 +1,23 @@
+-- `wide_byte` is what its row says. Assumes nothing.
+use Rattle.y4m.proofs.Filling.{filling}
+use Rattle.y4m.proofs.samples.wide_byte.Statement.{statement}
+use Rattle.y4m.proofs.samples.wide_byte.Tie as tie
+
+sample-at-requires : tie.Need-sample-at-requires
+sample-at-requires c κs = search filling
+
+low-requires : tie.Need-low-requires
+low-requires c κs = search filling
+
+returns : tie.Need-returns
+returns c = search filling
+
+high-requires : tie.Need-high-requires
+high-requires c κs = search filling
+
+returns-2 : tie.Need-returns-2
+returns-2 c = search filling
+
+pub wide-byte-spec : {M : Type 1} → statement M
+wide-byte-spec =
+    tie.close (tie.spec sample-at-requires low-requires returns high-requires returns-2)

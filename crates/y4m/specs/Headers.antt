@@ -1,0 +1,40 @@
+-- What a header line says: its first word, and the values after W, H and C. Assumes nothing.
+use Prim.Native.Nat.{ℕ, _+_, _-_}
+use mathlib.Core.List.{List}
+use mathlib.Core.Bool.{Bool, true}
+use lib.ListN.{getD}
+use lib.Dec.{eqb, ltb, leb}
+use Rattle.laws.specs.Choose.{pick, both}
+use Rattle.cases.specs.Numbers.{numberAt}
+use Rattle.cases.specs.Typed.{unsignedOf}
+use Rattle.words.specs.Places.{seek}
+use Rattle.words.specs.Words.{wordAt}
+use Rattle.y4m.specs.Formats.{formatAt}
+use Rattle.y4m.specs.declared.header.Header.{Header}
+
+-- a space at k, and then the letter
+unfoldable pub tagAt : List ℕ → ℕ → ℕ → Bool
+tagAt xs letter k = both (eqb (getD xs k 0) 32) (eqb (getD xs (k + 1) 0) letter)
+
+-- a number of at most 4096 that starts with a digit, else 0
+unfoldable pub sizeAt : List ℕ → ℕ → ℕ → ℕ
+sizeAt xs at end =
+    pick (leb end at) 0
+    (pick (ltb (getD xs at 0) 48) 0 (unsignedOf 4096 (numberAt xs (record { at = at; end = end; good = true })) .value))
+
+-- YUV4MPEG2
+unfoldable pub opensAt : List ℕ → ℕ → Bool
+opensAt xs end = both (eqb (getD xs 0 0) 89) (eqb (wordAt xs 1 end .value) 6149159847884834610)
+
+-- FRAME
+unfoldable pub framesAt : List ℕ → ℕ → Bool
+framesAt xs end = eqb (wordAt xs 0 end .value) 302027722053
+
+unfoldable pub headerOf : List ℕ → ℕ → Header
+headerOf xs end =
+    record {
+      opens = opensAt xs end;
+      width = sizeAt xs (seek (tagAt xs 87) 0 (end - 1) + 2) end;
+      height = sizeAt xs (seek (tagAt xs 72) 0 (end - 1) + 2) end;
+      layout = formatAt xs (seek (tagAt xs 67) 0 (end - 1)) end;
+    }

@@ -1,0 +1,4 @@
+-- What `specs/` holds: formats, headers and rows of samples.
+pub mod Formats
+pub mod Headers
+pub mod Rows
