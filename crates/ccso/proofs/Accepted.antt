@@ -1,9 +1,9 @@
 -- The checks in their order: the answer at each way out, and what an accepted input promises the run.
 -- Assumes nothing.
-use mathlib.Core.Path.{_≡_, refl, sym, ap, _∙_}
+use mathlib.Core.Path.{_≡_, refl, sym, _∙_}
 use mathlib.Core.Bool.{Bool, true, false, not}
 use mathlib.Core.List.{List}
-use Prim.Native.Nat.{ℕ, _+_, _*_, _/_, _≤_, _<_}
+use Prim.Native.Nat.{ℕ, _+_, _*_, _≤_, _<_}
 use native.Mathlib.Nat.{zero-add}
 use native.Mathlib.Omega.{arith}
 use borrow.Author.Needs.{needs}
@@ -22,12 +22,12 @@ use Rattle.rules.specs.declared.refusals.Found.the-variants.{At, Nothing}
 use Rattle.rules.specs.Numbers.{depthOk, topOf, inRange, inRangeZ}
 use Rattle.rules.proofs.Depths.{by-depth}
 use Rattle.rules.specs.Frame.{superblocks}
-use Rattle.rules.specs.Refusals.{orElse, unless, found, first, foundUnless, over, overRow}
+use Rattle.rules.specs.Refusals.{first, foundUnless, over, overRow}
 use Rattle.rules.specs.Ccso.{targetWidth, targetHeight, ccsoSizesOk, ccsoLengthsOk, ccsoSettingsOk, bandOk, offsetCount, offsetOk, badOffset, ccsoCheck, ccsoOf, ccsoAfter}
 use Rattle.scan.proofs.First.{nothing-all, over-nothing, unless-nothing}
 use Rattle.scan.proofs.Checks.{stop, go-on, unless-bad, unless-good, found-bad-by, found-good-by, else-parts, unless-true, found-nothing, settle-refused-by, settle-accepted-by}
 use Rattle.ccso.specs.Ranges.{Within, Ranges}
-use Rattle.ccso.specs.Lists.{Lit, Small, Fit}
+use Rattle.ccso.specs.Lists.{Fit}
 use Rattle.ccso.specs.Stated.{Stated}
 use Rattle.ccso.specs.Checks.{cutsOk, classesOk, tapsOk, samplesCheck}
 use Rattle.ccso.proofs.Ranged.{three-parts, range-parts}
@@ -116,6 +116,20 @@ long s luma target flags offsets e =
   where
     counted : s .bandlog ≤ 3 → pick (bandOk s) (leb (offsetCount s) offsets) true ≡ true → offsetCount s ≤ offsets
     counted h f = leb-true _ _ (picked _ _ (band-ok s h) f)
+
+-- the same by a callee's answer u that was not refused
+pub passed-yes : (t u : Bool) → u ≡ t → not u ≡ false → t ≡ true
+passed-yes t u e f = sym (told-yes-not t u e f)
+
+module _ (s : Ccso) (luma target flags offsets : ℕ) (e : ccsoLengthsOk s luma target flags offsets ≡ true) where
+  pub luma-there : s .height * s .width ≤ luma
+  luma-there = long s luma target flags offsets e .luma-long
+
+  pub target-there : targetHeight s * targetWidth s ≤ target
+  target-there = long s luma target flags offsets e .target-long
+
+  pub offsets-there : (n : ℕ) → ccsoSettingsOk s ≡ true → n ≡ offsetCount s → n ≤ offsets
+  offsets-there n f g = rw g (long s luma target flags offsets e .offsets-long (band-most s f))
 
 -- ---- what an accepted input promises the run
 
@@ -219,3 +233,7 @@ pub one-result : {s : Ccso} {luma flags : List ℕ} {offsets : List ℤ} {t : Li
 one-result a b = (a .answer ∙ sym (b .answer), a .target ∙ sym (b .target))
 
 pub ruleset entry = (needs, stated-refused, stated-run)
+
+pub ruleset answers = (needs, told-yes-not, told-no-not, answer-depth, answer-size, answer-length, answer-setting, answer-offset, answer-samples)
+
+pub ruleset admitted = (needs, passed-yes, band-most)

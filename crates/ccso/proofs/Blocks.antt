@@ -1,29 +1,28 @@
 -- A row of the target in blocks: a store of the run is one of the rules, a block whose flag is 0 is kept, and block after block is the row.
 -- Assumes nothing.
-use mathlib.Core.Path.{_≡_, refl, sym, ap, _∙_, subst}
+use mathlib.Core.Path.{_≡_, refl, sym, ap, _∙_}
 use mathlib.Core.List.{List}
-use Prim.Native.Nat.{ℕ, zero, suc, _+_, _-_, _*_, _/_, _^_, _≤_, _<_, min, max}
-use native.Mathlib.Nat.{add-zero, add-suc, add-mul, one-mul, zero-mul, mul-le-mul}
+use Prim.Native.Nat.{ℕ, zero, suc, _+_, _-_, _*_, _/_, _≤_, _<_, min}
+use native.Mathlib.Nat.{add-zero, add-suc, add-mul, one-mul, zero-mul, mul-le-mul, lt-of-lt-of-le}
 use native.Mathlib.Omega.{arith}
 use borrow.Author.Needs.{needs}
-use lib.ListN.{getD, length, set}
-use lib.IntN.{ℤ, pos}
+use lib.ListN.{getD, set}
+use lib.IntN.{ℤ}
 use mir.Syntax.{w64}
 use mir.Val.{Fits}
 use lib.Seq.{set-getD}
-use lib.Dec.{eqb}
 use borrow.Author.Tests.{eq-eqb, ne-eqb}
 use Rattle.laws.specs.Choose.{pick}
-use Rattle.laws.specs.Loops.{turns, turns-same, turns-keep, turns-end}
+use Rattle.laws.specs.Loops.{turns, turns-same, turns-keep, turns-end, loops}
 use Rattle.rules.specs.declared.settings.Ccso.{Ccso}
 use Rattle.rules.specs.Numbers.{down}
 use Rattle.rules.specs.Frame.{superblocks}
 use Rattle.rules.specs.Ccso.{targetWidth, targetHeight, blockOf, sampleAt, ccsoCell, ccsoRow, ccsoOf}
 use Rattle.ccso.specs.declared.taps.Row.{Row}
-use Rattle.ccso.specs.Ranges.{Ranges, Raised, Sized}
+use Rattle.ccso.specs.Ranges.{Ranges, Sized}
 use Rattle.ccso.specs.declared.counts.Sizes.{Sizes}
 use Rattle.ccso.specs.Lists.{RowOf, Fit, movedAt, movedCell, columnsTo, blockRow}
-use Rattle.ccso.proofs.Places.{cell-below, block-start, block-number, block-below, block-end, block-most, width-most}
+use Rattle.ccso.proofs.Places.{cell-below, block-start, block-number, block-below, block-end, width-most, height-most, target-below, sample-fits, sample-bytes}
 
 -- one store, at the place that the code counts from the row's start
 pub cell-is : {s : Ccso} {r : Row} → RowOf s r → (luma : List ℕ) (offsets : List ℤ) (x v : ℕ) (t : List ℕ) → v ≡ movedAt s luma offsets x (r .y) (getD t (r .at + x) 0) → set t (r .at + x) v ≡ movedCell s luma offsets (r .y) x t
@@ -160,3 +159,12 @@ row-at s luma flags offsets t e = ap (λ (n : ℕ). ccsoRow s luma flags offsets
 pub rows-end : (s : Ccso) (luma flags : List ℕ) (offsets : List ℤ) (t : List ℕ) (y m : ℕ) (q : List ℕ) → m ≡ targetHeight s → m ≤ y → y ≤ m → q ≡ turns y (λ i. ccsoRow s luma flags offsets i) t → q ≡ ccsoOf s luma flags offsets t
 unfolding ccsoOf
 rows-end s luma flags offsets t y m q e h l g = turns-end (λ i. ccsoRow s luma flags offsets i) t y (targetHeight s) g (omega arith) (omega arith)
+
+-- what closes the needs of the functions over columns, blocks and rows
+pub ruleset stores = (needs, target-below, sample-fits, sample-bytes, lt-of-lt-of-le, cell-is)
+
+pub ruleset blocks = (needs, flag-below, flag-fits, start-le, block-kept, block-moved)
+
+pub ruleset row-blocks = (needs, blocks-none)
+
+pub ruleset target-rows = (loops, height-most, rows-end)

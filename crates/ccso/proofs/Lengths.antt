@@ -3,7 +3,7 @@
 use mathlib.Core.Path.{_≡_, refl, sym, ap, _∙_}
 use mathlib.Core.Bool.{Bool, true, false, not}
 use mathlib.Core.List.{List}
-use Prim.Native.Nat.{ℕ, zero, suc, _+_, _-_, _*_, _/_, _^_, _≤_, _<_}
+use Prim.Native.Nat.{ℕ, _+_, _*_, _/_, _≤_, _<_}
 use native.Mathlib.Nat.{mul-le-mul}
 use native.Mathlib.Omega.{arith}
 use borrow.Author.Needs.{needs}
@@ -22,7 +22,7 @@ use Rattle.rules.specs.Numbers.{inRange, inRangeZ, subsamplingOk, topOf}
 use Rattle.rules.specs.Frame.{halved, superblocks}
 use Rattle.rules.specs.declared.refusals.Refusal.the-variants.{Sample}
 use Rattle.rules.specs.declared.refusals.Answer.the-variants.{Accepted, Refused}
-use Rattle.rules.specs.Refusals.{foundUnless, overRow, orElse, found}
+use Rattle.rules.specs.Refusals.{foundUnless, overRow}
 use Rattle.rules.specs.Ccso.{targetWidth, targetHeight, ccsoSizesOk, ccsoLengthsOk, bandOk, offsetCount, offsetOk}
 use Rattle.scan.proofs.First.{firsts, found-unless, found-unless-not}
 use Rattle.scan.proofs.Checks.{stop, go-on, found-bad-by, found-good-by}
@@ -57,8 +57,21 @@ sizable s e =
       ssy-most = omega (arith, leb-true (s .ssx) 1 (t .0), leb-true (s .ssy) (s .ssx) (t .1));
     }
 
+-- what `halved` asks, each way
+pub across-ok : (s : Ccso) → ccsoSizesOk s ≡ true → (s .ssx ≤ 1) × (s .width ≤ 4096)
+across-ok s e = (sizable s e .ssx-most, sizable s e .width-most)
+
+pub down-ok : (s : Ccso) → ccsoSizesOk s ≡ true → (s .ssy ≤ 1) × (s .height ≤ 4096)
+down-ok s e = (sizable s e .ssy-most, sizable s e .height-most)
+
 -- the products of the lengths fit
 module _ {s : Ccso} (z : Sizable s) where
+  pub across-fits : Fits w64 (s .width + 63)
+  across-fits = record { fits = omega (arith, z .width-most) }
+
+  pub down-fits : Fits w64 (s .height + 63)
+  down-fits = record { fits = omega (arith, z .height-most) }
+
   pub area-fits : Fits w64 (s .height * s .width)
   area-fits = record { fits = omega (arith, mul-le-mul (z .height-most) (z .width-most)) }
 
@@ -150,4 +163,6 @@ pub target-long : (s : Ccso) (a b n : ℕ) → a ≡ halved (s .ssy) (s .height)
 unfolding targetHeight targetWidth
 target-long s a b n e f h = rw (e, f) (omega arith)
 
-pub ruleset samples = (needs, luma-over, target-over, none-over)
+pub ruleset samples = (needs, sizable, across-ok, down-ok, target-fits, target-long, luma-over, target-over, none-over)
+
+pub ruleset lengths = (needs, sizable, across-ok, down-ok, across-fits, down-fits, area-fits, target-fits, flags-fit, short-luma, short-flags, short-target, no-band, counted)

@@ -1,9 +1,9 @@
 -- The place of an offset, and a sample with an offset, in counts.
 -- Assumes nothing.
-use mathlib.Core.Path.{_≡_, refl, sym, ap, _∙_, subst}
-use mathlib.Core.Bool.{Bool, true, false}
-use Prim.Native.Nat.{ℕ, zero, suc, _+_, _-_, _*_, _/_, _^_, _≤_, _<_, min}
-use native.Mathlib.Nat.{div-le-self, div-lt-iff-lt-mul, mul-le-mul, mul-le-mul-right}
+use mathlib.Core.Path.{_≡_, sym, ap, _∙_}
+use mathlib.Core.Bool.{true}
+use Prim.Native.Nat.{ℕ, _+_, _-_, _*_, _/_, _^_, _≤_, _<_, min}
+use native.Mathlib.Nat.{div-le-self, div-lt-iff-lt-mul, mul-le-mul}
 use native.Mathlib.Omega.{arith}
 use lib.Pow.{pow-add, pow-pos}
 use borrow.Author.Needs.{needs}
@@ -11,16 +11,16 @@ use mir.Syntax.{w8, w32, w64}
 use mir.Val.{Fits, toZ, ofZ}
 use mathlib.Core.List.{List}
 use lib.ListN.{getD}
-use lib.IntN.{ℤ, pos, _+ℤ_, _*ℤ_}
-use Rattle.laws.specs.Whole.{Is, count, plus, times, limit, limit-is}
+use lib.IntN.{ℤ, pos, _*ℤ_}
+use Rattle.laws.specs.Whole.{Is, count, plus, times, limit-is}
 use Rattle.rules.specs.declared.settings.Ccso.{Ccso}
 use Rattle.rules.specs.Numbers.{depthOk, topOf}
 use Rattle.rules.proofs.Depths.{by-depth}
 use Rattle.rules.specs.Ccso.{offsetPlace, offsetSample, offsetCount, placeAt}
 use Rattle.ccso.specs.declared.counts.Counts.{Counts}
 use Rattle.ccso.specs.Ranges.{Within, Ranges, Raised}
-use Rattle.ccso.specs.Lists.{movedAt}
-use Rattle.ccso.proofs.Signed.{byte, byte-word, byte-within, byte-is}
+use Rattle.ccso.specs.Lists.{Small, movedAt}
+use Rattle.ccso.proofs.Signed.{byte, byte-kept, byte-word, byte-within, byte-is}
 
 -- the largest sample of any depth
 pub top-most : (d : ℕ) → depthOk d ≡ true → topOf d ≤ 4095
@@ -89,7 +89,13 @@ pub ruleset bands = (needs, band16-fits, class0-fits, class1-fits)
 
 pub ruleset moves = (needs, byte-word, byte-within, byte-is, part-fits, sum-fits, sample-low, sample-in, sample-high)
 
--- the sample at a place, from the offset that the code read
-pub moved : (s : Ccso) (luma : List ℕ) (offsets : List ℤ) (x y v p r : ℕ) → Within (getD offsets p (pos 0)) 10 → p ≡ placeAt s luma x y → r ≡ offsetSample s v (toZ w8 (ofZ w8 (getD offsets p (pos 0)))) → r ≡ movedAt s luma offsets x y v
-unfolding movedAt
-moved s luma offsets x y v p r h e g = rw (← e) (g ∙ ap (offsetSample s v) (byte _ h))
+-- the offset that the code read at a place in use, and the sample with it
+module _ {s : Ccso} (offsets : List ℤ) (small : Small s offsets) (p : ℕ) (h : p < offsetCount s) where
+  pub offset-kept : Within (toZ w8 (ofZ w8 (getD offsets p (pos 0)))) 10
+  offset-kept = byte-kept _ (small .each p h)
+
+  pub moved : (luma : List ℕ) (x y v r : ℕ) → p ≡ placeAt s luma x y → r ≡ offsetSample s v (toZ w8 (ofZ w8 (getD offsets p (pos 0)))) → r ≡ movedAt s luma offsets x y v
+  unfolding movedAt
+  moved luma x y v r e g = rw (← e) (g ∙ ap (offsetSample s v) (byte _ (small .each p h)))
+
+pub ruleset moved-samples = (needs, offset-kept, moved)

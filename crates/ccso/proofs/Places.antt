@@ -1,24 +1,24 @@
 -- Where samples stand: columns and rows of the target in luma, each within its list, and the tap and centre that the code reads there.
 -- Assumes nothing.
-use mathlib.Core.Path.{_≡_, refl, sym, ap, _∙_, subst}
+use mathlib.Core.Path.{_≡_}
 use mathlib.Core.List.{List}
-use Prim.Native.Nat.{ℕ, zero, suc, _+_, _-_, _*_, _/_, _^_, _≤_, _<_, min, max}
-use native.Mathlib.Nat.{mul-le-mul, mul-le-mul-right, suc-mul, le-antisymm}
+use Prim.Native.Nat.{ℕ, _+_, _-_, _*_, _/_, _^_, _≤_, _<_}
+use native.Mathlib.Nat.{mul-le-mul, mul-le-mul-right, suc-mul}
 use native.Mathlib.Decide.{ℕ-discrete}
 use native.Mathlib.Omega.{arith}
 use borrow.Author.Needs.{needs}
-use mir.Syntax.{w32, w64}
+use mir.Syntax.{w64}
 use mir.Val.{Fits}
 use lib.ListN.{getD, length}
 use lib.IntN.{ℤ, pos, negsuc, _+ℤ_}
-use Rattle.laws.specs.Whole.{Is, between}
+use Rattle.laws.specs.Whole.{between}
 use Rattle.rules.specs.declared.settings.Ccso.{Ccso}
-use Rattle.rules.specs.Numbers.{topOf, down, up}
+use Rattle.rules.specs.Numbers.{down, up}
 use Rattle.rules.specs.Frame.{halved, superblocks}
-use Rattle.rules.specs.Ccso.{targetWidth, targetHeight, lumaAt, centreOf, tapOf, tapClass, offsetPlace, placeAt, offsetCount}
+use Rattle.rules.specs.Ccso.{targetWidth, targetHeight, lumaAt, centreOf, tapOf, tapClass, offsetPlace, placeAt}
 use Rattle.ccso.specs.declared.counts.Counts.{Counts}
 use Rattle.ccso.specs.declared.taps.Row.{Row}
-use Rattle.ccso.specs.Ranges.{Within, Ranges, Raised}
+use Rattle.ccso.specs.Ranges.{Ranges, Raised}
 use Rattle.ccso.specs.Lists.{tapRow, RowOf, Lit}
 
 -- what holds of a subsampling of 0 and of 1 holds of every one
@@ -192,3 +192,10 @@ block-end ss size h = by-one (λ n. (size + n) / 2 ^ n ≤ (size + 63) / 64 * (6
 pub block-most : (ss : ℕ) → ss ≤ 1 → down ss 64 ≤ 64
 unfolding down
 block-most ss h = by-one (λ n. 64 / 2 ^ n ≤ 64) (omega arith) (omega arith) ss h
+
+-- what closes the needs of the functions that find a row, read luma, and count the target's sizes
+pub ruleset row-starts = (needs, line-fits, line-most)
+
+pub ruleset reads = (needs, column, column-fits, column-most, centre-below, tap0-below, tap1-below, place-fits)
+
+pub ruleset sizes = (needs, across-some, down-some)

@@ -1,17 +1,18 @@
 -- Tests of signed numbers that are read as differences of counts, and numbers in a range around 0.
 -- Assumes nothing.
-use mathlib.Core.Path.{_≡_, refl, sym, ap, _∙_}
-use mathlib.Core.Bool.{Bool, true, false}
-use Prim.Native.Nat.{ℕ, zero, suc, _+_, _-_, _≤_, _<_}
+use mathlib.Core.Path.{_≡_, refl, sym}
+use mathlib.Core.Bool.{true, false}
+use Prim.Native.Nat.{ℕ, _+_, _≤_, _<_}
 use native.Mathlib.Omega.{arith}
+use borrow.Author.Needs.{needs}
 use borrow.Author.Tests.{lt-ltb, le-ltb, le-leb, lt-leb, leb-true}
 use Rattle.laws.specs.Choose.{true-not-false}
-use lib.IntN.{ℤ, pos, negsuc, _+ℤ_, _-ℤ_}
+use lib.IntN.{ℤ, pos, negsuc, _-ℤ_}
 use lib.Signed.{ltZ, leZ}
 use mir.Syntax.{w8, w32}
 use mir.Val.{SFits, toZ, ofZ}
 use mir.Facts.{toZ-ofZ}
-use Rattle.laws.specs.Whole.{Is, over, under, self, count, minus, recast}
+use Rattle.laws.specs.Whole.{Is, self, count, minus, recast}
 use Rattle.laws.specs.Machine.{fits}
 use Rattle.ccso.specs.Ranges.{Within}
 
@@ -92,3 +93,5 @@ byte-within z h = rw (byte z h) (back-within z 10 h (omega arith))
 
 pub byte-is : (z : ℤ) {a b : ℕ} → Within z 10 → Is (toZ w32 (ofZ w32 (toZ w8 (ofZ w8 z)))) a b → Is z a b
 byte-is z {a} {b} h e = back-is z h (omega arith) (rw (byte z h) at e)
+
+pub ruleset raises = (needs, back-within)

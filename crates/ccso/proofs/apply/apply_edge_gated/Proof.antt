@@ -1,5 +1,5 @@
 -- `apply_edge_gated` answers with the first check that fails, and runs where none does. Assumes nothing.
-use Rattle.ccso.proofs.Accepted.{entry, accepted, stated-run}
+use Rattle.ccso.proofs.Accepted.{entry, accepted}
 use mathlib.Core.Path.{sym, _∙_}
 use borrow.Author.Needs.{needs}
 use Rattle.ccso.proofs.apply.apply_edge_gated.Statement.{statement}
@@ -27,7 +27,7 @@ same-length-2 : tie.Need-same-length-2
 same-length-2 c = search needs
 
 returns-2 : tie.Need-returns-2
-returns-2 c = stated-run _ _ _ _ _ _ (c .before .before .before .before .before .before .check .ensures) _ (c .before .before .before .before .enum-told .given .1) (c .before .before .run .ensures)
+returns-2 c = search entry
 
 pub apply-edge-gated-spec : {M : Type 1} → statement M
 apply-edge-gated-spec =

@@ -1,5 +1,5 @@
 -- `samples_ok` looks through luma and then through the target. Assumes nothing.
-use Rattle.ccso.proofs.Lengths.{samples, sizable, target-fits, target-long}
+use Rattle.ccso.proofs.Lengths.{samples}
 use borrow.Author.Needs.{needs}
 use Rattle.ccso.proofs.check.samples_ok.Statement.{statement}
 use Rattle.ccso.proofs.check.samples_ok.Tie as tie
@@ -23,16 +23,16 @@ enum-told : tie.Need-enum-told
 enum-told c = search needs
 
 halved-requires : tie.Need-halved-requires
-halved-requires c κs = (sizable _ (c .before .before .before .before .before .before .before .pre .1) .ssy-most, sizable _ (c .before .before .before .before .before .before .before .pre .1) .height-most)
+halved-requires c κs = search samples
 
 halved-requires-2 : tie.Need-halved-requires-2
-halved-requires-2 c κs = (sizable _ (c .before .before .before .before .before .before .before .before .pre .1) .ssx-most, sizable _ (c .before .before .before .before .before .before .before .before .pre .1) .width-most)
+halved-requires-2 c κs = search samples
 
 mul-count : tie.Need-mul-count
-mul-count c = target-fits (sizable _ (c .before .before .before .before .before .before .before .before .before .pre .1)) _ _ (c .before .halved .ensures) (c .halved2 .ensures)
+mul-count c = search samples
 
 row-requires-2 : tie.Need-row-requires-2
-row-requires-2 c κs = target-long _ _ _ _ (c .before .halved .ensures) (c .halved2 .ensures) (c .before .before .before .before .before .before .before .before .before .pre .3)
+row-requires-2 c κs = search samples
 
 enum-known-past : tie.Need-enum-known-past
 enum-known-past c = search needs

@@ -1,37 +1,37 @@
 -- `counts_of` raises each signed setting. Assumes nothing.
+use Rattle.ccso.proofs.Signed.{raises, back-is}
 use Rattle.ccso.proofs.Offsets.{top-most}
 use native.Mathlib.Omega.{arith}
-use Rattle.ccso.proofs.Signed.{back-within, back-is}
 use borrow.Author.Needs.{needs}
 use Rattle.ccso.proofs.counts.counts_of.Statement.{statement}
 use Rattle.ccso.proofs.counts.counts_of.Tie as tie
 
 raised-requires : tie.Need-raised-requires
-raised-requires c κs = (back-within _ _ (c .before .pre .lo) (omega arith), omega arith)
+raised-requires c κs = search raises
 
 raised-requires-2 : tie.Need-raised-requires-2
-raised-requires-2 c κs = (back-within _ _ (c .before .before .before .pre .hi) (omega arith), omega arith)
+raised-requires-2 c κs = search raises
 
 raised-requires-3 : tie.Need-raised-requires-3
-raised-requires-3 c κs = (back-within _ _ (c .before .before .before .before .before .pre .dx0) (omega arith), omega arith)
+raised-requires-3 c κs = search raises
 
 cast-t6 : tie.Need-cast-t6
 cast-t6 c = search needs
 
 raised-requires-4 : tie.Need-raised-requires-4
-raised-requires-4 c κs = (back-within _ _ (c .before .before .before .before .before .before .before .pre .dy0) (omega arith), omega arith)
+raised-requires-4 c κs = search raises
 
 cast-t8 : tie.Need-cast-t8
 cast-t8 c = search needs
 
 raised-requires-5 : tie.Need-raised-requires-5
-raised-requires-5 c κs = (back-within _ _ (c .before .before .before .before .before .before .before .before .before .pre .dx1) (omega arith), omega arith)
+raised-requires-5 c κs = search raises
 
 cast-t10 : tie.Need-cast-t10
 cast-t10 c = search needs
 
 raised-requires-6 : tie.Need-raised-requires-6
-raised-requires-6 c κs = (back-within _ _ (c .before .before .before .before .before .before .before .before .before .before .before .pre .dy1) (omega arith), omega arith)
+raised-requires-6 c κs = search raises
 
 cast-t12 : tie.Need-cast-t12
 cast-t12 c = search needs

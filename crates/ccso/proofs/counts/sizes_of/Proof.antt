@@ -1,5 +1,5 @@
 -- `sizes_of` divides by the luma samples of a target sample. Assumes nothing.
-use Rattle.ccso.proofs.Places.{across-some, down-some}
+use Rattle.ccso.proofs.Places.{sizes}
 use Rattle.rules.specs.Ccso.{targetWidth, targetHeight}
 use Rattle.rules.specs.Frame.{halved, superblocks}
 use Rattle.rules.specs.Numbers.{down}
@@ -12,19 +12,19 @@ add-t3 : tie.Need-add-t3
 add-t3 c = search needs
 
 div-t4 : tie.Need-div-t4
-div-t4 c = across-some (c .before .before .pre)
+div-t4 c = search sizes
 
 add-t5 : tie.Need-add-t5
 add-t5 c = search needs
 
 div-t6 : tie.Need-div-t6
-div-t6 c = down-some (c .before .before .before .before .pre)
+div-t6 c = search sizes
 
 div-t7 : tie.Need-div-t7
-div-t7 c = across-some (c .before .before .before .before .before .pre)
+div-t7 c = search sizes
 
 div-t8 : tie.Need-div-t8
-div-t8 c = down-some (c .before .before .before .before .before .before .pre)
+div-t8 c = search sizes
 
 add-t9 : tie.Need-add-t9
 add-t9 c = search needs

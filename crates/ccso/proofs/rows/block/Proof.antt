@@ -1,5 +1,5 @@
 -- `block` keeps its columns where the flag is 0, else moves each. Assumes nothing.
-use Rattle.ccso.proofs.Blocks.{flag-below, flag-fits, start-below, start-le, count-le, block-kept, block-moved}
+use Rattle.ccso.proofs.Blocks.{blocks, flag-below, start-below, count-le}
 use Rattle.ccso.proofs.Places.{width-most, block-most}
 use native.Mathlib.Omega.{arith}
 use borrow.Author.Needs.{needs}
@@ -7,13 +7,13 @@ use Rattle.ccso.proofs.rows.block.Statement.{statement}
 use Rattle.ccso.proofs.rows.block.Tie as tie
 
 add-at : tie.Need-add-at
-add-at c = flag-fits (c .before .before .before .before .pre .0 .ranges) _ (flag-below (c .before .before .before .before .pre .0 .ranges) (c .before .before .before .before .pre .1 .1 .0) _ (c .before .before .before .before .pre .1 .1 .1 .1))
+add-at c = search blocks
 
 shared-slice-read-flag : tie.Need-shared-slice-read-flag
 shared-slice-read-flag c = omega (arith, (flag-below (c .before .before .before .before .before .pre .0 .ranges) (c .before .before .before .before .before .pre .1 .1 .0) _ (c .before .before .before .before .before .pre .1 .1 .1 .1)), (c .before .before .before .before .before .pre .1 .1 .1 .0) .flags)
 
 returns : tie.Need-returns
-returns c = block-kept (c .before .before .before .before .before .before .pre .0 .ranges) (c .before .before .before .before .before .before .pre .1 .1 .0) _ (c .before .before .before .before .before .before .pre .1 .1 .1 .1) _ _ _ _ (c .if1 .taken)
+returns c = search blocks
 
 mul-start : tie.Need-mul-start
 mul-start c = record { fits = rw ((c .before .before .before .before .before .before .before .pre .1 .0) .blockw) (omega (arith, (start-below (c .before .before .before .before .before .before .before .pre .0 .ranges) (c .before .before .before .before .before .before .before .pre .1 .1 .0) _ (c .before .before .before .before .before .before .before .pre .1 .1 .1 .1)), width-most (c .before .before .before .before .before .before .before .pre .0 .ranges))) }
@@ -25,7 +25,7 @@ least-requires : tie.Need-least-requires
 least-requires c κs = search needs
 
 sub-cells : tie.Need-sub-cells
-sub-cells c = start-le (c .before .before .before .before .before .before .before .before .before .before .pre .0 .ranges) (c .before .before .before .before .before .before .before .before .before .before .pre .1 .1 .0) _ (c .before .before .before .before .before .before .before .before .before .before .pre .1 .1 .1 .1) (c .before .before .before .before .before .before .before .before .before .before .pre .1 .0) _ (c .before .least .ensures)
+sub-cells c = search blocks
 
 cells-requires : tie.Need-cells-requires
 cells-requires c κs = ((c .before .before .before .before .before .before .before .before .before .before .pre .0), ((c .before .before .before .before .before .before .before .before .before .before .pre .1 .1 .0), (((c .before .before .before .before .before .before .before .before .before .before .pre .1 .1 .1 .0) .lit, (c .before .before .before .before .before .before .before .before .before .before .pre .1 .1 .1 .0) .small, (c .before .before .before .before .before .before .before .before .before .before .pre .1 .1 .1 .0) .target), count-le (c .before .before .before .before .before .before .before .before .before .before .pre .0 .ranges) (c .before .before .before .before .before .before .before .before .before .before .pre .1 .1 .0) _ (c .before .before .before .before .before .before .before .before .before .before .pre .1 .1 .1 .1) (c .before .before .before .before .before .before .before .before .before .before .pre .1 .0) _ (c .before .least .ensures))))
@@ -34,7 +34,7 @@ same-length : tie.Need-same-length
 same-length c = search needs
 
 returns-2 : tie.Need-returns-2
-returns-2 c = block-moved (c .before .before .before .before .before .before .before .before .before .before .before .before .before .pre .0 .ranges) (c .before .before .before .before .before .before .before .before .before .before .before .before .before .pre .1 .1 .0) _ (c .before .before .before .before .before .before .before .before .before .before .before .before .before .pre .1 .1 .1 .1) _ _ _ _ (c .before .before .before .before .before .before .before .before .before .before .before .before .before .pre .1 .0) (c .before .before .before .before .before .before .before .if1 .left) _ _ (c .before .before .before .before .least .ensures) (c .before .before .cells .ensures)
+returns-2 c = search blocks
 
 pub block-spec : {M : Type 1} → statement M
 block-spec =

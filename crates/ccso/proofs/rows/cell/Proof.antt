@@ -1,19 +1,18 @@
 -- `cell` is one store of the rules, within the target. Assumes nothing.
-use Rattle.ccso.proofs.Blocks.{cell-is}
-use Rattle.ccso.proofs.Places.{target-below, sample-fits, sample-bytes}
-use native.Mathlib.Nat.{lt-of-lt-of-le}
+use Rattle.ccso.proofs.Blocks.{stores}
+use Rattle.ccso.proofs.Places.{target-below, sample-bytes}
 use borrow.Author.Needs.{needs}
 use Rattle.ccso.proofs.rows.cell.Statement.{statement}
 use Rattle.ccso.proofs.rows.cell.Tie as tie
 
 add-i : tie.Need-add-i
-add-i c = sample-fits (c .before .before .before .pre .0 .ranges) _ (target-below (c .before .before .before .pre .1 .0) _ (c .before .before .before .pre .1 .1 .1))
+add-i c = search stores
 
 mul-v : tie.Need-mul-v
-mul-v c = sample-bytes (c .before .before .before .pre .0 .ranges) _ (target-below (c .before .before .before .pre .1 .0) _ (c .before .before .before .pre .1 .1 .1))
+mul-v c = search stores
 
 slice-read-v : tie.Need-slice-read-v
-slice-read-v c = lt-of-lt-of-le (target-below (c .before .before .before .before .pre .1 .0) _ (c .before .before .before .before .pre .1 .1 .1)) ((c .before .before .before .before .pre .1 .1 .0) .2)
+slice-read-v c = search stores
 
 sample-at-requires : tie.Need-sample-at-requires
 sample-at-requires c κs = ((c .before .before .before .before .pre .0), ((c .before .before .before .before .pre .1 .0), ((c .before .before .before .before .pre .1 .1 .1), ((c .before .before .before .before .pre .1 .1 .0) .0, (c .before .before .before .before .pre .1 .1 .0) .1))))
@@ -22,13 +21,13 @@ mul-target : tie.Need-mul-target
 mul-target c = sample-bytes (c .before .before .before .before .before .pre .0 .ranges) _ (target-below (c .before .before .before .before .before .pre .1 .0) _ (c .before .before .before .before .before .pre .1 .1 .1))
 
 slice-write-target : tie.Need-slice-write-target
-slice-write-target c = lt-of-lt-of-le (target-below (c .before .before .before .before .before .pre .1 .0) _ (c .before .before .before .before .before .pre .1 .1 .1)) ((c .before .before .before .before .before .pre .1 .1 .0) .2)
+slice-write-target c = search stores
 
 same-length : tie.Need-same-length
 same-length c = search needs
 
 returns : tie.Need-returns
-returns c = cell-is (c .before .before .before .before .before .pre .1 .0) _ _ _ _ _ (c .sample-at .ensures)
+returns c = search stores
 
 pub cell-spec : {M : Type 1} → statement M
 cell-spec =

@@ -2,7 +2,7 @@
 use Rattle.ccso.proofs.Places.{width-most}
 use native.Mathlib.Omega.{arith}
 use mathlib.Core.Path.{_≡_}
-use Prim.Native.Nat.{ℕ, _+_, _-_, _≤_}
+use Prim.Native.Nat.{_+_, _-_, _≤_}
 use lib.ListN.{length}
 use Rattle.laws.specs.Loops.{turns, loops}
 use Rattle.ccso.specs.Lists.{movedCell}

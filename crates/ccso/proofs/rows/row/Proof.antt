@@ -1,14 +1,14 @@
 -- `row`'s loop: each block so far has its columns. Assumes nothing.
-use mathlib.Core.Path.{_≡_, refl, ap, _∙_}
-use Prim.Native.Nat.{ℕ, _+_, _-_, _≤_}
+use Rattle.ccso.proofs.Blocks.{row-blocks, fit-same, blocks-more, blocks-end, row-at}
+use mathlib.Core.Path.{_≡_, _∙_}
+use Prim.Native.Nat.{_-_, _≤_}
 use native.Mathlib.Omega.{arith}
 use borrow.Author.Needs.{needs}
 use lib.ListN.{length}
 use Rattle.laws.specs.Loops.{turns}
-use Rattle.rules.specs.Ccso.{ccsoCell, ccsoRow}
+use Rattle.rules.specs.Ccso.{ccsoCell}
 use Rattle.ccso.specs.Lists.{columnsTo}
 use Rattle.ccso.proofs.Places.{blocks-most}
-use Rattle.ccso.proofs.Blocks.{fit-same, blocks-none, blocks-more, blocks-end, row-at}
 use Rattle.ccso.proofs.rows.row.Statement.{statement}
 use Rattle.ccso.proofs.rows.row.Tie as tie
 
@@ -20,10 +20,10 @@ abbrev μ-loop : tie.MeasureT-loop
 μ-loop luma target₀ flags offsets s k z y r blocks b₀ target b = blocks - b
 
 row-of-requires : tie.Need-row-of-requires Inv-loop μ-loop
-row-of-requires c κs = ((c .before .before .before .pre .0), ((c .before .before .before .pre .1 .0), (c .before .before .before .pre .1 .1 .1)))
+row-of-requires c κs = search row-blocks
 
 loop-holds : tie.Need-loop-holds Inv-loop μ-loop
-loop-holds c = (omega arith, blocks-none _ _ _ _ _ _, refl)
+loop-holds c = search row-blocks
 
 block-requires : tie.Need-block-requires Inv-loop μ-loop
 block-requires c κs = ((c .before .before .before .before .before .before .before .pre .0), ((c .before .before .before .before .before .before .before .pre .1 .0), (c .before .before .before .row-of .ensures .0, (fit-same (c .before .before .loop .inv .2) (c .before .before .before .before .before .before .before .pre .1 .1 .0), omega (arith, c .before .loop-test .taken, (c .before .before .before .before .before .before .before .pre .1 .0) .blocks)))))
@@ -32,7 +32,7 @@ add-b : tie.Need-add-b Inv-loop μ-loop
 add-b c = record { fits = omega (arith, c .before .before .before .before .before .loop .inv .0, c .before .before .before .before .loop-test .taken, (c .before .before .before .before .before .before .before .before .before .before .pre .1 .0) .blocks, blocks-most (c .before .before .before .before .before .before .before .before .before .before .pre .0 .ranges)) }
 
 loop-less : tie.Need-loop-less Inv-loop μ-loop
-loop-less c = omega (arith, c .before .before .before .before .loop-test .taken)
+loop-less c = search row-blocks
 
 loop-again : tie.Need-loop-again Inv-loop μ-loop
 loop-again c = (omega (arith, c .before .before .before .before .loop-test .taken), blocks-more _ _ _ _ _ _ _ _ _ (c .before .before .before .before .before .loop .inv .1) (c .before .before .block .ensures), search needs)

@@ -1,13 +1,12 @@
 -- `run`'s loop: each row so far is the rules'. Assumes nothing.
-use mathlib.Core.Path.{_≡_, refl, ap, _∙_}
-use Prim.Native.Nat.{ℕ, _+_, _-_, _≤_}
+use Rattle.ccso.proofs.Blocks.{target-rows, fit-same}
+use mathlib.Core.Path.{_≡_}
+use Prim.Native.Nat.{_-_, _≤_}
 use native.Mathlib.Omega.{arith}
 use borrow.Author.Needs.{needs}
 use lib.ListN.{length}
-use Rattle.laws.specs.Loops.{turns, turns-none, turns-more, turns-end}
-use Rattle.rules.specs.Ccso.{ccsoRow, ccsoOf}
-use Rattle.ccso.proofs.Places.{height-most}
-use Rattle.ccso.proofs.Blocks.{fit-same, rows-end}
+use Rattle.laws.specs.Loops.{turns}
+use Rattle.rules.specs.Ccso.{ccsoRow}
 use Rattle.ccso.proofs.rows.run.Statement.{statement}
 use Rattle.ccso.proofs.rows.run.Tie as tie
 
@@ -19,31 +18,31 @@ abbrev μ-loop : tie.MeasureT-loop
 μ-loop luma target₀ flags offsets s k z rows y₀ target y = rows - y
 
 counts-of-requires : tie.Need-counts-of-requires Inv-loop μ-loop
-counts-of-requires c κs = (c .before .before .before .pre .0)
+counts-of-requires c κs = search target-rows
 
 sizes-of-requires : tie.Need-sizes-of-requires Inv-loop μ-loop
-sizes-of-requires c κs = c .counts-of .ensures
+sizes-of-requires c κs = search target-rows
 
 loop-holds : tie.Need-loop-holds Inv-loop μ-loop
-loop-holds c = (omega arith, turns-none _ _, refl)
+loop-holds c = search target-rows
 
 row-requires : tie.Need-row-requires Inv-loop μ-loop
 row-requires c κs = (c .before .before .before .before .counts-of .ensures, (c .before .before .before .sizes-of .ensures, (fit-same (c .before .before .loop .inv .2) (c .before .before .before .before .before .before .before .before .pre .1), omega (arith, c .before .loop-test .taken, c .before .before .before .sizes-of .ensures .height))))
 
 add-y : tie.Need-add-y Inv-loop μ-loop
-add-y c = record { fits = omega (arith, c .before .before .before .before .loop-test .taken, c .before .before .before .before .before .before .sizes-of .ensures .height, height-most (c .before .before .before .before .before .before .before .before .before .before .before .pre .0)) }
+add-y c = search target-rows
 
 loop-less : tie.Need-loop-less Inv-loop μ-loop
-loop-less c = omega (arith, c .before .before .before .before .loop-test .taken)
+loop-less c = search target-rows
 
 loop-again : tie.Need-loop-again Inv-loop μ-loop
-loop-again c = (omega (arith, c .before .before .before .before .loop-test .taken), turns-more _ _ _ (c .before .before .before .before .before .loop .inv .1) (c .before .before .row .ensures), search needs)
+loop-again c = search target-rows
 
 same-length : tie.Need-same-length Inv-loop μ-loop
 same-length c = search needs
 
 returns : tie.Need-returns Inv-loop μ-loop
-returns c = rows-end _ _ _ _ _ _ _ _ (c .before .before .sizes-of .ensures .height) (c .loop-test .left) (c .before .loop .inv .0) (c .before .loop .inv .1)
+returns c = search target-rows
 
 pub run-spec : {M : Type 1} → statement M
 run-spec =

@@ -1,29 +1,27 @@
 -- `place_at` reads centre and taps within luma. Assumes nothing.
+use Rattle.ccso.proofs.Places.{reads, column, centre-below, tap0-below, tap1-below, bytes-fit, place-there, centre-is, tap0-is, tap1-is, place-is}
 use Rattle.ccso.proofs.Offsets.{place-below}
-use Rattle.ccso.proofs.Places.{column, column-fits, column-most, centre-below, tap0-below, tap1-below, place-fits, bytes-fit, place-there, centre-is, tap0-is, tap1-is, place-is}
 use Rattle.ccso.proofs.Classes.{class-most}
-use native.Mathlib.Omega.{arith}
-use borrow.Author.Needs.{needs}
 use Rattle.ccso.proofs.sample.place_at.Statement.{statement}
 use Rattle.ccso.proofs.sample.place_at.Tie as tie
 
 mul-at : tie.Need-mul-at
-mul-at c = column-fits (c .before .before .pre .0) _ (c .before .before .pre .1 .1 .0)
+mul-at c = search reads
 
 add-centre : tie.Need-add-centre
-add-centre c = place-fits (c .before .before .before .pre .0 .ranges) _ (centre-below (c .before .before .before .pre .0 .ranges) (c .before .before .before .pre .1 .0) _ (column (c .before .before .before .pre .0) _ (c .before .before .before .pre .1 .1 .0)))
+add-centre c = search reads
 
 limited-requires : tie.Need-limited-requires
-limited-requires c κs = (omega (arith, (c .before .before .before .pre .0 .ranges) .some-width), column-most (c .before .before .before .pre .0) _ (c .before .before .before .pre .1 .1 .0), omega (arith, (c .before .before .before .pre .0) .dx0, (c .before .before .before .pre .0 .ranges) .dx0 .high))
+limited-requires c κs = search reads
 
 add-tap0 : tie.Need-add-tap0
-add-tap0 c = place-fits (c .before .before .before .before .before .pre .0 .ranges) _ (tap0-below (c .before .before .before .before .before .pre .0 .ranges) (c .before .before .before .before .before .pre .1 .0) _ (c .before .limited .ensures .0))
+add-tap0 c = search reads
 
 limited-requires-2 : tie.Need-limited-requires-2
-limited-requires-2 c κs = (omega (arith, (c .before .before .before .before .before .pre .0 .ranges) .some-width), column-most (c .before .before .before .before .before .pre .0) _ (c .before .before .before .before .before .pre .1 .1 .0), omega (arith, (c .before .before .before .before .before .pre .0) .dx1, (c .before .before .before .before .before .pre .0 .ranges) .dx1 .high))
+limited-requires-2 c κs = search reads
 
 add-tap1 : tie.Need-add-tap1
-add-tap1 c = place-fits (c .before .before .before .before .before .before .before .pre .0 .ranges) _ (tap1-below (c .before .before .before .before .before .before .before .pre .0 .ranges) (c .before .before .before .before .before .before .before .pre .1 .0) _ (c .before .limited2 .ensures .0))
+add-tap1 c = search reads
 
 mul-c : tie.Need-mul-c
 mul-c c = bytes-fit (c .before .before .before .before .before .before .before .pre .0 .ranges) _ (centre-below (c .before .before .before .before .before .before .before .pre .0 .ranges) (c .before .before .before .before .before .before .before .pre .1 .0) _ (column (c .before .before .before .before .before .before .before .pre .0) _ (c .before .before .before .before .before .before .before .pre .1 .1 .0)))
@@ -38,7 +36,7 @@ shared-slice-read-classify : tie.Need-shared-slice-read-classify
 shared-slice-read-classify c = place-there (c .before .before .before .before .before .before .before .before .before .pre .0 .ranges) _ (tap0-below (c .before .before .before .before .before .before .before .before .before .pre .0 .ranges) (c .before .before .before .before .before .before .before .before .before .pre .1 .0) _ (c .before .before .before .before .before .limited .ensures .0)) _ (c .before .before .before .before .before .before .before .before .before .pre .1 .1 .1)
 
 classify-requires : tie.Need-classify-requires
-classify-requires c κs = c .before .before .before .before .before .before .before .before .before .pre .0
+classify-requires c κs = search reads
 
 mul-classify-2 : tie.Need-mul-classify-2
 mul-classify-2 c = bytes-fit (c .before .before .before .before .before .before .before .before .before .before .pre .0 .ranges) _ (tap1-below (c .before .before .before .before .before .before .before .before .before .before .pre .0 .ranges) (c .before .before .before .before .before .before .before .before .before .before .pre .1 .0) _ (c .before .before .before .before .limited2 .ensures .0))
@@ -47,7 +45,7 @@ shared-slice-read-classify-2 : tie.Need-shared-slice-read-classify-2
 shared-slice-read-classify-2 c = place-there (c .before .before .before .before .before .before .before .before .before .before .before .pre .0 .ranges) _ (tap1-below (c .before .before .before .before .before .before .before .before .before .before .before .pre .0 .ranges) (c .before .before .before .before .before .before .before .before .before .before .before .pre .1 .0) _ (c .before .before .before .before .before .limited2 .ensures .0)) _ (c .before .before .before .before .before .before .before .before .before .before .before .pre .1 .1 .1)
 
 classify-requires-2 : tie.Need-classify-requires-2
-classify-requires-2 c κs = c .before .before .before .before .before .before .before .before .before .before .before .pre .0
+classify-requires-2 c κs = search reads
 
 offset-place-requires : tie.Need-offset-place-requires
 offset-place-requires c κs = ((c .before .before .before .before .before .before .before .before .before .before .before .before .pre .0 .ranges), (rw (c .before .before .classify .ensures) (class-most (c .before .before .before .before .before .before .before .before .before .before .before .before .pre .0 .ranges) _ _), rw (c .classify2 .ensures) (class-most (c .before .before .before .before .before .before .before .before .before .before .before .before .pre .0 .ranges) _ _)))

@@ -1,6 +1,5 @@
 -- `sample_at` reads the offset at its place. Assumes nothing.
-use Rattle.ccso.proofs.Offsets.{moved}
-use Rattle.ccso.proofs.Signed.{byte-kept}
+use Rattle.ccso.proofs.Offsets.{moved-samples}
 use borrow.Author.Needs.{needs}
 use Rattle.ccso.proofs.sample.sample_at.Statement.{statement}
 use Rattle.ccso.proofs.sample.sample_at.Tie as tie
@@ -12,10 +11,10 @@ shared-slice-copy-out-offset-sample : tie.Need-shared-slice-copy-out-offset-samp
 shared-slice-copy-out-offset-sample c = search needs
 
 offset-sample-requires : tie.Need-offset-sample-requires
-offset-sample-requires c κs = (c .before .before .before .pre .0, byte-kept _ (c .before .before .before .pre .1 .1 .1 .1 .each _ (c .before .place-at .ensures .1)))
+offset-sample-requires c κs = search moved-samples
 
 returns : tie.Need-returns
-returns c = moved _ _ _ _ _ _ _ _ (c .before .before .before .before .pre .1 .1 .1 .1 .each _ (c .before .before .place-at .ensures .1)) (c .before .before .place-at .ensures .0) (c .offset-sample .ensures)
+returns c = search moved-samples
 
 pub sample-at-spec : {M : Type 1} → statement M
 sample-at-spec =
