@@ -1,4 +1,4 @@
-/* Calls both functions of the static library from C and holds them to document 01's figures and refusals. */
+/* Calls the functions of the static library from C and holds them to document 01's figures and refusals. */
 #include "bihargesh.h"
 #include <stdio.h>
 #include <string.h>
@@ -114,10 +114,166 @@ static void refusals(void) {
   same("p8 lies beyond every reach", bihargesh_segment(window, sizeof window, 8, 0, 0, 40), 0);
 }
 
+#define LEN(list) (sizeof(list) / sizeof(list)[0])
+
+/* ---- a plane of 24 by 4 samples with one edge, 100 before it and 108 from sample 8 on */
+
+static uint16_t plane[96], lent[96], qindex[6];
+static uint8_t vedge[6], hedge[6], sizes[6];
+static uint32_t table[352];
+static int32_t plane_settings[11];
+static size_t place[1];
+
+/* the qindex whose side threshold at depth 8 is 40; every step but the first gives q 8 */
+static uint16_t index_of_side_40(void) {
+  for (int k = 0; k < 352; k++) {
+    table[k] = k == 0 ? 64 : 4092;
+    put_step(k, table[k]);
+  }
+  uint16_t k = 0;
+  while (k < 295 && (bihargesh_thresholds(k, k, 0, 0, 8, steps, sizeof steps) & 65535) != 40) k++;
+  return k;
+}
+
+static void plane_anew(void) {
+  static const int32_t numbers[11] = {6, 1, 24, 24, 4, 16, 16, 0, 8, 0, 0};
+  uint16_t index = index_of_side_40();
+  memcpy(plane_settings, numbers, sizeof numbers);
+  for (int k = 0; k < 96; k++) plane[k] = k % 24 < 8 ? 100 : 108;
+  for (int k = 0; k < 6; k++) {
+    vedge[k] = k == 2;
+    hedge[k] = 0;
+    sizes[k] = 3;
+    qindex[k] = index;
+  }
+  place[0] = 77;
+}
+
+static int32_t run_plane(size_t settings_len) {
+  return bihargesh_plane(plane, LEN(plane), vedge, LEN(vedge), hedge, LEN(hedge), sizes, LEN(sizes), sizes, LEN(sizes), qindex, LEN(qindex),
+                         table, LEN(table), plane_settings, settings_len, place, 1);
+}
+
+static void refused_plane(const char *what, size_t settings_len, int32_t want, size_t at) {
+  memcpy(lent, plane, sizeof plane);
+  same(what, run_plane(settings_len), want);
+  same(what, (long long)place[0], (long long)at);
+  same("the plane as lent", memcmp(plane, lent, sizeof plane), 0);
+  plane_anew();
+}
+
+static void planes(void) {
+  static const unsigned wide[18] = {100, 101, 101, 102, 102, 103, 103, 104, 104, 105, 105, 106, 106, 107, 107, 108, 108, 108};
+  plane_anew();
+  same("plane", run_plane(11), 0);
+  same("place as lent", (long long)place[0], 77);
+  for (int k = 0; k < 96; k++) same("sample of a plane", plane[k], k % 24 < 18 ? wide[k % 24] : 108);
+  plane_anew();
+  refused_plane("ten numbers", 10, -2, 0);
+  plane_settings[8] = 9;
+  plane_settings[7] = 2;
+  refused_plane("depth 9", 11, -1, 0);
+  plane_settings[7] = 2;
+  refused_plane("chroma 2", 11, -2, 0);
+  plane_settings[7] = -1;
+  refused_plane("chroma -1", 11, -2, 0);
+  plane_settings[2] = -24;
+  refused_plane("stride -24", 11, -2, 0);
+  plane_settings[1] = 2;
+  plane_settings[4] = 8;
+  refused_plane("a row too few", 11, -3, 0);
+  table[5] = 1048577;
+  refused_plane("step 5 too large", 11, -4, 5);
+  plane_settings[10] = 128;
+  refused_plane("delta 128", 11, -5, 0);
+  hedge[4] = 2;
+  refused_plane("mark 2", 11, -6, 4);
+  vedge[1] = 1;
+  refused_plane("no room", 11, -7, 1);
+  plane[30] = 256;
+  refused_plane("sample 256", 11, -8, 30);
+  plane_settings[8] = 9;
+  same("no place wanted",
+       bihargesh_plane(plane, LEN(plane), vedge, LEN(vedge), hedge, LEN(hedge), sizes, LEN(sizes), sizes, LEN(sizes), qindex, LEN(qindex), table,
+                       LEN(table), plane_settings, 11, NULL, 0),
+       -1);
+}
+
+/* ---- grids of 16 by 16 cells, with one entry more that stays */
+
+static uint8_t marks[4][257];
+static uint16_t cells[1025];
+
+static int32_t run_tx(const uint16_t *leaves, size_t count, int32_t cap) {
+  int32_t settings[6] = {16, 16, 0, 0, cap, cap};
+  memset(marks, 9, sizeof marks);
+  return bihargesh_tx_grid(leaves, count, NULL, 0, marks[0], 257, marks[1], 257, marks[2], 257, marks[3], 257, settings, 6, place, 1);
+}
+
+static void grids(void) {
+  uint16_t cut[4] = {0, 0, 16, 16}, whole[4] = {0, 0, 4096 + 16, 16}, bad[8] = {0, 0, 16, 16, 0, 0, 3, 16};
+  same("a leaf with cap 8", run_tx(cut, 4, 8), 0);
+  for (int k = 0; k < 16; k++) same("marks at 0 and 8", marks[0][k], k == 0 || k == 8);
+  same("index 3", marks[2][255], 3);
+  same("an entry beyond", marks[2][256], 9);
+  same("a whole leaf", run_tx(whole, 4, 8), 0);
+  for (int k = 0; k < 16; k++) same("a mark at 0", marks[0][k], k == 0);
+  same("index 4", marks[3][255], 4);
+  same("a bad leaf", run_tx(bad, 8, 8), -9);
+  same("the second", (long long)place[0], 1);
+  same("a cut list", run_tx(cut, 3, 8), -3);
+  same("cap 3", run_tx(cut, 4, 3), -5);
+  same("the marks as lent", marks[1][0], 9);
+
+  uint16_t blocks[4] = {10, 20, 30, 40};
+  int32_t settings[5] = {32, 32, 0, 0, 2};
+  cells[1024] = 7;
+  same("qindex", bihargesh_qindex_grid(blocks, 4, cells, LEN(cells), settings, 5, place, 1), 0);
+  same("cell 0, 15", cells[15], 10);
+  same("cell 0, 16", cells[16], 20);
+  same("cell 16, 0", cells[16 * 32], 30);
+  same("cell 31, 31", cells[1023], 40);
+  same("an entry beyond", cells[1024], 7);
+  settings[4] = 0;
+  same("no superblocks across", bihargesh_qindex_grid(blocks, 4, cells, LEN(cells), settings, 5, place, 1), -2);
+  same("no superblock", bihargesh_qindex_grid(blocks, 0, cells, LEN(cells), (int32_t[5]){32, 32, 0, 0, 2}, 5, place, 1), -3);
+  same("four numbers", bihargesh_qindex_grid(blocks, 4, cells, LEN(cells), settings, 4, place, 1), -2);
+}
+
+/* ---- offsets: document 01's c = 600 at depth 10 with b 2 and classes 2, 1 */
+
+static void offsets(void) {
+  uint16_t luma[2] = {600, 700}, target[2] = {5, 5};
+  uint8_t flags[1] = {0};
+  int8_t by[64] = {0};
+  int32_t settings[16] = {2, 1, 0, 0, 10, 2, -9, 9, 0, 1, 2, 1, 0, 0, 0, 2};
+  by[41] = -10;
+  by[37] = 3;
+  same("a block that is kept", bihargesh_ccso(luma, 2, target, 2, flags, 1, by, 64, settings, 16, place, 1), 0);
+  same("its sample", target[0], 5);
+  flags[0] = 1;
+  same("a block", bihargesh_ccso(luma, 2, target, 2, flags, 1, by, 64, settings, 16, place, 1), 0);
+  same("sample 5, offset -10, scale 2", target[0], 0);
+  same("sample 5, offset 3, scale 2", target[1], 11);
+  by[3] = 8;
+  same("offset 8", bihargesh_ccso(luma, 2, target, 2, flags, 1, by, 64, settings, 16, place, 1), -5);
+  by[3] = 0;
+  target[1] = 1024;
+  place[0] = 0;
+  same("sample 1024", bihargesh_ccso(luma, 2, target, 2, flags, 1, by, 64, settings, 16, place, 1), -8);
+  same("its place", (long long)place[0], 1);
+  settings[15] = -1;
+  same("band log2 -1", bihargesh_ccso(luma, 2, target, 2, flags, 1, by, 64, settings, 16, place, 1), -5);
+  same("fifteen numbers", bihargesh_ccso(luma, 2, target, 2, flags, 1, by, 64, settings, 15, place, 1), -2);
+}
+
 int main(void) {
   thresholds();
   segments();
   refusals();
+  planes();
+  grids();
+  offsets();
   printf("C: %d checks, %d failures\n", checks, failures);
   return failures != 0;
 }

@@ -1,18 +1,6 @@
-//! Calls both functions of the static library from Rust, and holds them to a plain reading of document 01 on many random inputs.
+//! Calls document 01's two exported functions from Rust, and holds them to a plain reading of it on many random inputs.
 
-#[link(name = "cside", kind = "static")]
-extern "C" {
-    fn bihargesh_thresholds(curr: u16, prev: u16, delta_q: i32, delta_side: i32, depth: u32, steps: *const u8, steps_len: usize) -> i32;
-    fn bihargesh_segment(window: *mut u8, window_len: usize, depth: u32, pair: u32, q: u32, side: u32) -> i32;
-}
-
-fn thresholds(curr: u16, prev: u16, deltas: (i32, i32), depth: u32, steps: &[u8]) -> i32 {
-    unsafe { bihargesh_thresholds(curr, prev, deltas.0, deltas.1, depth, steps.as_ptr(), steps.len()) }
-}
-
-fn segment(window: &mut [u8], depth: u32, pair: u32, q: u32, side: u32) -> i32 {
-    unsafe { bihargesh_segment(window.as_mut_ptr(), window.len(), depth, pair, q, side) }
-}
+use bihargesh::{segment, thresholds, Reason, Thresholds};
 
 /// splitmix64
 struct Random(u64);
@@ -111,15 +99,15 @@ fn taps(l: &mut Line, n: i64, w: i64, q: i64, top: i64) {
 }
 
 /// What document 01 answers and leaves in the window.
-fn plain_segment(window: &mut [u8], depth: u32, pair: u32, q: u32, side: u32) -> i32 {
+fn plain_segment(window: &mut [u8], depth: u32, pair: u32, q: u32, side: u32) -> Result<usize, Reason> {
     if ![8, 10, 12].contains(&depth) {
-        return -1;
+        return Err(Reason::Depth);
     }
     if window.len() != 144 {
-        return -3;
+        return Err(Reason::Length);
     }
     if q > 2048 || side > 839 || pair > 7 {
-        return -5;
+        return Err(Reason::Setting);
     }
     let top = (1i64 << depth) - 1;
     let (before, after) = LENGTHS[pair as usize];
@@ -127,7 +115,7 @@ fn plain_segment(window: &mut [u8], depth: u32, pair: u32, q: u32, side: u32) ->
     for j in 0..4 {
         for k in (9 - reach(before) as usize)..(9 + reach(after) as usize) {
             if sample(window, j, k) > top {
-                return -8;
+                return Err(Reason::Sample);
             }
         }
     }
@@ -148,7 +136,7 @@ fn plain_segment(window: &mut [u8], depth: u32, pair: u32, q: u32, side: u32) ->
             window[2 * (18 * j + k) + 1] = (v / 256) as u8;
         }
     }
-    w as i32
+    Ok(w as usize)
 }
 
 /// A window that looks like a picture: flat, ramp, step or noise, now and then with a sample over top.
@@ -183,27 +171,28 @@ fn main() {
         checks += 1;
         if got != want || ours != plain {
             failures += 1;
-            println!("segment: depth {depth} pair {pair} q {q} side {side}: got {got}, want {want}");
+            println!("segment: depth {depth} pair {pair} q {q} side {side}: got {got:?}, want {want:?}");
         }
-        if want >= 0 {
-            widths[want as usize] += 1;
+        if let Ok(w) = want {
+            widths[w] += 1;
         }
     }
     let table = |f: &dyn Fn(u32) -> u32| -> Vec<u8> { (0..352).flat_map(|k| f(k).to_le_bytes()).collect() };
     let good = table(&|k| if k == 0 { 64 } else { 40 * k });
+    let both = |q: u32, side: u32| Ok(Thresholds { q, side });
     for (what, got, want) in [
-        ("depth 9", thresholds(1, 1, (0, 0), 9, &good), -1),
-        ("short table", thresholds(1, 1, (0, 0), 8, &good[..1404]), -4),
-        ("entry 0 not 64", thresholds(1, 1, (0, 0), 8, &table(&|k| 40 * k)), -4),
-        ("delta 128", thresholds(1, 1, (128, 0), 8, &good), -5),
-        ("side at 295, depth 12", thresholds(391, 391, (0, 0), 12, &good) & 65535, 839),
-        ("qindex 0 steps by 64", thresholds(0, 0, (0, 0), 8, &good), 0),
-        ("both deltas at their ends", thresholds(65535, 0, (127, -128), 10, &good), ((40 * 303 + 4) / 8 / 64 + (40 * 303 + 4) / 8 / 64 + 1) / 2 * 65536 + 210),
+        ("depth 9", thresholds(1, 1, 0, 0, 9, &good), Err(Reason::Depth)),
+        ("short table", thresholds(1, 1, 0, 0, 8, &good[..1404]), Err(Reason::Steps)),
+        ("entry 0 not 64", thresholds(1, 1, 0, 0, 8, &table(&|k| 40 * k)), Err(Reason::Steps)),
+        ("delta 128", thresholds(1, 1, 128, 0, 8, &good), Err(Reason::Setting)),
+        ("side at 295, depth 12", thresholds(391, 391, 0, 0, 12, &good), both((40 * 351 + 4) / 8 / 64, 839)),
+        ("qindex 0 steps by 64", thresholds(0, 0, 0, 0, 8, &good), both(0, 0)),
+        ("both deltas at their ends", thresholds(65535, 0, 127, -128, 10, &good), both(((40 * 303 + 4) / 8 / 64 + (40 * 303 + 4) / 8 / 64 + 1) / 2, 210)),
     ] {
         checks += 1;
         if got != want {
             failures += 1;
-            println!("{what}: got {got}, want {want}");
+            println!("{what}: got {got:?}, want {want:?}");
         }
     }
     println!("Rust: {checks} checks, {failures} failures; widths 0..8 reached {widths:?} times");

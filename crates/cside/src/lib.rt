@@ -12,9 +12,6 @@ pub mod two_blocks;
 // One segment on a window.
 pub mod window;
 
-// Settings as a list of numbers.
-pub mod settings;
-
 // One plane.
 pub mod planes;
 

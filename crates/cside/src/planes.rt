@@ -1,41 +1,10 @@
-// A plane for C: its settings as a list, the answer as a number, and the place of a refusal.
-use crate::answers::told;
-use crate::settings::count;
-use crate::settings::plane_of;
-use plane::deblock_plane;
-use rules::depth::Depth;
-use rules::refusals::Answer;
-use rules::refusals::Refusal;
+// A plane for C: its answer as a number, with the place of a refusal.
+use entries::answers::told;
+use entries::planes::deblock;
 ghost use Rattle.rules.specs.Plane.{grid, runPlane};
-ghost use Rattle.cside.specs.Told.{Handed, Reported};
-ghost use Rattle.cside.specs.Settings.{planeOf};
-ghost use Rattle.cside.specs.Planes.{cPlaneCheck};
-
-// Deblocks a plane, or refuses it and leaves it as lent.
-fn deblock(
-    plane: &mut [u16],
-    vedge: &[u8],
-    hedge: &[u8],
-    sqw: &[u8],
-    sqh: &[u8],
-    qindex: &[u16],
-    steps: &[u32],
-    settings: &[i32],
-) -> Answer
-    ensures { λ a. ⌜ Handed (cPlaneCheck (now (settings .entry)) (now (steps .entry)) (grid (now (vedge .entry)) (now (hedge .entry)) (now (sqw .entry)) (now (sqh .entry)) (now (qindex .entry))) (now (plane .entry))) (now (plane .entry)) (runPlane (planeOf (now (settings .entry))) (now (steps .entry)) (grid (now (vedge .entry)) (now (hedge .entry)) (now (sqw .entry)) (now (sqh .entry)) (now (qindex .entry))) (now (plane .entry))) a (now (plane .exit)) ⌝ }
-{
-    if settings.len() < 11 {
-        return Answer::Refused(Refusal::Size);
-    }
-    let s = plane_of(settings);
-    if !Depth::is(s.depth) {
-        return Answer::Refused(Refusal::Depth);
-    }
-    if 1 < count(settings, 7) {
-        return Answer::Refused(Refusal::Size);
-    }
-    deblock_plane(plane, vedge, hedge, sqw, sqh, qindex, steps, s)
-}
+ghost use Rattle.entries.specs.Told.{Reported};
+ghost use Rattle.entries.specs.Settings.{planeOf};
+ghost use Rattle.entries.specs.Planes.{cPlaneCheck};
 
 // 0, or minus the refusal number with its place in the first entry of `place`.
 #[no_mangle]

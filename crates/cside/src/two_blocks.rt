@@ -1,7 +1,7 @@
 // Thresholds for C: the step table as bytes, the answer as one number.
-use crate::answers::minus;
 use crate::answers::packed;
 use crate::bytes;
+use entries::answers::minus;
 use rules::depth::Depth;
 use rules::refusals::Thresholds;
 use thresholds::combine::combine_thresholds;

@@ -1,31 +1,9 @@
-// A TU grid for C: its settings as a list, the answer as a number, and the place of a refusal.
-use crate::answers::told;
-use crate::settings::tu_grid_of;
-use grid::tx_grid::build_tx_grid;
-use rules::refusals::Answer;
-use rules::refusals::Refusal;
+// A TU grid for C: its answer as a number, with the place of a refusal.
+use entries::answers::told;
+use entries::tx_grids::build;
 ghost use Rattle.rules.specs.TuGrid.{marks, txGridCheck, txGridOf};
-ghost use Rattle.cside.specs.Told.{listed, Handed, Reported};
-ghost use Rattle.cside.specs.Settings.{tuGridOf};
-
-// Builds the four lists, or refuses and leaves them as lent.
-fn build(
-    leaves: &[u16],
-    skips: &[u16],
-    vedge: &mut [u8],
-    hedge: &mut [u8],
-    sqw: &mut [u8],
-    sqh: &mut [u8],
-    settings: &[i32],
-) -> Answer
-    ensures { λ a. ⌜ Handed (listed 6 (now (settings .entry)) (txGridCheck (tuGridOf (now (settings .entry))) (now (leaves .entry)) (now (skips .entry)) (marks (now (vedge .entry)) (now (hedge .entry)) (now (sqw .entry)) (now (sqh .entry))))) (marks (now (vedge .entry)) (now (hedge .entry)) (now (sqw .entry)) (now (sqh .entry))) (txGridOf (tuGridOf (now (settings .entry))) (now (leaves .entry)) (now (skips .entry)) (marks (now (vedge .entry)) (now (hedge .entry)) (now (sqw .entry)) (now (sqh .entry)))) a (marks (now (vedge .exit)) (now (hedge .exit)) (now (sqw .exit)) (now (sqh .exit))) ⌝ }
-{
-    if settings.len() < 6 {
-        return Answer::Refused(Refusal::Size);
-    }
-    let s = tu_grid_of(settings);
-    build_tx_grid(leaves, skips, vedge, hedge, sqw, sqh, s)
-}
+ghost use Rattle.entries.specs.Told.{listed, Reported};
+ghost use Rattle.entries.specs.Settings.{tuGridOf};
 
 // 0, or minus the refusal number with its place in the first entry of `place`.
 #[no_mangle]

@@ -1,7 +1,7 @@
 // One segment for C: the window as bytes, the width as the answer.
-use crate::answers::minus;
 use crate::answers::width;
 use crate::bytes;
+use entries::answers::minus;
 use rules::depth::Depth;
 use rules::refusals::Width;
 use rules::settings::Lone;

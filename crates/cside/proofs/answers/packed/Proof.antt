@@ -3,7 +3,7 @@ use Prim.Native.Nat.{_+_, _*_}
 use mathlib.Core.Path.{refl}
 use native.Mathlib.Omega.{arith}
 use lib.IntN.{pos}
-use Rattle.cside.proofs.Numbers.{held}
+use Rattle.entries.proofs.Numbers.{held}
 use borrow.Author.Needs.{needs}
 use Rattle.cside.proofs.answers.packed.Statement.{statement}
 use Rattle.cside.proofs.answers.packed.Tie as tie

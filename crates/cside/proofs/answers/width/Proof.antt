@@ -2,7 +2,7 @@
 use mathlib.Core.Path.{refl}
 use native.Mathlib.Omega.{arith}
 use lib.IntN.{pos}
-use Rattle.cside.proofs.Numbers.{held}
+use Rattle.entries.proofs.Numbers.{held}
 use borrow.Author.Needs.{needs}
 use Rattle.cside.proofs.answers.width.Statement.{statement}
 use Rattle.cside.proofs.answers.width.Tie as tie

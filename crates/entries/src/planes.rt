@@ -1,0 +1,37 @@
+// A plane, by its settings as a list of numbers.
+use crate::settings::count;
+use crate::settings::plane_of;
+use plane::deblock_plane;
+use rules::depth::Depth;
+use rules::refusals::Answer;
+use rules::refusals::Refusal;
+ghost use Rattle.rules.specs.Plane.{grid, runPlane};
+ghost use Rattle.entries.specs.Told.{Handed};
+ghost use Rattle.entries.specs.Settings.{planeOf};
+ghost use Rattle.entries.specs.Planes.{cPlaneCheck};
+
+// Deblocks a plane, or refuses it and leaves it as lent.
+pub fn deblock(
+    plane: &mut [u16],
+    vedge: &[u8],
+    hedge: &[u8],
+    sqw: &[u8],
+    sqh: &[u8],
+    qindex: &[u16],
+    steps: &[u32],
+    settings: &[i32],
+) -> Answer
+    ensures { λ a. ⌜ Handed (cPlaneCheck (now (settings .entry)) (now (steps .entry)) (grid (now (vedge .entry)) (now (hedge .entry)) (now (sqw .entry)) (now (sqh .entry)) (now (qindex .entry))) (now (plane .entry))) (now (plane .entry)) (runPlane (planeOf (now (settings .entry))) (now (steps .entry)) (grid (now (vedge .entry)) (now (hedge .entry)) (now (sqw .entry)) (now (sqh .entry)) (now (qindex .entry))) (now (plane .entry))) a (now (plane .exit)) ⌝ }
+{
+    if settings.len() < 11 {
+        return Answer::Refused(Refusal::Size);
+    }
+    let s = plane_of(settings);
+    if !Depth::is(s.depth) {
+        return Answer::Refused(Refusal::Depth);
+    }
+    if 1 < count(settings, 7) {
+        return Answer::Refused(Refusal::Size);
+    }
+    deblock_plane(plane, vedge, hedge, sqw, sqh, qindex, steps, s)
+}
