@@ -1,0 +1,87 @@
+// Replays a stream of frames and prints one line: how many there were, how they came out, and how many differ.
+
+// the numbers and lists of a line
+mod read;
+// the lists after the call, held against the line's
+mod held;
+// one frame of the stream
+mod case;
+// what is counted and printed
+mod tally;
+
+ghost use mathlib.Core.Path.{_≡_};
+ghost use lib.ListN.{length};
+use cases::Cursor;
+use tally::Tally;
+
+// What is counted so far, and the length of the step table that stands.
+struct Run {
+    tally: Tally,
+    steps: usize,
+}
+
+// The buffer: the longest line that a stream may have.
+fn room() -> [u8; 4194304] {
+    [0; 4194304]
+}
+
+// A line that sets the step table.
+fn set_steps(text: &[u8], c: Cursor, steps: &mut [u32], t: Tally) -> Run
+    ensures { λ r. ⌜ length (now (steps .exit)) ≡ length (now (steps .entry)) ⌝ }
+{
+    let l = cases::read_u32s(text, c, steps);
+    let n = l.length;
+    let rest = l.rest;
+    if rest.good {
+        return Run { tally: t, steps: n };
+    }
+    Run {
+        tally: tally::unread(t),
+        steps: n,
+    }
+}
+
+// A line of either kind.
+fn replay(text: &[u8], c: Cursor, steps: &mut [u32], before: Run) -> Run
+    ensures { λ r. ⌜ length (now (steps .exit)) ≡ length (now (steps .entry)) ⌝ }
+{
+    let t = before.tally;
+    let n = before.steps;
+    let kind = cases::read_unsigned(text, c, 2);
+    let rest = kind.rest;
+    if kind.value == 1 {
+        return set_steps(text, rest, steps, t);
+    }
+    if kind.value != 2 || steps.len() < n {
+        return Run {
+            tally: tally::unread(t),
+            steps: n,
+        };
+    }
+    Run {
+        tally: case::replay(text, rest, &steps[..n], t),
+        steps: n,
+    }
+}
+
+// Every line.
+fn replay_all(buf: &mut [u8], steps: &mut [u32]) -> Tally {
+    let mut run = Run {
+        tally: tally::none(),
+        steps: 0,
+    };
+    let mut l = cases::next_line(buf, cases::start());
+    let mut turns = u64::MAX;
+    while turns > 0 && l.good {
+        run = replay(buf, cases::line(l), steps, run);
+        l = cases::next_line(buf, l);
+        turns -= 1;
+    }
+    run.tally
+}
+
+fn main() {
+    let mut buf = room();
+    let mut steps = [0u32; 400];
+    tally::print(replay_all(&mut buf, &mut steps));
+}

@@ -1,0 +1,199 @@
+// The numbers and lists of a line, in the stream's order.
+ghost use Prim.Native.Nat.{_≤_};
+ghost use lib.ListN.{length};
+ghost use Rattle.cases.specs.Lists.{Fills};
+use cases::Cursor;
+use cases::Listed;
+use rules::settings::Frame;
+
+// The settings and what follows them.
+pub struct Asked {
+    pub f: Frame,
+    pub rest: Cursor,
+}
+
+// How long three lists are, and what follows them.
+pub struct Three {
+    pub a: usize,
+    pub b: usize,
+    pub c: usize,
+    pub rest: Cursor,
+}
+
+// How long the five lists of a grid are, and what follows them.
+pub struct Five {
+    pub vedge: usize,
+    pub hedge: usize,
+    pub sqw: usize,
+    pub sqh: usize,
+    pub qindex: usize,
+    pub rest: Cursor,
+}
+
+// The answer, and what follows it.
+pub struct Told {
+    pub number: usize,
+    pub place: usize,
+    pub rest: Cursor,
+}
+
+// The picture's numbers. They are read past 32 bits: the stream has refused ones of that size.
+struct Picture {
+    width: usize,
+    height: usize,
+    ssx: usize,
+    ssy: usize,
+    has: usize,
+    deblock: usize,
+    depth: u32,
+    rest: Cursor,
+}
+
+fn picture_of(text: &[u8], c: Cursor) -> Picture {
+    let width = cases::read_unsigned(text, c, 1099511627775);
+    let height = cases::read_unsigned(text, width.rest, 1099511627775);
+    let ssx = cases::read_unsigned(text, height.rest, 1099511627775);
+    let ssy = cases::read_unsigned(text, ssx.rest, 1099511627775);
+    let has = cases::read_unsigned(text, ssy.rest, 1);
+    let deblock = cases::read_unsigned(text, has.rest, 1);
+    let depth = cases::read_unsigned(text, deblock.rest, 4294967295);
+    let rest = depth.rest;
+    Picture {
+        width: width.value,
+        height: height.value,
+        ssx: ssx.value,
+        ssy: ssy.value,
+        has: has.value,
+        deblock: deblock.value,
+        depth: depth.value as u32,
+        rest,
+    }
+}
+
+// The settings after the kind.
+pub fn settings(text: &[u8], c: Cursor) -> Asked {
+    let p = picture_of(text, c);
+    let deltay = cases::read_signed(text, p.rest);
+    let deltauv = cases::read_signed(text, deltay.rest);
+    let lumastride = cases::read_unsigned(text, deltauv.rest, 1099511627775);
+    let chromastride = cases::read_unsigned(text, lumastride.rest, 1099511627775);
+    let capw = cases::read_unsigned(text, chromastride.rest, 1099511627775);
+    let caph = cases::read_unsigned(text, capw.rest, 1099511627775);
+    let ccapw = cases::read_unsigned(text, caph.rest, 1099511627775);
+    let ccaph = cases::read_unsigned(text, ccapw.rest, 1099511627775);
+    let rest = ccaph.rest;
+    Asked {
+        f: Frame {
+            width: p.width,
+            height: p.height,
+            ssx: p.ssx,
+            ssy: p.ssy,
+            haschroma: p.has == 1,
+            chromadeblock: p.deblock == 1,
+            depth: p.depth,
+            deltay: deltay.value,
+            deltauv: deltauv.value,
+            lumastride: lumastride.value,
+            chromastride: chromastride.value,
+            capw: capw.value,
+            caph: caph.value,
+            ccapw: ccapw.value,
+            ccaph: ccaph.value,
+        },
+        rest,
+    }
+}
+
+// A number that fits no u16 is bad in a leaf, and so is 65535.
+fn leaf_number(n: u32) -> u16 {
+    if n < 65536 { n as u16 } else { 65535 }
+}
+
+// A list of leaves.
+fn leaves(text: &[u8], c: Cursor, to: &mut [u16]) -> Listed
+    requires { ⌜ 32768 ≤ length (now to) ⌝ }
+    ensures { λ r. ⌜ Fills (r .length) (now (to .entry)) (now (to .exit)) ⌝ }
+{
+    let mut wide = [0u32; 32768];
+    let l = cases::read_u32s(text, c, &mut wide);
+    let n = l.length;
+    let mut i = 0;
+    while i < n {
+        to[i] = leaf_number(wide[i]);
+        i += 1;
+    }
+    l
+}
+
+// The three lists of leaves.
+pub fn three_leaves(text: &[u8], at: Cursor, a: &mut [u16], b: &mut [u16], c: &mut [u16]) -> Three
+    requires { ⌜ (32768 ≤ length (now a)) × (32768 ≤ length (now b)) × (32768 ≤ length (now c)) ⌝ }
+    ensures { λ r. ⌜ Fills (r .a) (now (a .entry)) (now (a .exit)) × Fills (r .b) (now (b .entry)) (now (b .exit)) × Fills (r .c) (now (c .entry)) (now (c .exit)) ⌝ }
+{
+    let x = leaves(text, at, a);
+    let y = leaves(text, x.rest, b);
+    let z = leaves(text, y.rest, c);
+    let rest = z.rest;
+    Three {
+        a: x.length,
+        b: y.length,
+        c: z.length,
+        rest,
+    }
+}
+
+// The three planes.
+pub fn planes(text: &[u8], at: Cursor, a: &mut [u16], b: &mut [u16], c: &mut [u16]) -> Three
+    ensures { λ r. ⌜ Fills (r .a) (now (a .entry)) (now (a .exit)) × Fills (r .b) (now (b .entry)) (now (b .exit)) × Fills (r .c) (now (c .entry)) (now (c .exit)) ⌝ }
+{
+    let x = cases::read_u16s(text, at, a);
+    let y = cases::read_u16s(text, x.rest, b);
+    let z = cases::read_u16s(text, y.rest, c);
+    let rest = z.rest;
+    Three {
+        a: x.length,
+        b: y.length,
+        c: z.length,
+        rest,
+    }
+}
+
+// The five lists of a grid.
+pub fn grid(
+    text: &[u8],
+    c: Cursor,
+    vedge: &mut [u8],
+    hedge: &mut [u8],
+    sqw: &mut [u8],
+    sqh: &mut [u8],
+    qindex: &mut [u16],
+) -> Five
+    ensures { λ r. ⌜ Fills (r .vedge) (now (vedge .entry)) (now (vedge .exit)) × Fills (r .hedge) (now (hedge .entry)) (now (hedge .exit)) × Fills (r .sqw) (now (sqw .entry)) (now (sqw .exit)) × Fills (r .sqh) (now (sqh .entry)) (now (sqh .exit)) × Fills (r .qindex) (now (qindex .entry)) (now (qindex .exit)) ⌝ }
+{
+    let v = cases::read_u8s(text, c, vedge);
+    let h = cases::read_u8s(text, v.rest, hedge);
+    let w = cases::read_u8s(text, h.rest, sqw);
+    let t = cases::read_u8s(text, w.rest, sqh);
+    let q = cases::read_u16s(text, t.rest, qindex);
+    let rest = q.rest;
+    Five {
+        vedge: v.length,
+        hedge: h.length,
+        sqw: w.length,
+        sqh: t.length,
+        qindex: q.length,
+        rest,
+    }
+}
+
+// The answer.
+pub fn told_of(text: &[u8], c: Cursor) -> Told {
+    let number = cases::read_unsigned(text, c, 9);
+    let place = cases::read_unsigned(text, number.rest, 4294967295);
+    let rest = place.rest;
+    Told {
+        number: number.value,
+        place: place.value,
+        rest,
+    }
+}
