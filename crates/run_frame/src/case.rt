@@ -2,11 +2,10 @@
 use crate::held;
 use crate::read;
 use crate::read::Told;
-use crate::tally;
-use crate::tally::Tally;
 use cases::Cursor;
 use frame::frame::deblock_frame;
 use rules::settings::Frame;
+use tally::Tally;
 
 // Whether every list is the line's.
 fn same(
@@ -99,6 +98,15 @@ fn compare(
     held::both(tally::same(answer, told.number, told.place), lists)
 }
 
+// One line more; of one that is read, the answer and the lists were held against the stream's.
+fn counted(before: Tally, told: Told, same: bool) -> Tally {
+    let rest = told.rest;
+    if !rest.good {
+        return tally::unread(before);
+    }
+    tally::case(before, told.number, same)
+}
+
 // With chroma's grid and the answer.
 fn with_chroma(
     text: &[u8],
@@ -156,7 +164,7 @@ fn with_chroma(
         &mut ct[..nct],
         &mut cq[..ncq],
     );
-    tally::case(t, told, same)
+    counted(t, told, same)
 }
 
 // With luma's grid.

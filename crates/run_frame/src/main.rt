@@ -6,8 +6,6 @@ mod read;
 mod held;
 // one frame of the stream
 mod case;
-// what is counted and printed
-mod tally;
 
 ghost use mathlib.Core.Path.{_≡_};
 ghost use lib.ListN.{length};
