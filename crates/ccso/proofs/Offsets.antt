@@ -67,27 +67,15 @@ module _ {s : Ccso} {k : Counts} (up : Raised s k) (v r : ℕ) (z : ℤ) (h : Is
   unfolding offsetSample
   moved-is = limit-is (topOf (s .depth)) _ (plus (pos v) (z *ℤ pos (s .scale)) (count v) (times z (s .scale) h))
 
-  pub sample-low : v + r * s .scale < 10 * s .scale → 0 ≡ offsetSample s v z
-  sample-low l = zero-is ∙ sym moved-is
+  pub sample-is : (m w : ℕ) → m ≡ v + r * s .scale - 10 * s .scale → w ≡ min m (k .top) → w ≡ offsetSample s v z
+  sample-is m w e f = f ∙ recount ∙ sym moved-is
     where
-      zero-is : 0 ≡ min (v + r * s .scale - (0 + 10 * s .scale)) (topOf (s .depth))
-      zero-is = omega arith
-
-  pub sample-in : 10 * s .scale ≤ v + r * s .scale → v + r * s .scale - 10 * s .scale < k .top → v + r * s .scale - 10 * s .scale ≡ offsetSample s v z
-  sample-in a l = in-is ∙ sym moved-is
-    where
-      in-is : v + r * s .scale - 10 * s .scale ≡ min (v + r * s .scale - (0 + 10 * s .scale)) (topOf (s .depth))
-      in-is = omega arith
-
-  pub sample-high : 10 * s .scale ≤ v + r * s .scale → k .top ≤ v + r * s .scale - 10 * s .scale → k .top ≡ offsetSample s v z
-  sample-high a l = top-is ∙ sym moved-is
-    where
-      top-is : k .top ≡ min (v + r * s .scale - (0 + 10 * s .scale)) (topOf (s .depth))
-      top-is = omega arith
+      recount : min m (k .top) ≡ min (v + r * s .scale - (0 + 10 * s .scale)) (topOf (s .depth))
+      recount = omega (arith, up .top)
 
 pub ruleset bands = (needs, band16-fits, class0-fits, class1-fits)
 
-pub ruleset moves = (needs, byte-word, byte-within, byte-is, part-fits, sum-fits, sample-low, sample-in, sample-high)
+pub ruleset moves = (needs, byte-word, byte-within, byte-is, part-fits, sum-fits, sample-is)
 
 -- the offset that the code read at a place in use, and the sample with it
 module _ {s : Ccso} (offsets : List ℤ) (small : Small s offsets) (p : ℕ) (h : p < offsetCount s) where

@@ -1,6 +1,6 @@
 // One sample of the target: the place of its offset, and the sample with that offset.
 ghost use mathlib.Core.Path.{_≡_};
-ghost use Prim.Native.Nat.{_≤_, _<_};
+ghost use Prim.Native.Nat.{_≤_, _<_, _-_, min};
 ghost use lib.IntN.{pos};
 ghost use lib.ListN.{getD};
 ghost use Rattle.rules.specs.Ccso.{targetWidth, offsetPlace, offsetSample, offsetCount, placeAt};
@@ -23,6 +23,20 @@ fn offset_place(s: Ccso, c: u16, class0: u32, class1: u32) -> usize
     16 * band + 4 * class0 as usize + class1 as usize
 }
 
+// How far a lies past b: 0 where it does not.
+fn past(a: u32, b: u32) -> u32
+    ensures { λ r. ⌜ r ≡ a - b ⌝ }
+{
+    if a < b { 0 } else { a - b }
+}
+
+// The lower of two.
+fn lower(a: u32, b: u32) -> u32
+    ensures { λ r. ⌜ r ≡ min a b ⌝ }
+{
+    if a < b { a } else { b }
+}
+
 // A sample v with an offset, limited to 0..top.
 fn offset_sample(s: Ccso, k: Counts, v: u16, offset: i8) -> u16
     requires { ⌜ Raised s k ⌝ }
@@ -31,15 +45,7 @@ fn offset_sample(s: Ccso, k: Counts, v: u16, offset: i8) -> u16
 {
     let up = v as u32 + raised(offset as i32, 10) * s.scale;
     let down = 10 * s.scale;
-    if up < down {
-        return 0;
-    }
-    let moved = up - down;
-    if moved < k.top {
-        moved as u16
-    } else {
-        k.top as u16
-    }
+    lower(past(up, down), k.top) as u16
 }
 
 // The place of the offset of column x.

@@ -19,32 +19,19 @@ add-up c = search moves
 mul-down : tie.Need-mul-down
 mul-down c = search needs
 
-returns : tie.Need-returns
-returns c = search moves
+past-requires : tie.Need-past-requires
+past-requires c κs = search needs
+
+lower-requires : tie.Need-lower-requires
+lower-requires c κs = search needs
 
 cast-result : tie.Need-cast-result
-cast-result c = search needs
+cast-result c = search moves
 
-cast-result-2 : tie.Need-cast-result-2
-cast-result-2 c = search needs
-
-returns-2 : tie.Need-returns-2
-returns-2 c = search moves
-
-returns-3 : tie.Need-returns-3
-returns-3 c = search moves
+returns : tie.Need-returns
+returns c = search moves
 
 pub offset-sample-spec : {M : Type 1} → statement M
 offset-sample-spec =
     tie.close
-    (tie.spec
-    cast-raised
-    raised-requires
-    mul-up
-    add-up
-    mul-down
-    returns
-    cast-result
-    cast-result-2
-    returns-2
-    returns-3)
+    (tie.spec cast-raised raised-requires mul-up add-up mul-down past-requires lower-requires cast-result returns)
