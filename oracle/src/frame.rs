@@ -212,7 +212,7 @@ fn damaged_settings(random: &Random, c: &mut Case) {
         1 => c.size.0 = damage::count(random, 4096),
         2 => c.size.1 = damage::count(random, 4096),
         3 => c.sub = damage::subsampling(random),
-        4 => c.strides.0 = random.one_of(&[0, c.strides.0 - c.strides.0 % 8 - 1, 8193]),
+        4 => c.strides.0 = random.one_of(&[0, (c.strides.0 - c.strides.0 % 8).saturating_sub(1), 8193]),
         5 => c.strides.1 = random.one_of(&[0, (c.strides.1 - c.strides.1 % 8).saturating_sub(1), 8193]),
         6 => c.deltas.0 = damage::delta(random),
         7 => c.deltas.1 = damage::delta(random),
