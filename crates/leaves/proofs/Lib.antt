@@ -1,0 +1,8 @@
+-- The laws of lists of records, and what a walk over one needs.
+pub mod Flat
+pub mod Entry
+pub mod Unique
+pub mod While
+pub mod Again
+pub mod Four
+pub mod Asks

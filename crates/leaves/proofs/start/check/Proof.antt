@@ -1,0 +1,53 @@
+-- `check` makes the checks 2, 3, 5 and 9 in this order, whatever the lists hold. Assumes nothing.
+use Rattle.leaves.specs.Records.{recordCheck}
+use Rattle.grid.proofs.Checked.{tx-cells, long-by}
+use Rattle.scan.proofs.Checks.{stop, go-on, unless-bad, unless-good}
+use Rattle.laws.specs.Choose.{told-yes-not, told-no-not}
+use borrow.Author.Needs.{needs}
+use Rattle.leaves.proofs.start.check.Statement.{statement}
+use Rattle.leaves.proofs.start.check.Tie as tie
+
+sizes-ok-requires : tie.Need-sizes-ok-requires
+sizes-ok-requires c κs = search needs
+
+returns : tie.Need-returns
+unfolding recordCheck
+returns c = record { of = λ g m. stop _ _ (unless-bad _ _ (told-no-not _ _ (c .before .sizes-ok .ensures) (c .if1 .taken))) }
+
+mul-marks-long : tie.Need-mul-marks-long
+mul-marks-long c = tx-cells (c .before .before .before .args .s) (told-yes-not _ _ (c .before .before .sizes-ok .ensures) (c .before .if1 .left))
+
+marks-long-requires : tie.Need-marks-long-requires
+marks-long-requires c κs = search needs
+
+returns-2 : tie.Need-returns-2
+unfolding recordCheck
+returns-2 c = record { of = λ g m. rw (← long-by _ _ _ _ _ g m) (go-on _ _ _ (unless-good _ _ (told-yes-not _ _ (c .before .before .before .before .sizes-ok .ensures) (c .before .before .before .if1 .left))) (stop _ _ (unless-bad _ _ (told-no-not _ _ (c .before .marks-long .ensures) (c .if2 .taken))))) }
+
+caps-ok-requires : tie.Need-caps-ok-requires
+caps-ok-requires c κs = search needs
+
+returns-3 : tie.Need-returns-3
+unfolding recordCheck
+returns-3 c = record { of = λ g m. rw (← long-by _ _ _ _ _ g m) (go-on _ _ _ (unless-good _ _ (told-yes-not _ _ (c .before .before .before .before .before .before .sizes-ok .ensures) (c .before .before .before .before .before .if1 .left))) (go-on _ _ _ (unless-good _ _ (told-yes-not _ _ (c .before .before .before .marks-long .ensures) (c .before .before .if2 .left))) (stop _ _ (unless-bad _ _ (told-no-not _ _ (c .before .caps-ok .ensures) (c .if3 .taken)))))) }
+
+leaves-ok-requires : tie.Need-leaves-ok-requires
+leaves-ok-requires c κs = search needs
+
+returns-4 : tie.Need-returns-4
+unfolding recordCheck
+returns-4 c = record { of = λ g m. rw (← long-by _ _ _ _ _ g m) (go-on _ _ _ (unless-good _ _ (told-yes-not _ _ (c .before .before .before .before .before .before .before .sizes-ok .ensures) (c .before .before .before .before .before .before .if1 .left))) (go-on _ _ _ (unless-good _ _ (told-yes-not _ _ (c .before .before .before .before .marks-long .ensures) (c .before .before .before .if2 .left))) (go-on _ _ _ (unless-good _ _ (told-yes-not _ _ (c .before .before .caps-ok .ensures) (c .before .if3 .left))) (c .leaves-ok .ensures)))) }
+
+pub check-spec : {M : Type 1} → statement M
+check-spec =
+    tie.close
+    (tie.spec
+    sizes-ok-requires
+    returns
+    mul-marks-long
+    marks-long-requires
+    returns-2
+    caps-ok-requires
+    returns-3
+    leaves-ok-requires
+    returns-4)

@@ -1,0 +1,2 @@
+-- What this crate's contracts say beyond the rules.
+pub mod Records
