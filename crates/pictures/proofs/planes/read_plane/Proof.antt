@@ -1,0 +1,84 @@
+-- `read_plane` goes from row to row within the plane. Assumes nothing.
+use borrow.Author.Needs.{needs}
+use Prim.Native.Nat.{_+_, _-_, _*_, _≤_, _<_}
+use mathlib.Core.Path.{_≡_}
+use lib.ListN.{length}
+use Rattle.pictures.proofs.planes.read_plane.Statement.{statement}
+use Rattle.pictures.proofs.planes.read_plane.Tie as tie
+
+abbrev Inv-loop : tie.InvT-loop
+Inv-loop fd plane₀ s wide bytes₀ n at₀ r₀ plane bytes at r = (length bytes ≡ 8192) × (at ≤ 4096 * r) × (r ≤ 4096) × (length plane ≡ length plane₀)
+
+abbrev μ-loop : tie.MeasureT-loop
+μ-loop fd plane₀ s wide bytes₀ n at₀ r₀ plane bytes at r = s .rows - r
+
+row-bytes-requires : tie.Need-row-bytes-requires Inv-loop μ-loop
+row-bytes-requires c κs = search needs
+
+loop-holds : tie.Need-loop-holds Inv-loop μ-loop
+loop-holds c = search needs
+
+slice-aggregate-read-row : tie.Need-slice-aggregate-read-row Inv-loop μ-loop
+slice-aggregate-read-row c = search needs
+
+read-row-requires : tie.Need-read-row-requires Inv-loop μ-loop
+read-row-requires c κs = search needs
+
+same-length : tie.Need-same-length Inv-loop μ-loop
+same-length c = search needs
+
+returns : tie.Need-returns Inv-loop μ-loop
+returns c = search needs
+
+slice-aggregate-put-row : tie.Need-slice-aggregate-put-row Inv-loop μ-loop
+slice-aggregate-put-row c = search needs
+
+put-row-requires : tie.Need-put-row-requires Inv-loop μ-loop
+put-row-requires c κs = search needs
+
+same-length-2 : tie.Need-same-length-2 Inv-loop μ-loop
+same-length-2 c = search needs
+
+returns-2 : tie.Need-returns-2 Inv-loop μ-loop
+returns-2 c = search needs
+
+add-at : tie.Need-add-at Inv-loop μ-loop
+add-at c = search needs
+
+add-r : tie.Need-add-r Inv-loop μ-loop
+add-r c = search needs
+
+loop-less : tie.Need-loop-less Inv-loop μ-loop
+loop-less c = search needs
+
+loop-again : tie.Need-loop-again Inv-loop μ-loop
+loop-again c = search needs
+
+same-length-3 : tie.Need-same-length-3 Inv-loop μ-loop
+same-length-3 c = search needs
+
+returns-3 : tie.Need-returns-3 Inv-loop μ-loop
+returns-3 c = search needs
+
+pub read-plane-spec : {M : Type 1} → statement M
+read-plane-spec =
+    tie.close
+    (tie.spec
+    Inv-loop
+    μ-loop
+    row-bytes-requires
+    loop-holds
+    slice-aggregate-read-row
+    read-row-requires
+    same-length
+    returns
+    slice-aggregate-put-row
+    put-row-requires
+    same-length-2
+    returns-2
+    add-at
+    add-r
+    loop-less
+    loop-again
+    same-length-3
+    returns-3)

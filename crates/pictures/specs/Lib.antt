@@ -1,0 +1,2 @@
+-- What `specs/` holds: the shape of a plane.
+pub mod Shapes

@@ -1,0 +1,209 @@
+// What the settings do not say: numbers, steps, a qindex for every superblock, a leaf for every superblock.
+ghost use mathlib.Core.Path.{_≡_};
+ghost use Prim.Native.Nat.{_+_, _≤_, _<_};
+ghost use lib.ListN.{length};
+
+// Deltas 0, caps of 16 cells, chroma deblocked.
+pub fn numbers() -> [i32; 64] {
+    [
+        0,
+        0,
+        0,
+        16,
+        16,
+        16,
+        16,
+        1,
+        0,
+        0,
+        0,
+        0,
+        0,
+        0,
+        0,
+        0,
+        0,
+        0,
+        0,
+        0,
+        0,
+        0,
+        0,
+        0,
+        0,
+        0,
+        0,
+        0,
+        0,
+        0,
+        0,
+        0,
+        0,
+        0,
+        0,
+        0,
+        0,
+        0,
+        0,
+        0,
+        0,
+        0,
+        0,
+        0,
+        0,
+        0,
+        0,
+        0,
+        0,
+        0,
+        0,
+        0,
+        0,
+        0,
+        0,
+        0,
+        0,
+        0,
+        0,
+        0,
+        0,
+        0,
+        0,
+        0,
+    ]
+}
+
+pub fn shorts() -> [u16; 12587008] {
+    [0; 12587008]
+}
+
+// The first 25 entries of the published table of AC steps.
+const FIRST: [u32; 25] = [
+    64,
+    40,
+    41,
+    43,
+    44,
+    45,
+    47,
+    48,
+    49,
+    51,
+    52,
+    54,
+    55,
+    57,
+    59,
+    60,
+    62,
+    64,
+    66,
+    68,
+    70,
+    72,
+    74,
+    76,
+    78,
+];
+
+// The table's next entry after i of them: twice the one 24 before it, and from 255 on the same.
+fn next_step(t: &[u32; 352], i: usize) -> u32
+    requires { ⌜ i < 352 ⌝ }
+{
+    if i < 25 {
+        return FIRST[i];
+    }
+    if 255 < i {
+        return t[i - 1];
+    }
+    let e = t[i - 24];
+    if e < 1048576 { 2 * e } else { e }
+}
+
+// The published table of AC steps.
+pub fn steps() -> [u32; 352] {
+    let mut t = [0u32; 352];
+    let mut i: usize = 0;
+    while i < 352 {
+        t[i] = next_step(&t, i);
+        i += 1;
+    }
+    t
+}
+
+// The last qindex of n serves the superblocks after it.
+fn repeat_last(shorts: &mut [u16], n: usize)
+    requires { ⌜ 4096 ≤ length (now shorts) ⌝ }
+    ensures { λ _. ⌜ length (now (shorts .exit)) ≡ length (now (shorts .entry)) ⌝ }
+{
+    if n == 0 {
+        return;
+    }
+    let mut k = n;
+    while k < 4096 {
+        shorts[k] = shorts[k - 1];
+        k += 1;
+    }
+}
+
+fn put(shorts: &mut [u16], at: usize, v: u16)
+    requires { ⌜ at < length (now shorts) ⌝ }
+    ensures { λ _. ⌜ length (now (shorts .exit)) ≡ length (now (shorts .entry)) ⌝ }
+{
+    shorts[at] = v;
+}
+
+// One leaf of 16 by 16 cells.
+fn put_leaf(shorts: &mut [u16], at: usize, row: u16, column: u16)
+    requires { ⌜ at + 4 ≤ length (now shorts) ⌝ }
+    ensures { λ _. ⌜ length (now (shorts .exit)) ≡ length (now (shorts .entry)) ⌝ }
+{
+    put(shorts, at, row);
+    put(shorts, at + 1, column);
+    put(shorts, at + 2, 16);
+    put(shorts, at + 3, 16);
+}
+
+// A row of superblocks.
+fn leaf_row(shorts: &mut [u16], at: usize, row: u16, across: usize)
+    requires { ⌜ (across ≤ 64) × (at + 256 ≤ length (now shorts)) ⌝ }
+    ensures { λ _. ⌜ length (now (shorts .exit)) ≡ length (now (shorts .entry)) ⌝ }
+{
+    let mut c: usize = 0;
+    while c < across {
+        put_leaf(shorts, at + 4 * c, row, (16 * c) as u16);
+        c += 1;
+    }
+}
+
+// A leaf for every superblock; answers the place after the last.
+fn tile(shorts: &mut [u16], across: usize, down: usize) -> usize
+    requires { ⌜ (across ≤ 64) × (down ≤ 64) × (24576 ≤ length (now shorts)) ⌝ }
+{
+    let mut at: usize = 4096;
+    let mut r: usize = 0;
+    while r < down {
+        leaf_row(shorts, at, (16 * r) as u16, across);
+        at += 4 * across;
+        r += 1;
+    }
+    at
+}
+
+// Superblocks of 64 samples.
+fn blocks(n: usize) -> usize
+    requires { ⌜ n ≤ 4096 ⌝ }
+    ensures { λ r. ⌜ r ≤ 64 ⌝ }
+{
+    (n + 63) / 64
+}
+
+// What the picture's size decides.
+pub fn complete(shorts: &mut [u16], places: &mut [usize; 21], width: usize, height: usize)
+    requires { ⌜ (width ≤ 4096) × (height ≤ 4096) × (24576 ≤ length (now shorts)) ⌝ }
+{
+    repeat_last(shorts, places[2]);
+    if places[4] == 4096 {
+        places[4] = tile(shorts, blocks(width), blocks(height));
+    }
+}

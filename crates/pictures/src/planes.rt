@@ -1,0 +1,172 @@
+// A picture's planes: read into rows with padding, packed, and written.
+ghost use mathlib.Core.Path.{_≡_};
+ghost use Prim.Native.Nat.{_+_, _*_, _≤_};
+ghost use lib.ListN.{length};
+ghost use Rattle.pictures.specs.Shapes.{Fit};
+use laws::least;
+use y4m::samples::to_bytes;
+use y4m::samples::to_samples;
+
+// A plane's size, and the same rounded up to 8.
+pub struct Shape {
+    pub width: usize,
+    pub height: usize,
+    pub stride: usize,
+    pub rows: usize,
+}
+
+// Rounded up to 8.
+fn eights(n: usize) -> usize
+    requires { ⌜ n ≤ 4096 ⌝ }
+    ensures { λ r. ⌜ (n ≤ r) × (r ≤ 4096) ⌝ }
+{
+    (n + 7) / 8 * 8
+}
+
+// A size by its subsampling, rounded up.
+fn halved(n: usize, ss: usize) -> usize
+    requires { ⌜ (1 ≤ n) × (n ≤ 4096) ⌝ }
+    ensures { λ r. ⌜ (1 ≤ r) × (r ≤ 4096) ⌝ }
+{
+    if ss == 0 { n } else { (n + 1) / 2 }
+}
+
+// The shape of a plane of a picture, by its subsampling.
+pub fn shape_of(width: usize, height: usize, ssx: usize, ssy: usize) -> Shape
+    requires { ⌜ (1 ≤ width) × (width ≤ 4096) × (1 ≤ height) × (height ≤ 4096) ⌝ }
+    ensures { λ r. ⌜ Fit r ⌝ }
+{
+    let w = halved(width, ssx);
+    let h = halved(height, ssy);
+    Shape {
+        width: w,
+        height: h,
+        stride: eights(w),
+        rows: eights(h),
+    }
+}
+
+// Samples of the largest plane.
+pub fn samples_room() -> [u16; 16777216] {
+    [0; 16777216]
+}
+
+// How many bytes a row has.
+fn row_bytes(width: usize, wide: bool) -> usize
+    requires { ⌜ width ≤ 4096 ⌝ }
+    ensures { λ r. ⌜ r ≤ 8192 ⌝ }
+{
+    if wide { 2 * width } else { width }
+}
+
+// The next row's bytes to the front of the buffer, where the plane has another row; false where the file ends before.
+fn read_row(fd: i32, bytes: &mut [u8], n: usize, more: bool) -> bool
+    requires { ⌜ n ≤ length (now bytes) ⌝ }
+{
+    if !more {
+        return true;
+    }
+    io::read_full(fd, &mut bytes[..n]) == n
+}
+
+// One row of a plane from the buffer; false where the plane has no such row.
+fn put_row(bytes: &[u8], plane: &mut [u16], at: usize, s: Shape, wide: bool) -> bool
+    requires { ⌜ Fit s × (at ≤ 16777216) ⌝ }
+{
+    let end = at + s.stride;
+    if plane.len() < end {
+        return false;
+    }
+    to_samples(bytes, &mut plane[at..end], s.width, wide);
+    true
+}
+
+// A plane from a file; rows past the last one repeat it. False where the file ends before.
+pub fn read_plane(fd: i32, plane: &mut [u16], s: Shape, wide: bool) -> bool
+    requires { ⌜ Fit s ⌝ }
+{
+    let mut bytes = [0u8; 8192];
+    let n = row_bytes(s.width, wide);
+    let mut at: usize = 0;
+    let mut r: usize = 0;
+    while r < s.rows {
+        if !read_row(fd, &mut bytes, n, r < s.height) {
+            return false;
+        }
+        if !put_row(&bytes, plane, at, s, wide) {
+            return false;
+        }
+        at += s.stride;
+        r += 1;
+    }
+    true
+}
+
+// Moves n samples towards the front.
+fn move_row(plane: &mut [u16], from: usize, to: usize, n: usize)
+    requires { ⌜ (to ≤ from) × (from + n ≤ length (now plane)) ⌝ }
+{
+    let mut k: usize = 0;
+    while k < n {
+        plane[to + k] = plane[from + k];
+        k += 1;
+    }
+}
+
+// Takes the padding out of a plane: its rows then follow each other.
+pub fn pack(plane: &mut [u16], s: Shape)
+    requires { ⌜ Fit s ⌝ }
+{
+    let mut from: usize = 0;
+    let mut to: usize = 0;
+    let mut r: usize = 0;
+    while r < s.height {
+        if plane.len() < from + s.width {
+            return;
+        }
+        move_row(plane, from, to, s.width);
+        from += s.stride;
+        to += s.width;
+        r += 1;
+    }
+}
+
+// One row of a packed plane to a file.
+fn write_row(fd: i32, row: &[u16], bytes: &mut [u8], n: usize, wide: bool) -> bool
+    requires { ⌜ n ≤ length (now bytes) ⌝ }
+{
+    to_bytes(row, &mut bytes[..n], wide);
+    io::write_all(fd, &bytes[..n])
+}
+
+// A packed plane to a file; false where a row can't be written.
+pub fn write_plane(fd: i32, plane: &[u16], s: Shape, wide: bool) -> bool
+    requires { ⌜ Fit s ⌝ }
+{
+    let mut bytes = [0u8; 8192];
+    let n = row_bytes(s.width, wide);
+    let mut at: usize = 0;
+    let mut r: usize = 0;
+    while r < s.height {
+        let end = at + s.width;
+        if plane.len() < end {
+            return false;
+        }
+        if !write_row(fd, &plane[at..end], &mut bytes, n, wide) {
+            return false;
+        }
+        at = end;
+        r += 1;
+    }
+    true
+}
+
+// Copies as much as both planes hold.
+pub fn copy(from: &[u16], to: &mut [u16]) {
+    let n = least(from.len(), to.len());
+    let mut k: usize = 0;
+    while k < n {
+        to[k] = from[k];
+        k += 1;
+    }
+}
