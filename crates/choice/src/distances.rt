@@ -1,5 +1,6 @@
 // The tests at the distances 4, 6 and 8, which stop at the first failure.
-use crate::ramps::steep;
+use crate::ramps::steep_after;
+use crate::ramps::steep_before;
 use rules::edge::Line;
 ghost use mathlib.Core.Path.{_≡_};
 ghost use Prim.Native.Nat.{_*_, _/_, _≤_};
@@ -50,7 +51,7 @@ fn ramp_limit(side: u32, d: usize) -> u32
     side * (d as u32) / 16
 }
 
-// The test at one distance; g is dm1 + d0.
+// The test at one distance; g is dm1 + d0. Each ramp is a call of its own, small enough to inline.
 fn fails(a: Line, b: Line, n: usize, q: u32, side: u32, g: u32, d: usize) -> bool
     requires { ⌜ (q ≤ 2048) × (side ≤ 839) × (g ≤ 262140) × Distance d ⌝ }
     ensures { λ r. ⌜ r ≡ failsOf (ends a b) n q side g d ⌝ }
@@ -58,7 +59,12 @@ fn fails(a: Line, b: Line, n: usize, q: u32, side: u32, g: u32, d: usize) -> boo
     if q_limit(q, d) < 16 * g {
         return true;
     }
-    steep(a, b, n, ramp_at(d), ramp_limit(side, d))
+    let k = ramp_at(d);
+    let limit = ramp_limit(side, d);
+    if steep_after(a, b, k, limit) {
+        return true;
+    }
+    steep_before(a, b, n, k, limit)
 }
 
 // The width by these tests, of at most p samples after the edge.

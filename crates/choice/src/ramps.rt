@@ -3,7 +3,9 @@ use crate::sizes::apart;
 use rules::edge::Line;
 ghost use mathlib.Core.Path.{_≡_};
 ghost use Prim.Native.Nat.{_+_, _≤_};
-ghost use Rattle.rules.specs.Width.{slopeOf, steepOf};
+ghost use lib.Dec.{ltb, leb};
+ghost use Rattle.laws.specs.Choose.{both};
+ghost use Rattle.rules.specs.Width.{slopeOf, rampBeforeOf, rampAfterOf, steepOf};
 ghost use Rattle.choice.specs.Ends.{ends, slopesOf};
 
 // |(a0 - ak) - k(a0 - a1)|
@@ -37,16 +39,32 @@ fn slopes_after(a: Line, b: Line, k: usize) -> u32
     slopes(k as u32, a.q[0], a.q[1], a.q[k], b.q[0], b.q[1], b.q[k])
 }
 
-// Whether a ramp is over the limit, after the edge always, before it only if n >= k: the sum of two against twice the limit.
-pub fn steep(a: Line, b: Line, n: usize, k: usize, limit: u32) -> bool
+// Whether the ramp after the edge is over the limit: the sum of two slopes against twice the limit.
+pub fn steep_after(a: Line, b: Line, k: usize, limit: u32) -> bool
     requires { ⌜ (k ≤ 8) × (limit ≤ 839) ⌝ }
-    ensures { λ r. ⌜ r ≡ steepOf (ends a b) n k limit ⌝ }
+    ensures { λ r. ⌜ r ≡ ltb limit (rampAfterOf (ends a b) k) ⌝ }
 {
-    if 2 * limit < slopes_after(a, b, k) {
-        return true;
-    }
+    2 * limit < slopes_after(a, b, k)
+}
+
+// Whether the ramp before the edge is, which is tested only if n >= k.
+pub fn steep_before(a: Line, b: Line, n: usize, k: usize, limit: u32) -> bool
+    requires { ⌜ (k ≤ 8) × (limit ≤ 839) ⌝ }
+    ensures { λ r. ⌜ r ≡ both (leb k n) (ltb limit (rampBeforeOf (ends a b) k)) ⌝ }
+{
     if n < k {
         return false;
     }
     2 * limit < slopes_before(a, b, k)
+}
+
+// Whether either is.
+pub fn steep(a: Line, b: Line, n: usize, k: usize, limit: u32) -> bool
+    requires { ⌜ (k ≤ 8) × (limit ≤ 839) ⌝ }
+    ensures { λ r. ⌜ r ≡ steepOf (ends a b) n k limit ⌝ }
+{
+    if steep_after(a, b, k, limit) {
+        return true;
+    }
+    steep_before(a, b, n, k, limit)
 }
