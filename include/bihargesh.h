@@ -2,7 +2,7 @@
  *
  * Each function takes any numbers and lists of any length. A list is a pointer and the number of its entries; the pointer must lead
  * to that many, a list that is not const overlaps no other, and an empty list may be NULL.
- * It does its work, or answers minus the number of document 01's refusal and leaves all lent memory as it was:
+ * It does its work, or answers minus the number of document 01's refusal and leaves all lent memory as it was (but see bihargesh_frame):
  *   1 depth is not 8, 10 or 12                     2 a size, stride, subsampling or count is out of range
  *   3 a list is shorter than needed                4 the step table is bad
  *   5 a delta, cap or other setting out of range   6 a grid cell has a bad mark or size index
@@ -63,6 +63,26 @@ int32_t bihargesh_tx_grid(const uint16_t *leaves, size_t leaves_len, const uint1
  * (1..128). Entries from cols*rows on are kept. Refusals 2, 3, in this order. */
 int32_t bihargesh_qindex_grid(const uint16_t *superblocks, size_t superblocks_len, uint16_t *qindex, size_t qindex_len,
                               const int32_t *settings, size_t settings_len, size_t *place, size_t place_len);
+
+/* Filters a whole frame: builds the grids of luma and chroma from leaves and superblocks, and filters luma, then u and v. Answers 0.
+ * Each grid is five lists as in bihargesh_plane, which hold afterwards what was built; a refusal by 7 or 8 also leaves them built, and every
+ * other refusal leaves them as lent. leaves, chroma_leaves and skips are as in bihargesh_tx_grid, in luma cells; superblocks is as in
+ * bihargesh_qindex_grid, in rows of ceil(width/64). Without chroma, or with chroma_deblock 0, the planes u and v, their stride and chroma's
+ * grid are neither tested nor touched.
+ * settings, fifteen numbers: luma width and height (1..4096), subsampling across and down (0 0, 1 0 or 1 1), has_chroma and chroma_deblock
+ * (0 or 1; 2 if not), depth, luma's delta and chroma's (-128..127), luma's stride and chroma's, largest TU width and height in cells of luma,
+ * then of chroma (1, 2, 4, 8 or 16). Refusals 1, 2, 3, 4, 5, 9, 6, 7, 8, in this order, luma before chroma in each. */
+int32_t bihargesh_frame(uint16_t *y, size_t y_len, uint16_t *u, size_t u_len, uint16_t *v, size_t v_len,
+                        uint8_t *luma_vedge, size_t luma_vedge_len, uint8_t *luma_hedge, size_t luma_hedge_len,
+                        uint8_t *luma_sqw, size_t luma_sqw_len, uint8_t *luma_sqh, size_t luma_sqh_len,
+                        uint16_t *luma_qindex, size_t luma_qindex_len,
+                        uint8_t *chroma_vedge, size_t chroma_vedge_len, uint8_t *chroma_hedge, size_t chroma_hedge_len,
+                        uint8_t *chroma_sqw, size_t chroma_sqw_len, uint8_t *chroma_sqh, size_t chroma_sqh_len,
+                        uint16_t *chroma_qindex, size_t chroma_qindex_len,
+                        const uint32_t *steps, size_t steps_len, const uint16_t *superblocks, size_t superblocks_len,
+                        const uint16_t *leaves, size_t leaves_len, const uint16_t *chroma_leaves, size_t chroma_leaves_len,
+                        const uint16_t *skips, size_t skips_len, const int32_t *settings, size_t settings_len,
+                        size_t *place, size_t place_len);
 
 /* Adds the gated CCSO offsets to a plane, and answers 0.
  * luma and target have no row padding; flags has a number for each block of 64x64 luma samples, row by row, and 0 keeps the block as it

@@ -240,6 +240,55 @@ static void grids(void) {
   same("four numbers", bihargesh_qindex_grid(blocks, 4, cells, LEN(cells), settings, 4, place, 1), -2);
 }
 
+/* ---- a frame of 24 by 8 samples with chroma of 12 by 4, held to bihargesh_plane on the grids that it built */
+
+static uint16_t luma[192], u[128], v[128], blocks_of[12], chroma_blocks_of[8];
+static uint8_t luma_grid[4][12], chroma_grid[4][8];
+
+static int32_t run_frame(const int32_t *settings, size_t settings_len) {
+  static const uint16_t leaves[8] = {0, 0, 2, 2, 0, 2, 4, 2};
+  uint16_t blocks[1] = {index_of_side_40()};
+  for (int k = 0; k < 192; k++) luma[k] = k % 24 < 8 ? 100 : 108;
+  for (int k = 0; k < 128; k++) u[k] = v[k] = k % 16 < 4 ? 100 : 108;
+  v[5] = 109;
+  return bihargesh_frame(luma, LEN(luma), u, LEN(u), v, LEN(v), luma_grid[0], 12, luma_grid[1], 12, luma_grid[2], 12, luma_grid[3], 12, blocks_of,
+                         LEN(blocks_of), chroma_grid[0], 8, chroma_grid[1], 8, chroma_grid[2], 8, chroma_grid[3], 8, chroma_blocks_of,
+                         LEN(chroma_blocks_of), table, LEN(table), blocks, 1, leaves, 8, leaves, 8, NULL, 0, settings, settings_len, place, 1);
+}
+
+static void frames(void) {
+  static const int32_t numbers[15] = {24, 8, 1, 1, 1, 1, 8, 0, 0, 24, 16, 16, 16, 16, 16};
+  static const int32_t luma_numbers[11] = {6, 2, 24, 24, 8, 16, 16, 0, 8, 0, 0}, chroma_numbers[11] = {4, 2, 16, 12, 4, 8, 8, 1, 8, 0, 0};
+  uint16_t one[192], other[128];
+  int32_t bad[15];
+  same("frame", run_frame(numbers, 15), 0);
+  for (int k = 0; k < 192; k++) one[k] = k % 24 < 8 ? 100 : 108;
+  for (int k = 0; k < 128; k++) other[k] = k % 16 < 4 ? 100 : 108;
+  other[5] = 109;
+  same("luma alone", bihargesh_plane(one, 192, luma_grid[0], 12, luma_grid[1], 12, luma_grid[2], 12, luma_grid[3], 12, blocks_of, 12, table, 352,
+                                     luma_numbers, 11, place, 1), 0);
+  same("v alone", bihargesh_plane(other, 128, chroma_grid[0], 8, chroma_grid[1], 8, chroma_grid[2], 8, chroma_grid[3], 8, chroma_blocks_of, 8, table,
+                                  352, chroma_numbers, 11, place, 1), 0);
+  same("luma as alone", memcmp(luma, one, sizeof one), 0);
+  same("v as alone", memcmp(v, other, sizeof other), 0);
+  same("luma was filtered", luma[7] > 100 && luma[8] < 108, 1);
+  same("u was filtered", u[3] > 100 && u[4] < 108, 1);
+  same("fourteen numbers", run_frame(numbers, 14), -2);
+  memcpy(bad, numbers, sizeof bad);
+  bad[5] = 2;
+  same("chroma_deblock 2", run_frame(bad, 15), -2);
+  bad[6] = 9;
+  same("depth 9", run_frame(bad, 15), -1);
+  same("luma as lent", luma[7], 100);
+  memcpy(bad, numbers, sizeof bad);
+  bad[4] = 0;
+  bad[10] = -1;
+  same("no chroma", run_frame(bad, 15), 0);
+  same("u as lent", u[3], 100);
+  bad[13] = 3;
+  same("chroma's cap still counts", run_frame(bad, 15), -5);
+}
+
 /* ---- offsets: document 01's c = 600 at depth 10 with b 2 and classes 2, 1 */
 
 static void offsets(void) {
@@ -273,6 +322,7 @@ int main(void) {
   refusals();
   planes();
   grids();
+  frames();
   offsets();
   printf("C: %d checks, %d failures\n", checks, failures);
   return failures != 0;

@@ -1,6 +1,7 @@
 //! Bihargesh, the proved AV2 loop filters, for Rust: safe calls of the static library libcside.a, with a type for each answer.
 //!
-//! Every function takes any numbers and lists of any length. It does its work, or says why it does not and leaves every lent list as it was.
+//! Every function takes any numbers and lists of any length. It does its work, or says why it does not and leaves every lent list as it was
+//! (but a frame refused by `Room` or `Sample` has built its grids).
 //! include/bihargesh.h says what each number means and which are accepted.
 
 #[link(name = "cside", kind = "static")]
@@ -19,6 +20,16 @@ extern "C" {
     ) -> i32;
     fn bihargesh_qindex_grid(
         superblocks: *const u16, superblocks_len: usize, qindex: *mut u16, qindex_len: usize,
+        settings: *const i32, settings_len: usize, place: *mut usize, place_len: usize,
+    ) -> i32;
+    fn bihargesh_frame(
+        y: *mut u16, y_len: usize, u: *mut u16, u_len: usize, v: *mut u16, v_len: usize,
+        luma_vedge: *mut u8, luma_vedge_len: usize, luma_hedge: *mut u8, luma_hedge_len: usize,
+        luma_sqw: *mut u8, luma_sqw_len: usize, luma_sqh: *mut u8, luma_sqh_len: usize, luma_qindex: *mut u16, luma_qindex_len: usize,
+        chroma_vedge: *mut u8, chroma_vedge_len: usize, chroma_hedge: *mut u8, chroma_hedge_len: usize,
+        chroma_sqw: *mut u8, chroma_sqw_len: usize, chroma_sqh: *mut u8, chroma_sqh_len: usize, chroma_qindex: *mut u16, chroma_qindex_len: usize,
+        steps: *const u32, steps_len: usize, superblocks: *const u16, superblocks_len: usize, leaves: *const u16, leaves_len: usize,
+        chroma_leaves: *const u16, chroma_leaves_len: usize, skips: *const u16, skips_len: usize,
         settings: *const i32, settings_len: usize, place: *mut usize, place_len: usize,
     ) -> i32;
     fn bihargesh_ccso(
@@ -144,6 +155,50 @@ pub struct QindexGrid {
     pub superblocks_across: i32,
 }
 
+/// The planes of a frame; `u` and `v` may be empty where no chroma is filtered.
+#[derive(Debug)]
+pub struct Planes<'a> {
+    pub y: &'a mut [u16],
+    pub u: &'a mut [u16],
+    pub v: &'a mut [u16],
+}
+
+/// A grid that a frame builds: its marks and size indices, and its qindex.
+#[derive(Debug)]
+pub struct BuiltGrid<'a> {
+    pub marks: Marks<'a>,
+    pub qindex: &'a mut [u16],
+}
+
+/// What a frame's grids are built from, four numbers a leaf.
+#[derive(Clone, Copy, Debug)]
+pub struct Blocks<'a> {
+    pub superblocks: &'a [u16],
+    pub leaves: &'a [u16],
+    pub chroma_leaves: &'a [u16],
+    pub skips: &'a [u16],
+}
+
+/// Settings of a frame.
+#[derive(Clone, Copy, Debug, Default)]
+pub struct Frame {
+    pub width: i32,
+    pub height: i32,
+    pub ssx: i32,
+    pub ssy: i32,
+    pub has_chroma: bool,
+    pub chroma_deblock: bool,
+    pub depth: i32,
+    pub delta_luma: i32,
+    pub delta_chroma: i32,
+    pub luma_stride: i32,
+    pub chroma_stride: i32,
+    pub cap_width: i32,
+    pub cap_height: i32,
+    pub chroma_cap_width: i32,
+    pub chroma_cap_height: i32,
+}
+
 /// Settings of the CCSO offsets.
 #[derive(Clone, Copy, Debug, Default)]
 pub struct Ccso {
@@ -235,6 +290,31 @@ pub fn build_qindex_grid(superblocks: &[u16], qindex: &mut [u16], s: QindexGrid)
     let answer = unsafe {
         bihargesh_qindex_grid(
             superblocks.as_ptr(), superblocks.len(), qindex.as_mut_ptr(), qindex.len(),
+            settings.as_ptr(), settings.len(), place.as_mut_ptr(), place.len(),
+        )
+    };
+    told(answer, place)
+}
+
+/// Filters a whole frame; a refusal of `Room` or `Sample` leaves the grids built, every other leaves them as lent.
+pub fn deblock_frame(planes: Planes, luma: BuiltGrid, chroma: BuiltGrid, steps: &[u32], b: Blocks, s: Frame) -> Result<(), Refusal> {
+    let settings = [
+        s.width, s.height, s.ssx, s.ssy, s.has_chroma as i32, s.chroma_deblock as i32, s.depth, s.delta_luma, s.delta_chroma, s.luma_stride,
+        s.chroma_stride, s.cap_width, s.cap_height, s.chroma_cap_width, s.chroma_cap_height,
+    ];
+    let mut place = [0];
+    // SAFETY: as above.
+    let answer = unsafe {
+        bihargesh_frame(
+            planes.y.as_mut_ptr(), planes.y.len(), planes.u.as_mut_ptr(), planes.u.len(), planes.v.as_mut_ptr(), planes.v.len(),
+            luma.marks.vedge.as_mut_ptr(), luma.marks.vedge.len(), luma.marks.hedge.as_mut_ptr(), luma.marks.hedge.len(),
+            luma.marks.sqw.as_mut_ptr(), luma.marks.sqw.len(), luma.marks.sqh.as_mut_ptr(), luma.marks.sqh.len(),
+            luma.qindex.as_mut_ptr(), luma.qindex.len(),
+            chroma.marks.vedge.as_mut_ptr(), chroma.marks.vedge.len(), chroma.marks.hedge.as_mut_ptr(), chroma.marks.hedge.len(),
+            chroma.marks.sqw.as_mut_ptr(), chroma.marks.sqw.len(), chroma.marks.sqh.as_mut_ptr(), chroma.marks.sqh.len(),
+            chroma.qindex.as_mut_ptr(), chroma.qindex.len(),
+            steps.as_ptr(), steps.len(), b.superblocks.as_ptr(), b.superblocks.len(), b.leaves.as_ptr(), b.leaves.len(),
+            b.chroma_leaves.as_ptr(), b.chroma_leaves.len(), b.skips.as_ptr(), b.skips.len(),
             settings.as_ptr(), settings.len(), place.as_mut_ptr(), place.len(),
         )
     };

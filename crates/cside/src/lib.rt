@@ -21,3 +21,6 @@ pub mod tx_grids;
 
 // The gated CCSO offsets.
 pub mod gated_offsets;
+
+// A whole frame.
+pub mod frames;

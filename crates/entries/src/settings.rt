@@ -11,7 +11,7 @@ ghost use lib.ListN.{length};
 ghost use Rattle.entries.specs.Settings.{numberAt, countOf, countAt, planeOf, tuGridOf, qindexGridOf, offsetsOf};
 
 // Number k of a list.
-fn number(list: &[i32], k: usize) -> i32
+pub fn number(list: &[i32], k: usize) -> i32
     requires { ⌜ k < length (now list) ⌝ }
     ensures { λ r. ⌜ r ≡ numberAt (now (list .entry)) k ⌝ }
 {
@@ -35,7 +35,7 @@ pub fn count(list: &[i32], k: usize) -> u32
 }
 
 // The same as a size.
-fn size(list: &[i32], k: usize) -> usize
+pub fn size(list: &[i32], k: usize) -> usize
     requires { ⌜ k < length (now list) ⌝ }
     ensures { λ r. ⌜ r ≡ countAt (now (list .entry)) k ⌝ }
 {
@@ -43,7 +43,7 @@ fn size(list: &[i32], k: usize) -> usize
 }
 
 // Whether count k of a list is 1.
-fn flag(list: &[i32], k: usize) -> bool
+pub fn flag(list: &[i32], k: usize) -> bool
     requires { ⌜ k < length (now list) ⌝ }
     ensures { λ r. ⌜ r ≡ eqb (countAt (now (list .entry)) k) 1 ⌝ }
 {

@@ -1,6 +1,7 @@
 -- `deblock` tests the settings, and hands on what the entry gives. Assumes nothing.
 use Rattle.entries.proofs.Done.{plane-short, no-depth, no-kind, plane-done}
 use borrow.Author.Needs.{needs}
+use native.Mathlib.Omega.{arith}
 use Rattle.entries.proofs.planes.deblock.Statement.{statement}
 use Rattle.entries.proofs.planes.deblock.Tie as tie
 
@@ -20,7 +21,7 @@ count-requires : tie.Need-count-requires
 count-requires c κs = search needs
 
 returns-3 : tie.Need-returns-3
-returns-3 c = no-kind _ _ _ _ (c .before .before .before .before .before .if1 .left) (c .before .before .before .before .plane-of .ensures) (c .before .before .before .is .ensures) (c .before .before .if2 .left) (c .before .count .ensures) (c .if3 .taken)
+returns-3 c = no-kind _ _ _ _ (c .before .before .before .before .before .if1 .left) (c .before .before .before .before .plane-of .ensures) (c .before .before .before .is .ensures) (c .before .before .if2 .left) (c .before .count .ensures) (omega arith)
 
 deblock-plane-requires : tie.Need-deblock-plane-requires
 deblock-plane-requires c κs = search needs
@@ -29,7 +30,7 @@ same-length : tie.Need-same-length
 same-length c = search needs
 
 returns-4 : tie.Need-returns-4
-returns-4 c = plane-done _ _ _ _ (c .before .before .before .before .before .before .before .before .before .if1 .left) (c .before .before .before .before .before .before .before .before .plane-of .ensures) (c .before .before .before .before .before .before .before .is .ensures) (c .before .before .before .before .before .before .if2 .left) (c .before .before .before .before .before .count .ensures) (c .before .before .before .before .if3 .left) (c .before .before .deblock-plane .ensures)
+returns-4 c = plane-done _ _ _ _ (c .before .before .before .before .before .before .before .before .before .if1 .left) (c .before .before .before .before .before .before .before .before .plane-of .ensures) (c .before .before .before .before .before .before .before .is .ensures) (c .before .before .before .before .before .before .if2 .left) (c .before .before .before .before .before .count .ensures) (omega (arith, c .before .before .before .before .if3 .left)) (c .before .before .deblock-plane .ensures)
 
 pub deblock-spec : {M : Type 1} → statement M
 deblock-spec =

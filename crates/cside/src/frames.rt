@@ -1,0 +1,56 @@
+// A whole frame for C: its answer as a number, with the place of a refusal.
+use entries::answers::told;
+use frame_entry::frames::filter;
+ghost use Rattle.rules.specs.Plane.{grid};
+ghost use Rattle.rules.specs.Frame.{planes, grids, lent, given};
+ghost use Rattle.frame_entry.specs.Listed.{cFrameOf, FrameTold};
+
+// 0, or minus the refusal number with its place in the first entry of `place`.
+#[no_mangle]
+pub extern "C" fn bihargesh_frame(
+    y: &mut [u16],
+    u: &mut [u16],
+    v: &mut [u16],
+    lv: &mut [u8],
+    lh: &mut [u8],
+    lw: &mut [u8],
+    lt: &mut [u8],
+    lq: &mut [u16],
+    cv: &mut [u8],
+    ch: &mut [u8],
+    cw: &mut [u8],
+    ct: &mut [u8],
+    cq: &mut [u16],
+    steps: &[u32],
+    sbq: &[u16],
+    leaves: &[u16],
+    chromaleaves: &[u16],
+    skips: &[u16],
+    settings: &[i32],
+    place: &mut [usize],
+) -> i32
+    ensures { λ r. ⌜ FrameTold (cFrameOf (now (settings .entry)) (given (now (steps .entry)) (now (sbq .entry)) (now (leaves .entry)) (now (chromaleaves .entry)) (now (skips .entry))) (lent (planes (now (y .entry)) (now (u .entry)) (now (v .entry))) (grids (grid (now (lv .entry)) (now (lh .entry)) (now (lw .entry)) (now (lt .entry)) (now (lq .entry))) (grid (now (cv .entry)) (now (ch .entry)) (now (cw .entry)) (now (ct .entry)) (now (cq .entry)))))) (now (place .entry)) r (lent (planes (now (y .exit)) (now (u .exit)) (now (v .exit))) (grids (grid (now (lv .exit)) (now (lh .exit)) (now (lw .exit)) (now (lt .exit)) (now (lq .exit))) (grid (now (cv .exit)) (now (ch .exit)) (now (cw .exit)) (now (ct .exit)) (now (cq .exit))))) (now (place .exit)) ⌝ }
+{
+    let a = filter(
+        y,
+        u,
+        v,
+        lv,
+        lh,
+        lw,
+        lt,
+        lq,
+        cv,
+        ch,
+        cw,
+        ct,
+        cq,
+        steps,
+        sbq,
+        leaves,
+        chromaleaves,
+        skips,
+        settings,
+    );
+    told(a, place)
+}

@@ -1,0 +1,45 @@
+// A frame's settings as a list of fifteen numbers.
+use entries::settings::count;
+use entries::settings::flag;
+use entries::settings::number;
+use entries::settings::size;
+use rules::settings::Frame;
+ghost use mathlib.Core.Path.{_≡_};
+ghost use Prim.Native.Nat.{_≤_};
+ghost use lib.ListN.{length};
+ghost use Rattle.frame_entry.specs.Listed.{frameSettings, flagsOk};
+
+// Whether has_chroma and chroma_deblock are 0 or 1.
+pub fn flags_ok(list: &[i32]) -> bool
+    requires { ⌜ 15 ≤ length (now list) ⌝ }
+    ensures { λ r. ⌜ r ≡ flagsOk (now (list .entry)) ⌝ }
+{
+    if 1 < count(list, 4) {
+        return false;
+    }
+    count(list, 5) <= 1
+}
+
+// The settings.
+pub fn frame_of(list: &[i32]) -> Frame
+    requires { ⌜ 15 ≤ length (now list) ⌝ }
+    ensures { λ f. ⌜ f ≡ frameSettings (now (list .entry)) ⌝ }
+{
+    Frame {
+        width: size(list, 0),
+        height: size(list, 1),
+        ssx: size(list, 2),
+        ssy: size(list, 3),
+        haschroma: flag(list, 4),
+        chromadeblock: flag(list, 5),
+        depth: count(list, 6),
+        deltay: number(list, 7),
+        deltauv: number(list, 8),
+        lumastride: size(list, 9),
+        chromastride: size(list, 10),
+        capw: size(list, 11),
+        caph: size(list, 12),
+        ccapw: size(list, 13),
+        ccaph: size(list, 14),
+    }
+}
