@@ -31,7 +31,7 @@ flat-count ls = let e = flat-length ls in omega arith
 -- leaf k + 1's numbers are leaf k's of what is left
 next : (l : Leaf) (ls : List Leaf) (k j : ℕ) → getD (flat (l ∷ ls)) (suc k * 4 + j) 0 ≡ getD (flat ls) (k * 4 + j) 0
 unfolding flat
-next l ls k j = let e : suc k * 4 + j ≡ suc (suc (suc (suc (k * 4 + j)))) = omega arith in ap (λ (i : ℕ). getD (l .row ∷ l .col ∷ l .w ∷ l .h ∷ flat ls) i 0) e
+next l ls k j = let e : suc k * 4 + j ≡ suc (suc (suc (suc (k * 4 + j)))) = omega arith in ap (λ (i : ℕ). getD (flat (l ∷ ls)) i 0) e
 
 row-first : (ls : List Leaf) (k : ℕ) → getD (flat ls) (k * 4 + 0) 0 ≡ getD ls k none .row
 unfolding flat
