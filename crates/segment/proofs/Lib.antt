@@ -8,3 +8,4 @@ pub mod Accepted
 pub mod Samples
 pub mod Demand
 pub mod Promises
+pub mod Zero

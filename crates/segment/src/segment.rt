@@ -17,11 +17,17 @@ ghost use lib.ListN.{length};
 ghost use Rattle.rules.specs.Segment.{placeOf, windowOf, chosenOf};
 ghost use Rattle.segment.specs.Fit.{Fit, Filtered, InPlane, EdgeFiltered};
 
-// How many samples after an edge are to be filtered, by its window.
+// How many samples after an edge are to be filtered, by its window; none of it is read where a threshold is 0.
 fn chosen_width(plane: &[u16], e: Place) -> usize
     requires { ⌜ Fit e (length (now plane)) ⌝ }
     ensures { λ r. ⌜ r ≡ chosenOf e (windowOf e (now (plane .entry))) ⌝ }
 {
+    if e.q == 0 {
+        return 0;
+    }
+    if e.side == 0 {
+        return 0;
+    }
     let lines = read_lines(
         plane,
         e.at,
