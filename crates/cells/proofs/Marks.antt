@@ -1,63 +1,60 @@
--- Numbers of a list that are all small: how a loop finds their largest, and that a grid of small numbers has no bad cell.
+-- A grid whose largest numbers are small has no bad cell, and what a grid without one gives.
 -- Assumes nothing.
-use mathlib.Core.Path.{_≡_, sym}
-use mathlib.Core.Logic.{⊎-elim}
+use mathlib.Core.Path.{_≡_, sym, ap, _∙_}
 use mathlib.Core.List.{List, []}
-use Prim.Native.Nat.{ℕ, _+_, _*_, _≤_, _<_}
-use native.Mathlib.Nat.{eq-or-lt-of-le, le-antisymm}
+use Prim.Native.Nat.{ℕ, _+_, _*_, _≤_, _<_, max}
+use native.Mathlib.Nat.{zero-add}
 use native.Mathlib.Omega.{arith}
 use borrow.Author.Needs.{needs}
 use borrow.Author.Tests.{leb-true}
-use mathlib.Core.Bool.{true, false}
+use mathlib.Core.Bool.{Bool, true, false}
 use lib.Dec.{leb}
 use lib.ListN.{getD}
-use Rattle.laws.specs.Choose.{all-ok, all-none, all-parts, is-le, told-yes-not, told-no-not, true-not-false}
+use Rattle.laws.specs.Choose.{all-bad, all-ok, all-last, all-none, all-parts, is-le, not-le, told-yes-not, told-no-not}
+use Rattle.laws.specs.Largest.{largest, largest-none, largest-more, largest-end, under-largest}
 use Rattle.rules.specs.declared.settings.Plane.{Plane}
 use Rattle.rules.specs.declared.refusals.Found.{Found}
 use Rattle.rules.specs.declared.refusals.Found.the-variants.{Nothing}
 use Rattle.rules.specs.Refusals.{foundUnless}
 use Rattle.rules.specs.Plane.{Grid, grid, cellGood, badCell}
 use Rattle.scan.proofs.First.{firsts, all-nothing, nothing-all, found-unless-not, unless-nothing}
-use Rattle.cells.specs.Fit.{Within, Good, badOf}
+use Rattle.cells.specs.Fit.{small, badOf}
 
-pub within-none : (n : ℕ) (l : List ℕ) → Within n 0 l
-within-none n l = record { each-one = λ k h. absurd (omega arith) }
+-- ---- the largest of each list
 
-pub within-more : {m : ℕ} (r k : ℕ) (l : List ℕ) → Within m k l → m ≤ r → getD l k 0 ≤ r → Within r (k + 1) l
-within-more {m} r k l w a b = record { each-one = go }
-  where
-    go : (i : ℕ) → i < k + 1 → getD l i 0 ≤ r
-    go i h = let g : i ≤ k = omega arith in ⊎-elim (λ e. rw e b) (λ lt. let z = w .each-one i lt in omega arith) (eq-or-lt-of-le g)
+pub most-more : (l : List ℕ) (k : ℕ) {m r : ℕ} → m ≡ largest l 0 k → r ≡ max m (getD l k 0) → r ≡ largest l 0 (k + 1)
+most-more l k e f = largest-more l 0 k e (rw (zero-add k) f)
 
-pub within-end : {m : ℕ} (k n : ℕ) (l : List ℕ) → Within m k l → k ≤ n → n ≤ k → Within m n l
-within-end {m} k n l w a b = rw (← le-antisymm a b) w
+-- a list's largest m, found to be too large, not too large, and left to the answer
+pub over-most : (m l n : ℕ) → m ≡ l → n < m → false ≡ leb l n
+over-most m l n e h = not-le l n (omega arith)
 
-pub within-less : {m : ℕ} (n k : ℕ) (l : List ℕ) → Within m k l → m ≤ n → Within n k l
-within-less n k l w a = record { each-one = λ i h. let z = w .each-one i h in omega arith }
+pub under-most : (m l n : ℕ) → m ≡ l → m ≤ n → true ≡ leb l n
+under-most m l n e h = is-le l n (omega arith)
 
--- ---- good cells
+pub last-most : (m l n : ℕ) → m ≡ l → leb m n ≡ leb l n
+last-most m l n e = ap (λ (k : ℕ). leb k n) e
 
--- the largest of each list decides
-pub good : {a b c d : ℕ} (n : ℕ) (g : Grid) → Within a n (g .vedge) → a ≤ 1 → Within b n (g .hedge) → b ≤ 1 → Within c n (g .sqw) → c ≤ 6 → Within d n (g .sqh) → leb d 6 ≡ true → Good n g
-good n g v a h b w c t d = record {
-  vedge = within-less 1 n _ v a;
-  hedge = within-less 1 n _ h b;
-  sqw = within-less 6 n _ w c;
-  sqh = within-less 6 n _ t (leb-true _ _ d);
-}
+-- where it is small enough, so is every number
+pub every-small : (l : List ℕ) (n m k : ℕ) → leb (largest l 0 n) m ≡ true → k < n → true ≡ leb (getD l k 0) m
+every-small l n m k e h =
+    let u : getD l k 0 ≤ largest l 0 n = rw (zero-add k) at (under-largest l 0 n k h) in let t = leb-true (largest l 0 n) m e in is-le (getD l k 0) m (omega arith)
 
-pub not-good : {n : ℕ} {g : Grid} → false ≡ true → Good n g
-not-good e = true-not-false e
-
-pub good-none : (n : ℕ) (g : Grid) → Good n g → Nothing ≡ badOf n g
-unfolding badOf cellGood
-good-none n g k =
+pub small-none : (n : ℕ) (g : Grid) (b : Bool) → b ≡ small n g → b ≡ true → Nothing ≡ badOf n g
+unfolding badOf cellGood small
+small-none n g b e t =
+    let p = all-parts _ _ (sym e ∙ t) in
+    let q = all-parts _ _ (p .1) in
+    let r = all-parts _ _ (q .1) in
+    let o = all-parts _ _ (r .1) in
     sym (all-nothing (λ i. foundUnless (cellGood g i) i) n
     (λ i h. sym (found-unless-not _ i
-    (all-ok _ _ _ (is-le _ _ (k .vedge .each-one i h))
-    (all-ok _ _ _ (is-le _ _ (k .hedge .each-one i h))
-    (all-ok _ _ _ (is-le _ _ (k .sqw .each-one i h))
-    (all-ok _ _ _ (is-le _ _ (k .sqh .each-one i h)) all-none)))))))
+    (all-ok _ _ _ (every-small (g .vedge) n 1 i (p .0) h)
+    (all-ok _ _ _ (every-small (g .hedge) n 1 i (q .0) h)
+    (all-ok _ _ _ (every-small (g .sqw) n 6 i (r .0) h)
+    (all-ok _ _ _ (every-small (g .sqh) n 6 i (o .0) h) all-none)))))))
+
+-- ---- good cells
 
 -- what a grid without a bad cell gives
 pub none-good : (n : ℕ) (g : Grid) → badOf n g ≡ Nothing → (k : ℕ) → k < n → (getD (g .sqw) k 0 ≤ 6) × (getD (g .sqh) k 0 ≤ 6)
@@ -73,11 +70,11 @@ pub bad-is : (s : Plane) (v h w t : List ℕ) (r : Found) → r ≡ badOf (s .ro
 unfolding badCell badOf cellGood
 bad-is s v h w t r e q = e
 
-pub ruleset most = (needs, within-none, within-more, within-end)
+pub ruleset most = (needs, largest-none, most-more, largest-end)
 
-pub ruleset goods = (needs, good, not-good)
+pub ruleset smalls = (needs, all-bad, all-ok, all-last, over-most, under-most, last-most)
 
 -- the code's scan
 pub ruleset finds = (firsts, told-yes-not, told-no-not)
 
-pub ruleset bads = (needs, good-none, bad-is)
+pub ruleset bads = (needs, small-none, bad-is)

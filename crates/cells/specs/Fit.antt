@@ -1,10 +1,12 @@
 -- What the functions over a plane's grid ask of its settings and lists, in inequalities, and the grids of which they read one direction.
 -- Assumes nothing.
-use mathlib.Core.List.{List, []}
+use mathlib.Core.List.{List, [], _∷_}
+use mathlib.Core.Bool.{Bool}
 use Prim.Native.Nat.{ℕ, _*_, _≤_, _<_}
-use lib.Dec.{eqb}
+use lib.Dec.{eqb, leb}
 use lib.ListN.{length, getD}
-use Rattle.laws.specs.Choose.{pick}
+use Rattle.laws.specs.Choose.{pick, all}
+use Rattle.laws.specs.Largest.{largest}
 use Rattle.rules.specs.declared.settings.Plane.{Plane}
 use Rattle.rules.specs.Plane.{Grid, grid, cellGood}
 use Rattle.rules.specs.declared.refusals.Found.{Found}
@@ -34,12 +36,15 @@ pub record Long (count v h w t : ℕ) : Type 0 where
 pub record Within (n count : ℕ) (l : List ℕ) : Type 0 where
   pub each-one : (k : ℕ) → k < count → getD l k 0 ≤ n
 
--- no number of the first count cells is too large
-pub record Good (count : ℕ) (g : Grid) : Type 0 where
-  pub vedge : Within 1 count (g .vedge)
-  pub hedge : Within 1 count (g .hedge)
-  pub sqw : Within 6 count (g .sqw)
-  pub sqh : Within 6 count (g .sqh)
+-- no number of the first count cells is too large, by the largest of each list
+unfoldable pub small : ℕ → Grid → Bool
+small count g =
+    all
+    (leb (largest (g .vedge) 0 count) 1
+    ∷ leb (largest (g .hedge) 0 count) 1
+    ∷ leb (largest (g .sqw) 0 count) 6
+    ∷ leb (largest (g .sqh) 0 count) 6
+    ∷ [])
 
 -- the first of count cells that is not good
 unfoldable pub badOf : ℕ → Grid → Found

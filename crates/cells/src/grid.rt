@@ -2,23 +2,23 @@
 use rules::refusals::Found;
 use rules::settings::Plane;
 ghost use mathlib.Core.Path.{_≡_};
-ghost use mathlib.Core.Bool.{true};
 ghost use mathlib.Core.List.{List, []};
-ghost use Prim.Native.Nat.{ℕ, _+_, _*_, _≤_};
+ghost use Prim.Native.Nat.{ℕ, _+_, _*_, _≤_, max};
 ghost use lib.ListN.{length};
+ghost use Rattle.laws.specs.Largest.{largest};
 ghost use Rattle.rules.specs.Plane.{grid, cellGood, badCell};
-ghost use Rattle.cells.specs.Fit.{Sizes, Long, Within, Good, badOf};
+ghost use Rattle.cells.specs.Fit.{Sizes, Long, small, badOf};
 
 fn larger(a: u8, b: u8) -> u8
-    ensures { λ r. ⌜ (a ≤ r) × (b ≤ r) ⌝ }
+    ensures { λ r. ⌜ r ≡ max a b ⌝ }
 {
     if a < b { b } else { a }
 }
 
-// At least the largest of the first count numbers.
+// The largest of the first count numbers.
 fn most(list: &[u8], count: usize) -> u8
     requires { ⌜ count ≤ length (now list) ⌝ }
-    ensures { λ r. ⌜ Within r count (now (list .entry)) ⌝ }
+    ensures { λ r. ⌜ r ≡ largest (now (list .entry)) 0 count ⌝ }
 {
     let mut m: u8 = 0;
     for k in 0..count {
@@ -30,7 +30,7 @@ fn most(list: &[u8], count: usize) -> u8
 // Whether no number of the grid is too large, by the largest of each list.
 fn all_good(vedge: &[u8], hedge: &[u8], sqw: &[u8], sqh: &[u8], count: usize) -> bool
     requires { ⌜ Long count (length (now vedge)) (length (now hedge)) (length (now sqw)) (length (now sqh)) ⌝ }
-    ensures { λ r. ⌜ (r ≡ true → Good count (grid (now (vedge .entry)) (now (hedge .entry)) (now (sqw .entry)) (now (sqh .entry)) [])) ⌝ }
+    ensures { λ r. ⌜ r ≡ small count (grid (now (vedge .entry)) (now (hedge .entry)) (now (sqw .entry)) (now (sqh .entry)) []) ⌝ }
 {
     if 1 < most(vedge, count) {
         return false;

@@ -4,6 +4,7 @@ pub mod Whole
 pub mod Machine
 pub mod Table
 pub mod Loops
+pub mod Largest
 pub mod Lists
 pub mod Stores
 pub mod Footprints

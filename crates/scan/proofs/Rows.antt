@@ -1,17 +1,16 @@
 -- Boxes of samples: which callers' boxes lie within their lists, and that a row whose largest is not over top has no sample over it.
 -- Assumes nothing.
 use mathlib.Core.Path.{_≡_, sym}
-use mathlib.Core.Logic.{⊎-elim}
 use mathlib.Core.List.{List}
 use Prim.Native.Nat.{ℕ, _+_, _*_, _^_, _≤_, _<_}
-use native.Mathlib.Nat.{eq-or-lt-of-le, le-trans, mul-le-mul-right, suc-mul, add-mul}
+use native.Mathlib.Nat.{mul-le-mul-right, suc-mul, add-mul}
 use native.Mathlib.Omega.{arith}
 use mir.Val.{Fits}
 use mir.Syntax.{w64}
-use lib.ListN.{getD}
+use Rattle.laws.specs.Largest.{largest, largest-none, largest-more, largest-end, under-largest}
 use Rattle.rules.specs.declared.refusals.Found.the-variants.{Nothing}
 use Rattle.rules.specs.Refusals.{overRow, over}
-use Rattle.scan.specs.Rows.{Box, AtMost}
+use Rattle.scan.specs.Rows.{Box}
 use Rattle.scan.proofs.First.{firsts, all-nothing, over-good}
 
 -- ---- boxes that lie within a list
@@ -39,19 +38,9 @@ start-fits y b s h = record { fits = omega (arith, row-inside y b h) }
 
 -- ---- a row's largest
 
-pub most-none : {xs : List ℕ} {start : ℕ} → AtMost 0 xs start 0
-most-none = record { at = λ x h. absurd (omega arith) }
-
-pub most-more : {m n : ℕ} {xs : List ℕ} {start x : ℕ} → AtMost m xs start x → m ≤ n → getD xs (start + x) 0 ≤ n → AtMost n xs start (x + 1)
-most-more {m} {n} {xs} {start} {x} h l b =
-    record { at = λ j below. ⊎-elim (λ e. rw e b) (λ lt. le-trans (h .at j lt) l) (eq-or-lt-of-le (omega arith)) }
-
-pub most-end : {m : ℕ} {xs : List ℕ} {start x count : ℕ} → AtMost m xs start x → count ≤ x → AtMost m xs start count
-most-end h l = record { at = λ j below. h .at j (omega arith) }
-
-pub row-clean : (top m : ℕ) (xs : List ℕ) (start count : ℕ) → AtMost m xs start count → m ≤ top → Nothing ≡ overRow top xs start count
+pub row-clean : (top m : ℕ) (xs : List ℕ) (start count : ℕ) → m ≡ largest xs start count → m ≤ top → Nothing ≡ overRow top xs start count
 unfolding overRow
-row-clean top m xs start count h l =
-    sym (all-nothing (λ x. over top xs (start + x)) count (λ x lt. sym (over-good top xs (start + x) (le-trans (h .at x lt) l))))
+row-clean top m xs start count e l =
+    sym (all-nothing (λ x. over top xs (start + x)) count (λ x lt. sym (over-good top xs (start + x) (let u = under-largest xs start count x lt in omega arith))))
 
-pub ruleset rows = (firsts, most-none, most-more, most-end, row-clean, row-inside, row-fits, start-fits)
+pub ruleset rows = (firsts, largest-none, largest-more, largest-end, row-clean, row-inside, row-fits, start-fits)

@@ -1,21 +1,22 @@
 // The first sample over top, row by row: a row's largest first, since a sample is seldom too large, and the place only where it is.
 ghost use mathlib.Core.Path.{_≡_};
-ghost use Prim.Native.Nat.{_+_, _≤_};
+ghost use Prim.Native.Nat.{_+_, _≤_, max};
 ghost use lib.ListN.{length};
+ghost use Rattle.laws.specs.Largest.{largest};
 ghost use Rattle.rules.specs.Refusals.{overRow, overBox};
-ghost use Rattle.scan.specs.Rows.{AtMost, Box};
+ghost use Rattle.scan.specs.Rows.{Box};
 use rules::refusals::Found;
 
 fn larger(a: u16, b: u16) -> u16
-    ensures { λ r. ⌜ (a ≤ r) × (b ≤ r) ⌝ }
+    ensures { λ r. ⌜ r ≡ max a b ⌝ }
 {
     if a < b { b } else { a }
 }
 
-// At least the largest of count samples from start.
+// The largest of count samples from start.
 fn most(plane: &[u16], start: usize, count: usize) -> u16
     requires { ⌜ start + count ≤ length (now plane) ⌝ }
-    ensures { λ r. ⌜ AtMost r (now (plane .entry)) start count ⌝ }
+    ensures { λ r. ⌜ r ≡ largest (now (plane .entry)) start count ⌝ }
 {
     let mut m: u16 = 0;
     for x in 0..count {

@@ -1,4 +1,6 @@
 // What a replay of recorded cases counts, and what it prints: the programs run_* speak through it, and oracle/compare reads it.
+ghost use mathlib.Core.Path.{_≡_};
+ghost use Rattle.tally.specs.Counts.{nextOf, noCounts, unreadMore, numberMore, caseMore, widthMore, isRefusal, isAnswer};
 use rules::refusals;
 use rules::refusals::Answer;
 use rules::refusals::Refusal;
@@ -12,7 +14,9 @@ pub struct Tally {
     pub unread: u64,
 }
 
-pub fn none() -> Tally {
+pub fn none() -> Tally
+    ensures { λ r. ⌜ r ≡ noCounts ⌝ }
+{
     Tally {
         numbers: [0; 10],
         widths: [0; 9],
@@ -21,48 +25,70 @@ pub fn none() -> Tally {
     }
 }
 
+// A count and one more.
+fn next(n: u64) -> u64
+    ensures { λ r. ⌜ r ≡ nextOf n ⌝ }
+{
+    wrapping_add_u64(n, 1)
+}
+
 // A line more that can't be read.
-pub fn unread(before: Tally) -> Tally {
+pub fn unread(before: Tally) -> Tally
+    ensures { λ r. ⌜ r ≡ unreadMore before ⌝ }
+{
     let mut t = before;
-    t.unread = wrapping_add_u64(t.unread, 1);
+    t.unread = next(t.unread);
     t
 }
 
 // One case more, by its refusal's number, 0 for none.
-fn count(before: Tally, number: usize) -> Tally {
+fn count(before: Tally, number: usize) -> Tally
+    ensures { λ r. ⌜ r ≡ numberMore before number ⌝ }
+{
     let mut t = before;
     if number < 10 {
-        t.numbers[number] = wrapping_add_u64(t.numbers[number], 1);
+        t.numbers[number] = next(t.numbers[number]);
         return t;
     }
     unread(t)
 }
 
 // One case more, and whether its answer and its lists were the stream's.
-pub fn case(before: Tally, number: usize, same: bool) -> Tally {
+pub fn case(before: Tally, number: usize, same: bool) -> Tally
+    ensures { λ r. ⌜ r ≡ caseMore before number same ⌝ }
+{
     let mut t = count(before, number);
     if !same {
-        t.different = wrapping_add_u64(t.different, 1);
+        t.different = next(t.different);
     }
     t
 }
 
 // The width of an accepted segment.
-pub fn width(before: Tally, samples: usize) -> Tally {
+pub fn width(before: Tally, samples: usize) -> Tally
+    ensures { λ r. ⌜ r ≡ widthMore before samples ⌝ }
+{
     let mut t = before;
     if samples < 9 {
-        t.widths[samples] = wrapping_add_u64(t.widths[samples], 1);
+        t.widths[samples] = next(t.widths[samples]);
     }
     t
 }
 
 // Whether a refusal has this number and place.
-pub fn refused(r: Refusal, number: usize, place: usize) -> bool {
-    refusals::number(r) as usize == number && refusals::place(r) == place
+pub fn refused(r: Refusal, number: usize, place: usize) -> bool
+    ensures { λ b. ⌜ b ≡ isRefusal r number place ⌝ }
+{
+    if refusals::number(r) as usize != number {
+        return false;
+    }
+    refusals::place(r) == place
 }
 
 // Whether an answer is the refusal of this number and place, or accepts where the number is 0.
-pub fn same(answer: Answer, number: usize, place: usize) -> bool {
+pub fn same(answer: Answer, number: usize, place: usize) -> bool
+    ensures { λ b. ⌜ b ≡ isAnswer answer number place ⌝ }
+{
     match answer {
         Answer::Accepted => number == 0,
         Answer::Refused(r) => refused(r, number, place),

@@ -1,6 +1,5 @@
 -- `bad_cell` meets its contract. Assumes nothing.
-use Rattle.cells.proofs.Marks.{bad-is, good-none}
-use Rattle.cells.proofs.Marks.{bads}
+use Rattle.cells.proofs.Marks.{bads, bad-is, small-none}
 use Rattle.cells.proofs.grid.bad_cell.Statement.{statement}
 use Rattle.cells.proofs.grid.bad_cell.Tie as tie
 
@@ -11,7 +10,7 @@ all-good-requires : tie.Need-all-good-requires
 all-good-requires c κs = search bads
 
 returns : tie.Need-returns
-returns c = bad-is _ _ _ _ _ _ (good-none _ _ (c .before .all-good .ensures (c .if1 .taken)))
+returns c = bad-is _ _ _ _ _ _ (small-none _ _ _ (c .before .all-good .ensures) (c .if1 .taken))
 
 first-bad-requires : tie.Need-first-bad-requires
 first-bad-requires c κs = search bads

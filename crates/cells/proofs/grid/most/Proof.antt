@@ -1,12 +1,13 @@
--- `most` meets its contract: the invariant says that no number passed is over the largest so far. Assumes nothing.
+-- `most` is the largest: the invariant says so of the numbers passed. Assumes nothing.
 use Prim.Native.Nat.{_≤_, _-_}
-use Rattle.cells.specs.Fit.{Within}
+use mathlib.Core.Path.{_≡_}
+use Rattle.laws.specs.Largest.{largest}
 use Rattle.cells.proofs.Marks.{most}
 use Rattle.cells.proofs.grid.most.Statement.{statement}
 use Rattle.cells.proofs.grid.most.Tie as tie
 
 abbrev Inv-loop : tie.InvT-loop
-Inv-loop list count m₀ k₀ m k = (k ≤ count) × Within m k list
+Inv-loop list count m₀ k₀ m k = (k ≤ count) × (m ≡ largest list 0 k)
 
 abbrev μ-loop : tie.MeasureT-loop
 μ-loop list count m₀ k₀ m k = count - k

@@ -1,12 +1,13 @@
--- `most` is at least the row's largest: the invariant says so of the samples passed. Assumes nothing.
+-- `most` is the row's largest: the invariant says so of the samples passed. Assumes nothing.
 use Prim.Native.Nat.{_-_, _≤_}
-use Rattle.scan.specs.Rows.{AtMost}
+use mathlib.Core.Path.{_≡_}
+use Rattle.laws.specs.Largest.{largest}
 use Rattle.scan.proofs.Rows.{rows}
 use Rattle.scan.proofs.over.most.Statement.{statement}
 use Rattle.scan.proofs.over.most.Tie as tie
 
 abbrev Inv-loop : tie.InvT-loop
-Inv-loop plane start count m₀ x₀ m x = (x ≤ count) × AtMost m plane start x
+Inv-loop plane start count m₀ x₀ m x = (x ≤ count) × (m ≡ largest plane start x)
 
 abbrev μ-loop : tie.MeasureT-loop
 μ-loop plane start count m₀ x₀ m x = count - x

@@ -1,0 +1,61 @@
+-- How a count's parts, as the code finds them, make the count. Assumes nothing.
+use Prim.Native.Nat.{ℕ, _≤_, _<_}
+use mathlib.Core.Path.{_≡_, refl, sym, ap, _∙_}
+use mathlib.Core.Bool.{Bool, true, false, not}
+use lib.ListN.{getD, set}
+use lib.Dec.{eqb, ltb}
+use borrow.Author.Needs.{needs}
+use borrow.Author.Tests.{not-true, not-false}
+use Rattle.laws.specs.Choose.{pick-yes, pick-no, both-bad, both-ok, is-lt, not-lt, is-eq, not-eq}
+use Rattle.rules.specs.Refusals.{numberOf, placeOf}
+use Rattle.rules.specs.declared.refusals.Refusal.{Refusal}
+use Rattle.tally.specs.declared.Tally.{Tally}
+use Rattle.tally.specs.Counts.{nextOf, bumped, counts, unreadMore, differentMore, numberMore, caseMore, widthMore, isRefusal}
+
+pub unread-counted : (t : Tally) (v : ℕ) → v ≡ nextOf (t .unread) → counts (t .numbers) (t .widths) (t .different) v ≡ unreadMore t
+unfolding unreadMore
+unread-counted t v e = ap (λ (x : ℕ). counts (t .numbers) (t .widths) (t .different) x) e
+
+pub number-counted : (t : Tally) (n v : ℕ) → n < 10 → v ≡ nextOf (getD (t .numbers) n 0)
+    → counts (set (t .numbers) n v) (t .widths) (t .different) (t .unread) ≡ numberMore t n
+unfolding numberMore bumped
+number-counted t n v h e =
+    pick-yes _ _ _ _ (is-lt n 10 h) (ap (λ (x : ℕ). counts (set (t .numbers) n x) (t .widths) (t .different) (t .unread)) e)
+
+pub number-unknown : (t r : Tally) (n : ℕ) → 10 ≤ n → r ≡ unreadMore t → r ≡ numberMore t n
+unfolding numberMore
+number-unknown t r n h e = pick-no _ _ _ _ (not-lt n 10 h) e
+
+pub case-same : (t u : Tally) (n : ℕ) (s : Bool) → u ≡ numberMore t n → not s ≡ false → u ≡ caseMore t n s
+unfolding caseMore
+case-same t u n s e h = pick-yes _ _ _ _ (sym (not-false s h)) e
+
+pub case-different : (t u : Tally) (n v : ℕ) (s : Bool) → u ≡ numberMore t n → v ≡ nextOf (u .different) → not s ≡ true
+    → counts (u .numbers) (u .widths) v (u .unread) ≡ caseMore t n s
+unfolding caseMore differentMore
+case-different t u n v s e f h =
+    pick-no _ _ _ _ (sym (not-true s h))
+    (ap (λ (x : ℕ). counts (u .numbers) (u .widths) x (u .unread)) f
+    ∙ ap (λ (x : Tally). counts (x .numbers) (x .widths) (nextOf (x .different)) (x .unread)) e)
+
+pub width-counted : (t : Tally) (w v : ℕ) → w < 9 → v ≡ nextOf (getD (t .widths) w 0)
+    → counts (t .numbers) (set (t .widths) w v) (t .different) (t .unread) ≡ widthMore t w
+unfolding widthMore bumped
+width-counted t w v h e =
+    pick-yes _ _ _ _ (is-lt w 9 h) (ap (λ (x : ℕ). counts (t .numbers) (set (t .widths) w x) (t .different) (t .unread)) e)
+
+pub width-unknown : (t : Tally) (w : ℕ) → 9 ≤ w → t ≡ widthMore t w
+unfolding widthMore
+width-unknown t w h = pick-no _ _ _ _ (not-lt w 9 h) refl
+
+-- another number, and the number: then the place decides
+pub refusal-other : (r : Refusal) (m n k : ℕ) → m ≡ numberOf r → (m ≡ n → ⊥) → false ≡ isRefusal r n k
+unfolding isRefusal
+refusal-other r m n k e h = both-bad _ _ (not-eq (numberOf r) n (λ f. h (e ∙ f)))
+
+pub refusal-placed : (r : Refusal) (m n p k : ℕ) → m ≡ numberOf r → m ≡ n → p ≡ placeOf r → eqb p k ≡ isRefusal r n k
+unfolding isRefusal
+refusal-placed r m n p k e f g = both-ok _ _ _ (is-eq (numberOf r) n (sym e ∙ f)) (ap (λ (x : ℕ). eqb x k) g)
+
+pub ruleset counting =
+    (needs, unread-counted, number-counted, number-unknown, case-same, case-different, width-counted, width-unknown, refusal-other, refusal-placed)

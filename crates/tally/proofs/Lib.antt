@@ -1,0 +1,2 @@
+-- What `proofs/` holds: the laws on counting.
+pub mod Counting

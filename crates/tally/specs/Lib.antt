@@ -1,0 +1,2 @@
+-- What `specs/` holds: how cases are counted.
+pub mod Counts
