@@ -40,6 +40,10 @@ signedAt xs start end =
     closed xs (ltb start (past xs start end 45)) (past xs start end 45)
     (readDigits xs 0 (past xs start end 45) (end - past xs start end 45)) end
 
+-- every number so far was there, and nothing follows
+unfoldable pub wholeLine : Cursor → Bool
+wholeLine c = pick (c .good) (eqb (c .at) (c .end)) false
+
 -- the number at a cursor that is good and stands in the text
 unfoldable pub numberAt : List ℕ → Cursor → Number
 numberAt xs c =

@@ -1,5 +1,6 @@
 -- A number as a type of its own: what is read where it fits, and that the line is given up where it does not. Assumes nothing.
 use Prim.Native.Nat.{ℕ}
+use mathlib.Core.List.{List}
 use lib.IntN.{pos, negℤ}
 use lib.Dec.{ltb}
 use mathlib.Core.Bool.{false}
@@ -7,7 +8,8 @@ use Rattle.cases.specs.declared.number.Cursor.{Cursor}
 use Rattle.cases.specs.declared.number.Number.{Number}
 use Rattle.cases.specs.declared.typed.Unsigned.{Unsigned}
 use Rattle.cases.specs.declared.typed.Signed.{Signed}
-use Rattle.cases.specs.Numbers.{pick}
+use Rattle.cases.specs.declared.typed.Told.{Told}
+use Rattle.cases.specs.Numbers.{pick, numberAt}
 
 -- a cursor from which nothing more is read
 unfoldable pub failed : Cursor → Cursor
@@ -29,3 +31,14 @@ fromZero size rest = pick (ltb 2147483647 size) (record { value = pos 0; rest = 
 
 unfoldable pub signedOf : Number → Signed
 signedOf n = pick (n .negative) (belowZero (n .size) (n .rest)) (fromZero (n .size) (n .rest))
+
+-- an answer: the refusal's number, 0 to 9, and its place
+unfoldable pub toldAt : List ℕ → Cursor → Told
+toldAt text c = told (unsignedOf 9 (numberAt text c))
+  where
+    told : Unsigned → Told
+    told n = record {
+      number = n .value;
+      place = unsignedOf 4294967295 (numberAt text (n .rest)) .value;
+      rest = unsignedOf 4294967295 (numberAt text (n .rest)) .rest;
+    }

@@ -2,8 +2,11 @@
 ghost use mathlib.Core.Path.{_≡_};
 ghost use Prim.Native.Nat.{_≤_};
 ghost use lib.ListN.{length};
-ghost use Rattle.cases.specs.Lists.{Fills};
+ghost use Rattle.cases.specs.Numbers.{numberAt};
+ghost use Rattle.cases.specs.Typed.{unsignedOf};
+ghost use Rattle.cases.specs.Lists.{Fills, Entries, Reads, ReadsTwo, SetsSteps, lengthAt};
 use crate::number::Cursor;
+use crate::number::ended;
 use crate::typed::read_signed;
 use crate::typed::read_unsigned;
 
@@ -11,6 +14,19 @@ use crate::typed::read_unsigned;
 pub struct Listed {
     pub length: usize,
     pub rest: Cursor,
+}
+
+// How many entries two lists have, and what follows them.
+pub struct Two {
+    pub a: usize,
+    pub b: usize,
+    pub rest: Cursor,
+}
+
+// How many steps a line sets, and whether it was read whole.
+pub struct Steps {
+    pub length: usize,
+    pub whole: bool,
 }
 
 // Whether the next entries are those of a list, the first place that differs, and what follows.
@@ -22,7 +38,7 @@ pub struct Held {
 
 // A list's length, where that many entries fit; else none, and the line is given up.
 fn read_length(text: &[u8], c: Cursor, most: usize) -> Listed
-    ensures { λ r. ⌜ r .length ≤ most ⌝ }
+    ensures { λ r. ⌜ (r .length ≤ most) × (r .length ≡ lengthAt (now (text .entry)) c most .value) × (r .rest ≡ lengthAt (now (text .entry)) c most .rest) ⌝ }
 {
     let n = read_unsigned(text, c, most);
     let length = n.value;
@@ -33,7 +49,7 @@ fn read_length(text: &[u8], c: Cursor, most: usize) -> Listed
 // The next n entries, a u8 each.
 fn fill_u8s(text: &[u8], c: Cursor, list: &mut [u8], n: usize) -> Cursor
     requires { ⌜ n ≤ length (now list) ⌝ }
-    ensures { λ r. ⌜ length (now (list .exit)) ≡ length (now (list .entry)) ⌝ }
+    ensures { λ r. ⌜ Entries 255 (now (text .entry)) c n (now (list .entry)) (now (list .exit)) r ⌝ }
 {
     let mut at = c;
     let mut i = 0;
@@ -49,7 +65,7 @@ fn fill_u8s(text: &[u8], c: Cursor, list: &mut [u8], n: usize) -> Cursor
 
 // A list of u8 entries, to the front of a lent list.
 pub fn read_u8s(text: &[u8], c: Cursor, list: &mut [u8]) -> Listed
-    ensures { λ r. ⌜ Fills (r .length) (now (list .entry)) (now (list .exit)) ⌝ }
+    ensures { λ r. ⌜ Reads 255 (now (text .entry)) c (now (list .entry)) (now (list .exit)) r ⌝ }
 {
     let n = read_length(text, c, list.len());
     let length = n.length;
@@ -57,10 +73,24 @@ pub fn read_u8s(text: &[u8], c: Cursor, list: &mut [u8]) -> Listed
     Listed { length, rest }
 }
 
+// Two lists of u8 entries, each to the front of its own lent list.
+pub fn read_two(text: &[u8], c: Cursor, a: &mut [u8], b: &mut [u8]) -> Two
+    ensures { λ r. ⌜ ReadsTwo (now (text .entry)) c (now (a .entry)) (now (b .entry)) (now (a .exit)) (now (b .exit)) r ⌝ }
+{
+    let x = read_u8s(text, c, a);
+    let y = read_u8s(text, x.rest, b);
+    let rest = y.rest;
+    Two {
+        a: x.length,
+        b: y.length,
+        rest,
+    }
+}
+
 // The next n entries, a u16 each.
 fn fill_u16s(text: &[u8], c: Cursor, list: &mut [u16], n: usize) -> Cursor
     requires { ⌜ n ≤ length (now list) ⌝ }
-    ensures { λ r. ⌜ length (now (list .exit)) ≡ length (now (list .entry)) ⌝ }
+    ensures { λ r. ⌜ Entries 65535 (now (text .entry)) c n (now (list .entry)) (now (list .exit)) r ⌝ }
 {
     let mut at = c;
     let mut i = 0;
@@ -76,7 +106,7 @@ fn fill_u16s(text: &[u8], c: Cursor, list: &mut [u16], n: usize) -> Cursor
 
 // A list of u16 entries, to the front of a lent list.
 pub fn read_u16s(text: &[u8], c: Cursor, list: &mut [u16]) -> Listed
-    ensures { λ r. ⌜ Fills (r .length) (now (list .entry)) (now (list .exit)) ⌝ }
+    ensures { λ r. ⌜ Reads 65535 (now (text .entry)) c (now (list .entry)) (now (list .exit)) r ⌝ }
 {
     let n = read_length(text, c, list.len());
     let length = n.length;
@@ -87,7 +117,7 @@ pub fn read_u16s(text: &[u8], c: Cursor, list: &mut [u16]) -> Listed
 // The next n entries, a u32 each.
 fn fill_u32s(text: &[u8], c: Cursor, list: &mut [u32], n: usize) -> Cursor
     requires { ⌜ n ≤ length (now list) ⌝ }
-    ensures { λ r. ⌜ length (now (list .exit)) ≡ length (now (list .entry)) ⌝ }
+    ensures { λ r. ⌜ Entries 4294967295 (now (text .entry)) c n (now (list .entry)) (now (list .exit)) r ⌝ }
 {
     let mut at = c;
     let mut i = 0;
@@ -103,7 +133,7 @@ fn fill_u32s(text: &[u8], c: Cursor, list: &mut [u32], n: usize) -> Cursor
 
 // A list of u32 entries, to the front of a lent list.
 pub fn read_u32s(text: &[u8], c: Cursor, list: &mut [u32]) -> Listed
-    ensures { λ r. ⌜ Fills (r .length) (now (list .entry)) (now (list .exit)) ⌝ }
+    ensures { λ r. ⌜ Reads 4294967295 (now (text .entry)) c (now (list .entry)) (now (list .exit)) r ⌝ }
 {
     let n = read_length(text, c, list.len());
     let length = n.length;
@@ -111,10 +141,20 @@ pub fn read_u32s(text: &[u8], c: Cursor, list: &mut [u32]) -> Listed
     Listed { length, rest }
 }
 
+// A line that sets the step table: its steps, to the front of a lent list.
+pub fn set_steps(text: &[u8], c: Cursor, list: &mut [u32]) -> Steps
+    ensures { λ r. ⌜ SetsSteps (now (text .entry)) c (now (list .entry)) (now (list .exit)) r ⌝ }
+{
+    let l = read_u32s(text, c, list);
+    let length = l.length;
+    let whole = ended(l.rest);
+    Steps { length, whole }
+}
+
 // The next n entries, a usize each.
 fn fill_usizes(text: &[u8], c: Cursor, list: &mut [usize], n: usize) -> Cursor
     requires { ⌜ n ≤ length (now list) ⌝ }
-    ensures { λ r. ⌜ length (now (list .exit)) ≡ length (now (list .entry)) ⌝ }
+    ensures { λ r. ⌜ Entries 4294967295 (now (text .entry)) c n (now (list .entry)) (now (list .exit)) r ⌝ }
 {
     let mut at = c;
     let mut i = 0;
@@ -130,7 +170,7 @@ fn fill_usizes(text: &[u8], c: Cursor, list: &mut [usize], n: usize) -> Cursor
 
 // A list of usize entries, to the front of a lent list.
 pub fn read_usizes(text: &[u8], c: Cursor, list: &mut [usize]) -> Listed
-    ensures { λ r. ⌜ Fills (r .length) (now (list .entry)) (now (list .exit)) ⌝ }
+    ensures { λ r. ⌜ Reads 4294967295 (now (text .entry)) c (now (list .entry)) (now (list .exit)) r ⌝ }
 {
     let n = read_length(text, c, list.len());
     let length = n.length;

@@ -4,7 +4,7 @@ ghost use mathlib.Core.Bool.{true};
 ghost use Prim.Native.Nat.{_+_, _-_, _*_, _≤_, _<_};
 ghost use lib.ListN.{length};
 ghost use Rattle.cases.specs.Digits.{goesOn, readDigits};
-ghost use Rattle.cases.specs.Numbers.{nothing, past, ends, closed, signedAt, numberAt};
+ghost use Rattle.cases.specs.Numbers.{nothing, past, ends, closed, signedAt, wholeLine, numberAt};
 
 // A place in a line: its next byte, the line's end, and whether every number so far was there.
 pub struct Cursor {
@@ -141,6 +141,16 @@ fn signed_number(text: &[u8], start: usize, end: usize) -> Number
     let first = past_byte(text, start, end, 45);
     let run = digits(text, first, end);
     close_number(text, start < first, first, run, end)
+}
+
+// Whether a line was read whole.
+pub fn ended(c: Cursor) -> bool
+    ensures { λ r. ⌜ r ≡ wholeLine c ⌝ }
+{
+    if !c.good {
+        return false;
+    }
+    c.at == c.end
 }
 
 // The next number of a line.

@@ -1,9 +1,9 @@
-// The next number of a line as a type of its own.
+// The next number of a line as a type of its own, and the two numbers of an answer.
 ghost use mathlib.Core.Path.{_≡_};
 ghost use Prim.Native.Nat.{_≤_, _<_};
 ghost use lib.IntN.{pos, negℤ};
 ghost use Rattle.cases.specs.Numbers.{numberAt};
-ghost use Rattle.cases.specs.Typed.{failed, unsignedOf, belowZero, fromZero, signedOf};
+ghost use Rattle.cases.specs.Typed.{failed, unsignedOf, belowZero, fromZero, signedOf, toldAt};
 use crate::number::Cursor;
 use crate::number::next_number;
 
@@ -14,6 +14,13 @@ pub struct Unsigned {
 
 pub struct Signed {
     pub value: i32,
+    pub rest: Cursor,
+}
+
+// The answer that a line gives its case: the refusal's number, 0 for none, and its place.
+pub struct Told {
+    pub number: usize,
+    pub place: usize,
     pub rest: Cursor,
 }
 
@@ -117,4 +124,18 @@ pub fn read_signed(text: &[u8], c: Cursor) -> Signed
         return below_zero(size, rest);
     }
     from_zero(size, rest)
+}
+
+// The answer that a line gives.
+pub fn read_told(text: &[u8], c: Cursor) -> Told
+    ensures { λ r. ⌜ r ≡ toldAt (now (text .entry)) c ⌝ }
+{
+    let number = read_unsigned(text, c, 9);
+    let place = read_unsigned(text, number.rest, 4294967295);
+    let rest = place.rest;
+    Told {
+        number: number.value,
+        place: place.value,
+        rest,
+    }
 }

@@ -30,7 +30,8 @@ use Rattle.ccso.specs.Ranges.{Within, Ranges}
 use Rattle.ccso.specs.Lists.{Fit}
 use Rattle.ccso.specs.Stated.{Stated}
 use Rattle.ccso.specs.Checks.{cutsOk, classesOk, tapsOk, samplesCheck}
-use Rattle.ccso.proofs.Ranged.{three-parts, range-parts}
+use Rattle.scan.proofs.Ranges.{range-parts}
+use Rattle.ccso.proofs.Ranged.{three-parts}
 use Rattle.ccso.proofs.Lengths.{sizable}
 
 -- ---- each way out of the checks

@@ -3,7 +3,7 @@
 use mathlib.Core.Path.{_≡_, refl, sym, ap, _∙_}
 use mathlib.Core.List.{List}
 use Prim.Native.Nat.{ℕ, zero, suc, _+_, _-_, _*_, _/_, _≤_, _<_, min}
-use native.Mathlib.Nat.{add-zero, add-suc, add-mul, one-mul, zero-mul, mul-le-mul, lt-of-lt-of-le}
+use native.Mathlib.Nat.{add-mul, one-mul, zero-mul, mul-le-mul, lt-of-lt-of-le}
 use native.Mathlib.Omega.{arith}
 use borrow.Author.Needs.{needs}
 use lib.ListN.{getD, set}
@@ -13,7 +13,7 @@ use mir.Val.{Fits}
 use lib.Seq.{set-getD}
 use borrow.Author.Tests.{eq-eqb, ne-eqb}
 use Rattle.laws.specs.Choose.{pick}
-use Rattle.laws.specs.Loops.{turns, turns-same, turns-keep, turns-end, loops}
+use Rattle.laws.specs.Loops.{turns, turns-same, turns-keep, turns-add, turns-end, loops}
 use Rattle.rules.specs.declared.settings.Ccso.{Ccso}
 use Rattle.rules.specs.Numbers.{down}
 use Rattle.rules.specs.Frame.{superblocks}
@@ -118,12 +118,6 @@ module _ {s : Ccso} (a : Ranges s) {r : Row} (o : RowOf s r) (b : ℕ) (h : b < 
 
         end-is : end ≡ columnsTo s (b + 1)
         end-is = e ∙ rw (d .blockw, d .width) (sym ends)
-
--- one loop, then the turns after it
-pub turns-add : {A : Type 0} (f : ℕ → A → A) (x : A) (n m : ℕ) → turns m (λ j. f (n + j)) (turns n f x) ≡ turns (n + m) f x
-unfolding turns
-turns-add f x n zero = ap (λ (k : ℕ). turns k f x) (sym (add-zero n))
-turns-add f x n (suc m) = ap (f (n + m)) (turns-add f x n m) ∙ ap (λ (k : ℕ). turns k f x) (sym (add-suc n m))
 
 -- block after block is the row
 module _ (s : Ccso) (luma flags : List ℕ) (offsets : List ℤ) (y : ℕ) (t : List ℕ) where

@@ -8,12 +8,12 @@ use borrow.Author.Needs.{needs}
 use lib.IntN.{ℤ, pos, _+ℤ_, _-ℤ_}
 use lib.Signed.{ltZ, leZ}
 use Rattle.laws.specs.Choose.{pick, pick-yes, pick-no}
-use Rattle.laws.specs.Whole.{Is, count, plus, between, between-is}
+use Rattle.laws.specs.Whole.{Is, count, plus, between, between-is, differ}
 use Rattle.rules.specs.declared.settings.Ccso.{Ccso}
 use Rattle.rules.specs.Ccso.{classOf, tapClass}
 use Rattle.ccso.specs.declared.counts.Counts.{Counts}
 use Rattle.ccso.specs.Ranges.{Ranges, Raised}
-use Rattle.ccso.proofs.Signed.{is-ltZ, not-ltZ, is-leZ, not-leZ, differ}
+use Rattle.laws.specs.Order.{is-ltZ, not-ltZ, is-leZ, not-leZ}
 
 -- a place moved by a tap and limited, in counts
 pub limited-is : (at raised size r : ℕ) → r ≡ min (at + raised - 16) (size - 1) → (dx : ℤ) → Is dx raised 16 → r ≡ between 0 (size - 1) (pos at +ℤ dx)

@@ -5,57 +5,26 @@ use mathlib.Core.Bool.{Bool, true, false, not}
 use mathlib.Core.List.{List, [], _∷_, _++_}
 use Prim.Native.Nat.{ℕ, zero, suc, _+_, _-_, _≤_, _<_}
 use native.Mathlib.Omega.{arith}
-use borrow.Author.Tests.{le-leb, not-true, not-false}
+use borrow.Author.Tests.{not-true, not-false}
 use lib.Dec.{leb}
-use lib.IntN.{ℤ, pos, negsuc, negℤ}
+use lib.IntN.{ℤ, pos, negℤ}
 use lib.Signed.{leZ, mag}
 use mir.Syntax.{w32}
 use mir.Val.{SFits, toZ, ofZ}
 use mir.Facts.{toZ-ofZ}
-use Rattle.laws.specs.Choose.{all, both, both-bad, both-ok, both-parts, told-yes-not, told-no-not}
-use Rattle.laws.specs.Whole.{Is, over, under, self, count, neg}
+use Rattle.laws.specs.Choose.{all, both, both-bad, both-ok, told-yes-not, told-no-not}
+use Rattle.laws.specs.Whole.{over, under}
 use Rattle.laws.specs.Machine.{back}
 use Rattle.rules.specs.declared.settings.Ccso.{Ccso}
 use Rattle.rules.specs.Numbers.{inRangeZ}
 use Rattle.rules.specs.Ccso.{ccsoSettingsOk, bandOk}
 use Rattle.ccso.specs.Ranges.{Within}
 use Rattle.ccso.specs.Checks.{cutsOk, classesOk, tapsOk}
-use Rattle.ccso.proofs.Signed.{is-leZ, not-leZ, le-counts}
+use Rattle.scan.proofs.Ranges.{range-below, range-above}
 
 -- ---- a signed number in -low..high
 
-module _ (z : ℤ) (low high : ℕ) where
-  pub range-below : low < under z → false ≡ inRangeZ (negℤ (pos low)) (pos high) z
-  unfolding inRangeZ
-  range-below h = both-bad _ _ (not-leZ (negℤ (pos low)) z (neg (pos low) (count low)) (self z) (go z h))
-    where
-      go : (z : ℤ) → low < under z → over z + low < 0 + under z
-      go (pos n) h = omega arith
-      go (negsuc n) h = omega arith
-
-  pub range-above : under z ≤ low → leb (over z) high ≡ inRangeZ (negℤ (pos low)) (pos high) z
-  unfolding inRangeZ
-  range-above h = both-ok _ _ _ (is-leZ (negℤ (pos low)) z (neg (pos low) (count low)) (self z) (omega arith)) (go z)
-    where
-      go : (z : ℤ) → leb (over z) high ≡ leZ z (pos high)
-      go (pos n) = refl
-      go (negsuc n) = le-leb 0 high (omega arith)
-
-  pub range-parts : inRangeZ (negℤ (pos low)) (pos high) z ≡ true → (under z ≤ low) × (over z ≤ high)
-  unfolding inRangeZ
-  range-parts e =
-      let p = both-parts _ _ e in
-      (go-low z (le-counts _ _ (neg (pos low) (count low)) (self z) (p .0)), go-high z (le-counts _ _ (self z) (count high) (p .1)))
-    where
-      go-low : (z : ℤ) → 0 + under z ≤ over z + low → under z ≤ low
-      go-low (pos n) h = omega arith
-      go-low (negsuc n) h = omega arith
-
-      go-high : (z : ℤ) → over z + 0 ≤ high + under z → over z ≤ high
-      go-high (pos n) h = omega arith
-      go-high (negsuc n) h = omega arith
-
--- the same by a number's split, which was read back
+-- by a number's split, which was read back
 module _ (z : ℤ) (low high : ℕ) (fit : SFits w32 z) (d : ℕ) (e : d ≡ under (toZ w32 (ofZ w32 z))) where
   down-is : d ≡ under z
   down-is = rw (toZ-ofZ fit) at e

@@ -1,68 +1,16 @@
--- Tests of signed numbers that are read as differences of counts, and numbers in a range around 0.
+-- Numbers in a range around 0, stored as an i32 or a byte and read back.
 -- Assumes nothing.
-use mathlib.Core.Path.{_≡_, refl, sym}
-use mathlib.Core.Bool.{true, false}
-use Prim.Native.Nat.{ℕ, _+_, _≤_, _<_}
+use mathlib.Core.Path.{_≡_}
+use Prim.Native.Nat.{ℕ, _≤_}
 use native.Mathlib.Omega.{arith}
 use borrow.Author.Needs.{needs}
-use borrow.Author.Tests.{lt-ltb, le-ltb, le-leb, lt-leb, leb-true}
-use Rattle.laws.specs.Choose.{true-not-false}
-use lib.IntN.{ℤ, pos, negsuc, _-ℤ_}
-use lib.Signed.{ltZ, leZ}
+use lib.IntN.{ℤ, pos, negsuc}
 use mir.Syntax.{w8, w32}
 use mir.Val.{SFits, toZ, ofZ}
 use mir.Facts.{toZ-ofZ}
-use Rattle.laws.specs.Whole.{Is, self, count, minus, recast}
+use Rattle.laws.specs.Whole.{Is, self}
 use Rattle.laws.specs.Machine.{fits}
 use Rattle.ccso.specs.Ranges.{Within}
-
-module _ (z w : ℤ) {a b c d : ℕ} where
-  pub is-ltZ : Is z a b → Is w c d → a + d < c + b → true ≡ ltZ z w
-  is-ltZ h k l = go z w h k
-    where
-      go : (z w : ℤ) → Is z a b → Is w c d → true ≡ ltZ z w
-      go (pos m) (pos n) h k = sym (lt-ltb m n (omega arith))
-      go (pos m) (negsuc n) h k = absurd (omega arith)
-      go (negsuc m) (pos n) h k = refl
-      go (negsuc m) (negsuc n) h k = sym (lt-ltb n m (omega arith))
-
-  pub not-ltZ : Is z a b → Is w c d → c + b ≤ a + d → false ≡ ltZ z w
-  not-ltZ h k l = go z w h k
-    where
-      go : (z w : ℤ) → Is z a b → Is w c d → false ≡ ltZ z w
-      go (pos m) (pos n) h k = sym (le-ltb m n (omega arith))
-      go (pos m) (negsuc n) h k = refl
-      go (negsuc m) (pos n) h k = absurd (omega arith)
-      go (negsuc m) (negsuc n) h k = sym (le-ltb n m (omega arith))
-
-  pub is-leZ : Is z a b → Is w c d → a + d ≤ c + b → true ≡ leZ z w
-  is-leZ h k l = go z w h k
-    where
-      go : (z w : ℤ) → Is z a b → Is w c d → true ≡ leZ z w
-      go (pos m) (pos n) h k = sym (le-leb m n (omega arith))
-      go (pos m) (negsuc n) h k = absurd (omega arith)
-      go (negsuc m) (pos n) h k = refl
-      go (negsuc m) (negsuc n) h k = sym (le-leb n m (omega arith))
-
-  pub not-leZ : Is z a b → Is w c d → c + b < a + d → false ≡ leZ z w
-  not-leZ h k l = go z w h k
-    where
-      go : (z w : ℤ) → Is z a b → Is w c d → false ≡ leZ z w
-      go (pos m) (pos n) h k = sym (lt-leb m n (omega arith))
-      go (pos m) (negsuc n) h k = refl
-      go (negsuc m) (pos n) h k = absurd (omega arith)
-      go (negsuc m) (negsuc n) h k = sym (lt-leb n m (omega arith))
-
--- what a test that passed says of the counts
-pub le-counts : (z w : ℤ) {a b c d : ℕ} → Is z a b → Is w c d → leZ z w ≡ true → a + d ≤ c + b
-le-counts (pos m) (pos n) h k t = omega (arith, leb-true m n t)
-le-counts (pos m) (negsuc n) h k t = true-not-false t
-le-counts (negsuc m) (pos n) h k t = omega arith
-le-counts (negsuc m) (negsuc n) h k t = omega (arith, leb-true n m t)
-
--- the difference of two counts
-pub differ : (a b : ℕ) → Is (pos a -ℤ pos b) a b
-differ a b = recast (minus (pos a) (pos b) (count a) (count b)) (omega arith)
 
 -- a number in a small range, stored and read back
 pub back : (z : ℤ) {most : ℕ} → Within z most → most ≤ 4095 → toZ w32 (ofZ w32 z) ≡ z

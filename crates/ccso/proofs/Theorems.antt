@@ -10,7 +10,7 @@ use lib.Dec.{eqb}
 use lib.ListN.{getD, length}
 use lib.IntN.{ℤ, pos, negsuc, _+ℤ_, _*ℤ_}
 use Rattle.laws.specs.Choose.{pick}
-use Rattle.laws.specs.Whole.{limit}
+use Rattle.laws.specs.Whole.{limit-most}
 use Rattle.rules.specs.declared.settings.Ccso.{Ccso}
 use Rattle.rules.specs.declared.refusals.Refusal.{Refusal}
 use Rattle.rules.specs.declared.refusals.Answer.{Answer}
@@ -22,10 +22,6 @@ use Rattle.ccso.specs.Stated.{Stated}
 use Rattle.ccso.proofs.Places.{cell-below}
 use Rattle.ccso.proofs.Accepted.{accepted, target-low}
 use Rattle.ccso.proofs.Everywhere.{target-length, target-at, target-past}
-
-limit-most : (top : ℕ) (z : ℤ) → limit top z ≤ top
-limit-most top (pos n) = omega arith
-limit-most top (negsuc n) = omega arith
 
 offset-most : (s : Ccso) (v : ℕ) (z : ℤ) → offsetSample s v z ≤ topOf (s .depth)
 unfolding offsetSample

@@ -6,20 +6,16 @@ use mathlib.Core.Bool.{Bool, true, false, not}
 use Prim.Native.Nat.{ℕ, _*_, _≤_}
 use native.Mathlib.Nat.{mul-le-mul}
 use native.Mathlib.Omega.{arith}
-use borrow.Author.Tests.{leb-true, eqb-true}
+use borrow.Author.Tests.{eqb-true}
 use mir.Val.{Fits}
 use mir.Syntax.{w64}
 use lib.Dec.{eqb}
-use Rattle.laws.specs.Choose.{either, told-yes-not, all-parts, both-parts, either-parts}
+use Rattle.laws.specs.Choose.{either, told-yes-not, all-parts, either-parts}
 use Rattle.rules.specs.declared.settings.Plane.{Plane}
 use Rattle.rules.specs.Numbers.{inRange}
 use Rattle.rules.specs.Plane.{planeSizesOk}
+use Rattle.scan.proofs.Ranges.{in-range}
 use Rattle.cells.specs.Fit.{Sizes}
-
--- low..high
-pub in-range : (low high n : ℕ) → inRange low high n ≡ true → (low ≤ n) × (n ≤ high)
-unfolding inRange
-in-range low high n e = let p = both-parts _ _ e in (leb-true _ _ (p .0), leb-true _ _ (p .1))
 
 pub sizes : (s : Plane) → planeSizesOk s ≡ true → Sizes s
 unfolding planeSizesOk

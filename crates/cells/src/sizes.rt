@@ -1,22 +1,12 @@
 // Document 01, "Numbers accepted", of a plane: its sizes and the lengths of its lists.
 use rules::settings::Plane;
+use scan::in_range;
 ghost use mathlib.Core.Path.{_≡_};
 ghost use lib.Dec.{eqb};
 ghost use lib.ListN.{length};
 ghost use Rattle.laws.specs.Choose.{either};
-ghost use Rattle.rules.specs.Numbers.{inRange};
 ghost use Rattle.rules.specs.Plane.{grid, planeSizesOk, planeLengthsOk};
 ghost use Rattle.cells.specs.Fit.{Sizes};
-
-// low..high.
-fn in_range(low: usize, high: usize, n: usize) -> bool
-    ensures { λ r. ⌜ r ≡ inRange low high n ⌝ }
-{
-    if n < low {
-        return false;
-    }
-    n <= high
-}
 
 // A superblock is 8 or 16 cells wide and high.
 fn superblock_ok(n: usize) -> bool

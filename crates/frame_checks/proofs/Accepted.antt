@@ -19,7 +19,8 @@ use Rattle.rules.specs.Frame.{lumaPlane, chromaPlane, chromaOn, strideOk, frame
 use Rattle.scan.proofs.Checks.{else-parts, unless-true, only-part}
 use Rattle.grid.proofs.Checked.{ssx-most, ssy-most}
 use Rattle.cells.specs.Fit.{Sizes}
-use Rattle.cells.proofs.Accepted.{in-range, rows-fit, area-fits, cells-fit}
+use Rattle.scan.proofs.Ranges.{in-range}
+use Rattle.cells.proofs.Accepted.{rows-fit, area-fits, cells-fit}
 use Rattle.frame_checks.specs.Settings.{Sized, planeOf}
 use Rattle.frame_checks.proofs.Ranges.{cells, blocks}
 

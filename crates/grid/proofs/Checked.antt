@@ -22,6 +22,7 @@ use Rattle.rules.specs.Refusals.{found, first, foundUnless}
 use Rattle.rules.specs.TuGrid.{Marks, marks, cellsOk, capOk, foursOk, marksLong, leafGoodAt, badLeaf, txGridCheck}
 use Rattle.rules.specs.QindexGrid.{qGridCheck}
 use Rattle.scan.proofs.First.{nothing-all, unless-nothing}
+use Rattle.scan.proofs.Ranges.{in-range}
 use Rattle.scan.proofs.Checks.{else-parts, unless-true, found-nothing}
 use Rattle.grid.specs.Fit.{Fit, Cut, AllGood, QFit, Measures}
 use Rattle.grid.proofs.Leaves.{leaf-good}
@@ -29,17 +30,13 @@ use Rattle.grid.proofs.Places.{cells-fit}
 
 -- ---- sizes
 
-range-most : (low high n : ℕ) → inRange low high n ≡ true → n ≤ high
-unfolding inRange
-range-most low high n e = leb-true _ _ (both-parts _ _ e .1)
-
 pub cols-most : (cols rows : ℕ) → cellsOk cols rows ≡ true → cols ≤ 1024
 unfolding cellsOk
-cols-most cols rows e = range-most 1 1024 cols (both-parts _ _ e .0)
+cols-most cols rows e = in-range 1 1024 cols (both-parts _ _ e .0) .1
 
 pub rows-most : (cols rows : ℕ) → cellsOk cols rows ≡ true → rows ≤ 1024
 unfolding cellsOk
-rows-most cols rows e = range-most 1 1024 rows (both-parts _ _ e .1)
+rows-most cols rows e = in-range 1 1024 rows (both-parts _ _ e .1) .1
 
 pub ssx-most : (ssx ssy : ℕ) → subsamplingOk ssx ssy ≡ true → ssx ≤ 1
 unfolding subsamplingOk
@@ -127,7 +124,7 @@ q-accepted s sbq q e =
       rows-most = rows-most _ _ (s1 .0);
       ssx-most = ssx-most _ _ (s2 .0);
       ssy-most = ssy-most _ _ (s2 .0);
-      sbcols-most = range-most 1 128 _ (s3 .0);
+      sbcols-most = in-range 1 128 _ (s3 .0) .1;
       some = leb-true _ _ (l1 .0);
       long = leb-true _ _ (l2 .0);
     }

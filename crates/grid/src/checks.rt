@@ -1,20 +1,11 @@
 // The tests that both entries share, and those of lengths and caps.
+use scan::in_range;
 ghost use mathlib.Core.Path.{_≡_};
 ghost use mathlib.Core.List.{[], _∷_};
 ghost use lib.Dec.{leb};
 ghost use Rattle.laws.specs.Choose.{all};
 ghost use Rattle.rules.specs.Numbers.{inRange, subsamplingOk};
 ghost use Rattle.rules.specs.TuGrid.{cellsOk, capOk, foursOk};
-
-// low..high.
-pub fn in_range(low: usize, high: usize, n: usize) -> bool
-    ensures { λ r. ⌜ r ≡ inRange low high n ⌝ }
-{
-    if n < low {
-        return false;
-    }
-    n <= high
-}
 
 pub fn cells_ok(cols: usize, rows: usize) -> bool
     ensures { λ r. ⌜ r ≡ cellsOk cols rows ⌝ }

@@ -1,6 +1,7 @@
 pub mod Choose
 pub mod Tests
 pub mod Whole
+pub mod Order
 pub mod Machine
 pub mod Table
 pub mod Loops

@@ -1,11 +1,13 @@
--- Properties of a list's elements: of every one, of some one, of every pair; kept by `++` and by a loop.
+-- Properties of a list's elements: of every one, of some one, of every pair; kept by `++` and by a loop. And how long its front is.
 -- Assumes nothing.
+use mathlib.Core.Path.{_≡_}
 use mathlib.Core.Logic.{_⊎_, inl, inr}
 use mathlib.Core.List.{List, [], _∷_, _++_, map}
-use Prim.Native.Nat.{ℕ, zero, suc, _<_}
+use Prim.Native.Nat.{ℕ, zero, suc, _≤_, _<_}
 use native.Mathlib.Nat.{le-refl, le-step, not-suc-le-zero}
 use native.Mathlib.Decide.{ℕ-discrete}
 use native.Mathlib.Omega.{arith}
+use lib.ListN.{length, take, length-take}
 use Rattle.laws.specs.Loops.{each}
 
 module _ {E : Type 0} where
@@ -124,3 +126,7 @@ module _ {E : Type 0} where
 pub each-of-map : {A B : Type 0} (P : B → Type 0) (f : A → B) (xs : List A) → Each (λ x. P (f x)) xs → Each P (map f xs)
 each-of-map P f [] h = tt
 each-of-map P f (x ∷ xs) h = (h .0, each-of-map P f xs (h .1))
+
+-- the front of a list that is long enough is as long as was asked
+pub front : {A : Type 0} (n : ℕ) (xs : List A) → n ≤ length xs → n ≡ length (take n xs)
+front n xs h = omega (arith, length-take n xs)

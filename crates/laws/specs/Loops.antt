@@ -155,6 +155,12 @@ module _ {A : Type 0} (f : ℕ → A → A) (x : A) where
   turns-keep P zero p h = p
   turns-keep P (suc n) p h = h n (turns n f x) (le-refl (suc n)) (turns-keep P n p (λ k a l. h k a (le-step l)))
 
+  -- the first n turns, then the others
+  pub turns-add : (n m : ℕ) → turns m (λ j. f (n + j)) (turns n f x) ≡ turns (n + m) f x
+  unfolding turns
+  turns-add n zero = ap (λ (k : ℕ). turns k f x) (sym (add-zero n))
+  turns-add n (suc m) = ap (f (n + m)) (turns-add n m) ∙ ap (λ (k : ℕ). turns k f x) (sym (add-suc n m))
+
 pub turns-same : {A : Type 0} (f g : ℕ → A → A) (x : A) (n : ℕ) → ((k : ℕ) (a : A) → k < n → f k a ≡ g k a) → turns n f x ≡ turns n g x
 unfolding turns
 turns-same f g x zero h = refl

@@ -1,12 +1,10 @@
 -- A signed number as the machine holds it, in w bits, read as a difference of two counts: at any width, and then at 32.
 -- Assumes nothing.
 use mathlib.Core.Path.{_≡_}
-use mathlib.Core.Bool.{true, false}
 use Prim.Native.Nat.{ℕ, _+_, _≤_, _<_, _^_}
 use native.Mathlib.Omega.{arith}
-use borrow.Author.Tests.{ltb-true, ltb-false}
 use lib.IntN.{ℤ, pos, negsuc}
-use lib.Signed.{ltZ, nonNeg, mag}
+use lib.Signed.{nonNeg, mag}
 use lib.Dec.{T, leb}
 use mir.Syntax.{Width, w32}
 use mir.Val.{SFits, toZ, ofZ, hbits}
@@ -68,25 +66,6 @@ short n h = word (pos n) (count n) (omega arith) (omega arith)
 -- a u32 cast to an i32
 pub held : (n : ℕ) → n < 2147483648 → Is (toZ w32 n) n 0
 held n h = word (pos n) (count n) (omega arith) (omega arith)
-
--- a test that passed, and one that failed
-pub lt-yes : (z w : ℤ) {a b c d : ℕ} → Is z a b → Is w c d → ltZ z w ≡ true → a + d < c + b
-lt-yes (pos m) (pos n) h k t = omega (arith, ltb-true m n t)
-lt-yes (pos m) (negsuc n) h k t = omega (arith, the t)
-  where
-    the : false ≡ true → _≡_ {A = ℕ} 0 1
-    the e = cc
-lt-yes (negsuc m) (pos n) h k t = omega arith
-lt-yes (negsuc m) (negsuc n) h k t = omega (arith, ltb-true n m t)
-
-pub lt-no : (z w : ℤ) {a b c d : ℕ} → Is z a b → Is w c d → ltZ z w ≡ false → c + b ≤ a + d
-lt-no (pos m) (pos n) h k t = omega (arith, ltb-false m n t)
-lt-no (pos m) (negsuc n) h k t = omega arith
-lt-no (negsuc m) (pos n) h k t = omega (arith, the t)
-  where
-    the : true ≡ false → _≡_ {A = ℕ} 0 1
-    the e = cc
-lt-no (negsuc m) (negsuc n) h k t = omega (arith, ltb-false n m t)
 
 -- not negative
 pub non-neg : (z : ℤ) {a b : ℕ} → Is z a b → b ≤ a → T (nonNeg z)

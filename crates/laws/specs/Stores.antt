@@ -10,7 +10,7 @@ use native.Mathlib.Decide.{ℕ-discrete, decLt}
 use native.Mathlib.Omega.{arith}
 use borrow.Author.Needs.{needs}
 use lib.ListN.{length, getD, set, length-set}
-use lib.Seq.{getD-set-same, getD-set-other, set-out}
+use lib.Seq.{getD-set-same, getD-set-other, set-out, set-comm}
 use Rattle.laws.specs.Loops.{each}
 use Rattle.laws.specs.Lists.{Each, Some}
 
@@ -55,6 +55,12 @@ module _ (f : ℕ → List Store) (l : List ℕ) where
   puts-end k n e a b = rw (le-antisymm a b) at e
 
 pub ruleset storing = (needs, puts-one, puts-then, puts-none, puts-more, puts-end)
+
+-- a store to a place that none of those before it goes to may come first
+pub puts-set : (ss : List Store) (l : List ℕ) (p v : ℕ) → Each (λ (st : Store). st .0 ≡ p → ⊥) ss → set (puts ss l) p v ≡ puts ss (set l p v)
+unfolding puts
+puts-set [] l p v h = refl
+puts-set (s ∷ ss) l p v h = puts-set ss (set l (s .0) (s .1)) p v (h .1) ∙ ap (λ (x : List ℕ). puts ss x) (set-comm l (s .0) p (s .1) v (h .0))
 
 -- ---- what stands at a place afterwards
 

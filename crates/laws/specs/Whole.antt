@@ -82,6 +82,10 @@ neg (negsuc n) h = record { eq = omega arith }
 pub minus : (z w : ℤ) {a b c d : ℕ} → Is z a b → Is w c d → Is (z -ℤ w) (a + d) (b + c)
 minus z w h k = plus z (negℤ w) h (neg w k)
 
+-- of two counts
+pub differ : (a b : ℕ) → Is (pos a -ℤ pos b) a b
+differ a b = recast (minus (pos a) (pos b) (count a) (count b)) (omega arith)
+
 -- by a count on the right
 pub times : (z : ℤ) (k : ℕ) {a b : ℕ} → Is z a b → Is (z *ℤ pos k) (a * k) (b * k)
 times (pos m) k {a} {b} h = record { eq = omega (arith, ap (λ (n : ℕ). n * k) (h .eq), add-mul m b k) }
@@ -111,6 +115,10 @@ within-is size (negsuc n) h = neg (pos (min (suc n) size)) (record { eq = omega 
 pub limit-is : (top : ℕ) (z : ℤ) {a b : ℕ} → Is z a b → limit top z ≡ min (a - b) top
 limit-is top (pos n) h = omega arith
 limit-is top (negsuc n) h = omega arith
+
+pub limit-most : (top : ℕ) (z : ℤ) → limit top z ≤ top
+limit-most top (pos n) = omega arith
+limit-most top (negsuc n) = omega arith
 
 pub size-is : (z : ℤ) {a b : ℕ} → Is z a b → natAbs z ≡ (a - b) + (b - a)
 size-is (pos n) h = omega arith

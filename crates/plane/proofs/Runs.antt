@@ -13,7 +13,7 @@ use Rattle.rules.specs.declared.edge.Edge.{Edge}
 use Rattle.rules.specs.declared.settings.Plane.{Plane}
 use Rattle.rules.specs.Numbers.{topOf}
 use Rattle.rules.specs.Segment.{runEdges, segmentOf}
-use Rattle.rules.specs.Plane.{marksOf, indicesOf, indexAt, isEdge, edgeAt, visitOf}
+use Rattle.rules.specs.Plane.{Grid, marksOf, indicesOf, indexAt, isEdge, edgeAt, visitOf}
 use Rattle.segment.specs.Fit.{EdgeFiltered}
 use Rattle.cells.specs.Fit.{oneWay, marked}
 use Rattle.plane.specs.Run.{IsEdgeAt, Ran, Field}
@@ -44,6 +44,10 @@ module _ {s : Plane} {t : List ℕ} where
   ran-end F n m one a b = rw (← le-antisymm a b) one
 
 pub ruleset runs = (needs, ran-none, ran-more, ran-end, ran-then)
+
+-- one more cell of a row from start: the cell visited is the next one
+pub row-more : {s : Plane} {t : List ℕ} (g : Grid) (dir r start n : ℕ) {c : ℕ} {p q l : List ℕ} → Ran s t (λ steps. each n (λ j. visitOf s steps g dir r (start + j))) p q → Ran s t (λ steps. visitOf s steps g dir r c) q l → c ≡ start + n → Ran s t (λ steps. each (n + 1) (λ j. visitOf s steps g dir r (start + j))) p l
+row-more {s} g dir r start n one two e = ran-more (λ steps j. visitOf s steps g dir r (start + j)) n one (rw e at two)
 
 -- ---- one cell
 

@@ -82,9 +82,10 @@ module _ {s : Plane} {t : List ℕ} (v h w y q : List ℕ) (sb : ℕ) {a b : Lis
   unfolding turnOf runEdges pick
   turn-first e = rw (eq-eqb _ _ e) (ran-then (λ steps. vertSb s steps (grid v h w y q) sb) (λ steps. []) (vert-of v h w y q sb one) (record { is = λ steps of. refl }))
 
-  pub turn-later : {c : List ℕ} → (sb ≡ 0 → ⊥) → Ran s t (λ steps. horzSb s steps (oneWay h y q) (sb - 1)) b c → Ran s t (λ steps. turnOf s steps (grid v h w y q) sb) a c
+  -- the superblock column whose horizontal edges follow is the previous one
+  pub turn-later : {prev : ℕ} {c : List ℕ} → (sb ≡ 0 → ⊥) → Ran s t (λ steps. horzSb s steps (oneWay h y q) prev) b c → prev ≡ sb - 1 → Ran s t (λ steps. turnOf s steps (grid v h w y q) sb) a c
   unfolding turnOf pick
-  turn-later e two = rw (ne-eqb _ _ e) (ran-then (λ steps. vertSb s steps (grid v h w y q) sb) (λ steps. horzSb s steps (grid v h w y q) (sb - 1)) (vert-of v h w y q sb one) (horz-of v h w y q (sb - 1) two))
+  turn-later e two is = rw (ne-eqb _ _ e) (ran-then (λ steps. vertSb s steps (grid v h w y q) sb) (λ steps. horzSb s steps (grid v h w y q) (sb - 1)) (vert-of v h w y q sb one) (horz-of v h w y q (sb - 1) (rw is at two)))
 
 pub edges-are : {s : Plane} {t : List ℕ} (v h w y q : List ℕ) {k : ℕ} {a b c : List ℕ} → Ran s t (λ steps. each k (λ sb. turnOf s steps (grid v h w y q) sb)) a b → k ≤ sbCols s → sbCols s ≤ k → Ran s t (λ steps. horzSb s steps (oneWay h y q) (sbCols s - 1)) b c → Ran s t (λ steps. edgesOf s steps (grid v h w y q)) a c
 unfolding edgesOf

@@ -9,7 +9,7 @@ use lib.Signed.{ltZ}
 use mir.Syntax.{w8}
 use mir.Val.{SFits}
 use Rattle.laws.specs.Whole.{self}
-use Rattle.laws.specs.Machine.{lt-yes, lt-no}
+use Rattle.laws.specs.Order.{lt-yes, lt-no}
 
 pub byte-fits : (z : ℤ) → ltZ z (negsuc 127) ≡ false → ltZ z (pos 128) ≡ true → SFits w8 z
 byte-fits (pos n) e f = record { sfits = omega (arith, lt-yes (pos n) (pos 128) (self _) (self _) f) }

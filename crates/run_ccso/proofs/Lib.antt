@@ -1,3 +1,2 @@
 -- The laws of this program's proofs.
-pub mod Fronts
 pub mod Bytes

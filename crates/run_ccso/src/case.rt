@@ -3,6 +3,7 @@ ghost use Prim.Native.Nat.{_≤_};
 ghost use lib.ListN.{length};
 use cases::Cursor;
 use cases::Listed;
+use cases::Told;
 use ccso::apply::apply_edge_gated;
 use rules::settings::Ccso;
 use tally::Tally;
@@ -25,13 +26,6 @@ struct Classes {
     below: u32,
     within: u32,
     above: u32,
-    rest: Cursor,
-}
-
-// The answer, and what follows it.
-struct Told {
-    number: usize,
-    place: usize,
     rest: Cursor,
 }
 
@@ -116,31 +110,15 @@ fn read_offsets(text: &[u8], c: Cursor, to: &mut [i8]) -> Listed
     l
 }
 
-fn read_told(text: &[u8], c: Cursor) -> Told {
-    let number = cases::read_unsigned(text, c, 9);
-    let place = cases::read_unsigned(text, number.rest, 4294967295);
-    let rest = place.rest;
-    Told {
-        number: number.value,
-        place: place.value,
-        rest,
-    }
-}
-
-// Whether a line was read whole.
-fn ended(c: Cursor) -> bool {
-    c.good && c.at == c.end
-}
-
 // Whether the target is the stream's: the new one of an accepted case, the lent one of a refused case.
 fn held(text: &[u8], lent: Cursor, told: Told, target: &[u16]) -> bool {
     if told.number == 0 {
         let new = cases::hold_u16s(text, told.rest, target);
-        return new.same && ended(new.rest);
+        return new.same && cases::ended(new.rest);
     }
     let n = cases::read_unsigned(text, lent, 4294967295);
     let old = cases::hold_u16s(text, n.rest, target);
-    old.same && ended(told.rest)
+    old.same && cases::ended(told.rest)
 }
 
 // The entry's answer and its target, held against the stream's.
@@ -172,7 +150,7 @@ fn replay_lists(
     let mut offsets = [0i8; 256];
     let f = cases::read_u8s(text, c, &mut flags);
     let o = read_offsets(text, f.rest, &mut offsets);
-    let told = read_told(text, o.rest);
+    let told = cases::read_told(text, o.rest);
     let rest = told.rest;
     if !rest.good {
         return tally::unread(t);

@@ -1,8 +1,8 @@
 // One frame of the stream: its lists are read in the line's order, the entry is called, and all is held against the line.
 use crate::held;
 use crate::read;
-use crate::read::Told;
 use cases::Cursor;
+use cases::Told;
 use frame::frame::deblock_frame;
 use rules::settings::Frame;
 use tally::Tally;
@@ -134,7 +134,7 @@ fn with_chroma(
     let mut ct = [0u8; 16384];
     let mut cq = [0u16; 16384];
     let n = read::grid(text, at, &mut cv, &mut ch, &mut cw, &mut ct, &mut cq);
-    let told = read::told_of(text, n.rest);
+    let told = cases::read_told(text, n.rest);
     let ncv = n.vedge;
     let nch = n.hedge;
     let ncw = n.sqw;

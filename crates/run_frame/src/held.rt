@@ -1,6 +1,6 @@
 // Lists after the call, held against the line's: the new ones where they are printed, else the lent ones.
-use crate::read::Told;
 use cases::Cursor;
+use cases::Told;
 
 // Whether the lists so far are the line's, where the next ones stand, and whether their lengths stand before them, as those of lent lists do.
 pub struct Matched {
@@ -53,14 +53,9 @@ fn last(told: Told, rest: Cursor) -> Cursor {
     }
 }
 
-// Whether a line was read whole.
-fn ended(c: Cursor) -> bool {
-    c.good && c.at == c.end
-}
-
 // Whether all lists are the line's, and the line ends where it should.
 pub fn whole(told: Told, m: Matched) -> bool {
-    both(m.same, ended(last(told, m.rest)))
+    both(m.same, cases::ended(last(told, m.rest)))
 }
 
 // Where a list's entries start.

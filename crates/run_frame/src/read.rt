@@ -30,13 +30,6 @@ pub struct Five {
     pub rest: Cursor,
 }
 
-// The answer, and what follows it.
-pub struct Told {
-    pub number: usize,
-    pub place: usize,
-    pub rest: Cursor,
-}
-
 // The picture's numbers. They are read past 32 bits: the stream has refused ones of that size.
 struct Picture {
     width: usize,
@@ -182,18 +175,6 @@ pub fn grid(
         sqw: w.length,
         sqh: t.length,
         qindex: q.length,
-        rest,
-    }
-}
-
-// The answer.
-pub fn told_of(text: &[u8], c: Cursor) -> Told {
-    let number = cases::read_unsigned(text, c, 9);
-    let place = cases::read_unsigned(text, number.rest, 4294967295);
-    let rest = place.rest;
-    Told {
-        number: number.value,
-        place: place.value,
         rest,
     }
 }

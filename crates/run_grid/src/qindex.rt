@@ -51,10 +51,12 @@ fn read(text: &[u8], c: Cursor, sbq: &mut [u16], qindex: &mut [u16]) -> Case
 // Whether the list is the stream's: the new one of an accepted case, the lent one of a refused case.
 fn held(text: &[u8], c: Case, qindex: &[u16]) -> bool {
     if c.number == 0 {
-        return cases::hold_u16s(text, c.rest, qindex).same;
+        let new = cases::hold_u16s(text, c.rest, qindex);
+        return new.same && cases::ended(new.rest);
     }
     let n = cases::read_unsigned(text, c.lent, 4294967295);
-    cases::hold_u16s(text, n.rest, qindex).same
+    let old = cases::hold_u16s(text, n.rest, qindex);
+    old.same && cases::ended(c.rest)
 }
 
 // The entry's answer and its list, held against the stream's.

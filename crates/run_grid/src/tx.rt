@@ -3,6 +3,7 @@ ghost use Prim.Native.Nat.{_≤_};
 ghost use lib.ListN.{length};
 use cases::Cursor;
 use cases::Listed;
+use cases::Told;
 use grid::tx_grid::build_tx_grid;
 use rules::settings::TuGrid;
 use tally::Tally;
@@ -10,20 +11,6 @@ use tally::Tally;
 // The settings and what follows them.
 struct Asked {
     s: TuGrid,
-    rest: Cursor,
-}
-
-// How long two lists are, and what follows them.
-struct Two {
-    a: usize,
-    b: usize,
-    rest: Cursor,
-}
-
-// The answer, and what follows it.
-struct Told {
-    number: usize,
-    place: usize,
     rest: Cursor,
 }
 
@@ -66,31 +53,6 @@ fn read_leaves(text: &[u8], c: Cursor, to: &mut [u16]) -> Listed
     l
 }
 
-// Two lists of marks or size indices.
-fn read_two(text: &[u8], c: Cursor, a: &mut [u8], b: &mut [u8]) -> Two
-    ensures { λ r. ⌜ (r .a ≤ length (now (a .entry))) × (r .b ≤ length (now (b .entry))) ⌝ }
-{
-    let x = cases::read_u8s(text, c, a);
-    let y = cases::read_u8s(text, x.rest, b);
-    let rest = y.rest;
-    Two {
-        a: x.length,
-        b: y.length,
-        rest,
-    }
-}
-
-fn read_told(text: &[u8], c: Cursor) -> Told {
-    let number = cases::read_unsigned(text, c, 9);
-    let place = cases::read_unsigned(text, number.rest, 4294967295);
-    let rest = place.rest;
-    Told {
-        number: number.value,
-        place: place.value,
-        rest,
-    }
-}
-
 // Where a list's entries start: the lent lists have their lengths before them.
 fn entries(text: &[u8], c: Cursor, counted: bool) -> Cursor {
     if !counted {
@@ -100,7 +62,13 @@ fn entries(text: &[u8], c: Cursor, counted: bool) -> Cursor {
     n.rest
 }
 
-// Whether the four lists are the stream's.
+// The lists held against the stream's: whether they are the same, and what follows them.
+struct Matched {
+    same: bool,
+    rest: Cursor,
+}
+
+// The four lists.
 fn held(
     text: &[u8],
     c: Cursor,
@@ -109,12 +77,16 @@ fn held(
     hedge: &[u8],
     sqw: &[u8],
     sqh: &[u8],
-) -> bool {
+) -> Matched {
     let v = cases::hold_u8s(text, entries(text, c, counted), vedge);
     let h = cases::hold_u8s(text, entries(text, v.rest, counted), hedge);
     let w = cases::hold_u8s(text, entries(text, h.rest, counted), sqw);
     let t = cases::hold_u8s(text, entries(text, w.rest, counted), sqh);
-    v.same && h.same && w.same && t.same
+    let rest = t.rest;
+    Matched {
+        same: v.same && h.same && w.same && t.same,
+        rest,
+    }
 }
 
 // The entry's answer and its lists, held against the stream's: the new ones of an accepted case, the lent ones of a refused case.
@@ -136,9 +108,11 @@ fn compare(
         return false;
     }
     if number == 0 {
-        return held(text, told.rest, false, vedge, hedge, sqw, sqh);
+        let new = held(text, told.rest, false, vedge, hedge, sqw, sqh);
+        return new.same && cases::ended(new.rest);
     }
-    held(text, lent, true, vedge, hedge, sqw, sqh)
+    let old = held(text, lent, true, vedge, hedge, sqw, sqh);
+    old.same && cases::ended(told.rest)
 }
 
 // The lists after the leaves, and the answer.
@@ -154,9 +128,9 @@ fn replay_lists(
     let mut hedge = [0u8; 16384];
     let mut sqw = [0u8; 16384];
     let mut sqh = [0u8; 16384];
-    let marks = read_two(text, lent, &mut vedge, &mut hedge);
-    let indices = read_two(text, marks.rest, &mut sqw, &mut sqh);
-    let told = read_told(text, indices.rest);
+    let marks = cases::read_two(text, lent, &mut vedge, &mut hedge);
+    let indices = cases::read_two(text, marks.rest, &mut sqw, &mut sqh);
+    let told = cases::read_told(text, indices.rest);
     let rest = told.rest;
     if !rest.good {
         return tally::unread(t);

@@ -2,6 +2,7 @@
 ghost use Prim.Native.Nat.{_≤_};
 ghost use lib.ListN.{length};
 use cases::Cursor;
+use cases::Told;
 use plane::deblock_plane;
 use rules::settings::Plane;
 use tally::Tally;
@@ -9,20 +10,6 @@ use tally::Tally;
 // The settings and what follows them.
 struct Asked {
     s: Plane,
-    rest: Cursor,
-}
-
-// How long two lists are, and what follows them.
-struct Two {
-    a: usize,
-    b: usize,
-    rest: Cursor,
-}
-
-// The answer, and what follows it.
-struct Told {
-    number: usize,
-    place: usize,
     rest: Cursor,
 }
 
@@ -58,45 +45,15 @@ fn settings(text: &[u8], c: Cursor) -> Asked {
     }
 }
 
-// Two lists of marks or size indices.
-fn read_two(text: &[u8], c: Cursor, a: &mut [u8], b: &mut [u8]) -> Two
-    ensures { λ r. ⌜ (r .a ≤ length (now (a .entry))) × (r .b ≤ length (now (b .entry))) ⌝ }
-{
-    let x = cases::read_u8s(text, c, a);
-    let y = cases::read_u8s(text, x.rest, b);
-    let rest = y.rest;
-    Two {
-        a: x.length,
-        b: y.length,
-        rest,
-    }
-}
-
-fn read_told(text: &[u8], c: Cursor) -> Told {
-    let number = cases::read_unsigned(text, c, 9);
-    let place = cases::read_unsigned(text, number.rest, 4294967295);
-    let rest = place.rest;
-    Told {
-        number: number.value,
-        place: place.value,
-        rest,
-    }
-}
-
-// Whether a line was read whole.
-fn ended(c: Cursor) -> bool {
-    c.good && c.at == c.end
-}
-
 // Whether the plane is the stream's: the new one of an accepted case, the lent one of a refused case.
 fn held(text: &[u8], lent: Cursor, told: Told, plane: &[u16]) -> bool {
     if told.number == 0 {
         let new = cases::hold_u16s(text, told.rest, plane);
-        return new.same && ended(new.rest);
+        return new.same && cases::ended(new.rest);
     }
     let n = cases::read_unsigned(text, lent, 4294967295);
     let old = cases::hold_u16s(text, n.rest, plane);
-    old.same && ended(told.rest)
+    old.same && cases::ended(told.rest)
 }
 
 // The entry's answer and its plane, held against the stream's.
@@ -134,7 +91,7 @@ fn replay_samples(
     let q = cases::read_u16s(text, c, &mut qindex);
     let lent = q.rest;
     let p = cases::read_u16s(text, lent, &mut plane);
-    let told = read_told(text, p.rest);
+    let told = cases::read_told(text, p.rest);
     let rest = told.rest;
     if !rest.good {
         return tally::unread(t);
@@ -164,8 +121,8 @@ pub fn replay(text: &[u8], c: Cursor, steps: &[u32], t: Tally) -> Tally {
     let mut sqw = [0u8; 16384];
     let mut sqh = [0u8; 16384];
     let asked = settings(text, c);
-    let marks = read_two(text, asked.rest, &mut vedge, &mut hedge);
-    let indices = read_two(text, marks.rest, &mut sqw, &mut sqh);
+    let marks = cases::read_two(text, asked.rest, &mut vedge, &mut hedge);
+    let indices = cases::read_two(text, marks.rest, &mut sqw, &mut sqh);
     let v = marks.a;
     let h = marks.b;
     let w = indices.a;

@@ -99,12 +99,12 @@ fn same(answer: Width, c: Case) -> bool {
     }
 }
 
-// Whether the plane is the stream's: the one after the answer, or where refused the one that was lent.
+// Whether the plane is the stream's, the one after the answer or where refused the one that was lent, and the line ends where it should.
 fn same_plane(text: &[u8], c: Case, plane: &[u16]) -> bool {
     let stands = if c.number == 0 { c.after } else { c.lent };
     let h = cases::hold_u16s(text, stands, plane);
-    let rest = h.rest;
-    h.same && rest.good
+    let last = if c.number == 0 { h.rest } else { c.after };
+    h.same && cases::ended(last)
 }
 
 // The entry's answer and plane, held against the stream's; the plane is the case's, with nothing beyond it.

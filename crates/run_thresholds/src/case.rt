@@ -52,7 +52,7 @@ pub fn read(text: &[u8], c: Cursor) -> Case {
         number: number.value,
         a: a.value,
         b: b.value,
-        good: end.good,
+        good: cases::ended(end),
     }
 }
 

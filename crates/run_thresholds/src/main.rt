@@ -19,22 +19,6 @@ fn room() -> [u8; 65536] {
     [0; 65536]
 }
 
-// A line that sets the step table.
-fn set_steps(text: &[u8], c: Cursor, steps: &mut [u32], t: Tally) -> Run
-    ensures { λ r. ⌜ length (now (steps .exit)) ≡ length (now (steps .entry)) ⌝ }
-{
-    let l = cases::read_u32s(text, c, steps);
-    let n = l.length;
-    let rest = l.rest;
-    if rest.good {
-        return Run { tally: t, steps: n };
-    }
-    Run {
-        tally: tally::unread(t),
-        steps: n,
-    }
-}
-
 // A line of any kind.
 fn replay(text: &[u8], c: Cursor, steps: &mut [u32], before: Run) -> Run
     ensures { λ r. ⌜ length (now (steps .exit)) ≡ length (now (steps .entry)) ⌝ }
@@ -50,7 +34,11 @@ fn replay(text: &[u8], c: Cursor, steps: &mut [u32], before: Run) -> Run
         };
     }
     if kind.value == 1 {
-        return set_steps(text, rest, steps, t);
+        let table = cases::set_steps(text, rest, steps);
+        return Run {
+            tally: tally::no_case(t, table.whole),
+            steps: table.length,
+        };
     }
     if steps.len() < n {
         return before;

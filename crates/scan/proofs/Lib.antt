@@ -1,3 +1,4 @@
 pub mod First
 pub mod Checks
 pub mod Rows
+pub mod Ranges

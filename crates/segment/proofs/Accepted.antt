@@ -29,15 +29,12 @@ use Rattle.rules.specs.Lone.{edgeOf, sizesOk, settingsOk, overEdge, loneCheck, 
 use Rattle.choice.proofs.Lengths.{PairFacts, pair-facts}
 use Rattle.scan.specs.Rows.{Box}
 use Rattle.scan.proofs.Rows.{box-inner}
+use Rattle.scan.proofs.Ranges.{in-range}
 use Rattle.scan.proofs.Checks.{stop, go-on, unless-bad, unless-good, else-parts, unless-true, found-nothing, settle-refused-by, settle-accepted-by}
 use Rattle.segment.specs.Fit.{InPlane, EdgeFiltered}
 use Rattle.segment.proofs.Cells.{along-of}
 
 -- ---- what a check that passed says
-range-is : (low high n : ℕ) → inRange low high n ≡ true → (low ≤ n) × (n ≤ high)
-unfolding inRange
-range-is low high n h = let p = both-parts _ _ h in (leb-true low n (p .0), leb-true n high (p .1))
-
 pub record Sizes (s : Lone) : Type 0 where
   pub columns-some : 1 ≤ s .columns
   pub columns-most : s .columns ≤ 4096
@@ -52,9 +49,9 @@ sizes-are s h =
     let p = all-parts _ _ (sym h) in
     let q = all-parts _ _ (p .1) in
     let r = all-parts _ _ (q .1) in
-    let x = range-is 1 4096 (s .columns) (p .0) in
-    let y = range-is 1 4096 (s .rows) (q .0) in
-    let z = range-is (s .columns) 8192 (s .stride) (r .0) in
+    let x = in-range 1 4096 (s .columns) (p .0) in
+    let y = in-range 1 4096 (s .rows) (q .0) in
+    let z = in-range (s .columns) 8192 (s .stride) (r .0) in
     record { columns-some = x .0; columns-most = x .1; rows-some = y .0; rows-most = y .1; row = z .0; stride-most = z .1 }
 
 pub product-most : (s : Lone) → true ≡ sizesOk s → s .rows * s .stride ≤ 33554432

@@ -13,7 +13,7 @@ use lib.Seq.{getD-set-same, getD-set-other}
 use lib.IntN.{ℤ, pos, negsuc, _+ℤ_, _-ℤ_}
 use Rattle.laws.specs.Lists.{Each}
 use Rattle.laws.specs.Stores.{Store, puts, puts-length}
-use Rattle.laws.specs.Whole.{limit}
+use Rattle.laws.specs.Whole.{limit-most}
 use Rattle.rules.specs.declared.edge.Edge.{Edge}
 use Rattle.rules.specs.declared.edge.Place.{Place}
 use Rattle.rules.specs.declared.edge.Line.{Line}
@@ -96,10 +96,6 @@ module _ (top : ℕ) (g : Place) (l : List ℕ) (fit : Fit g (length l)) where
       rw (new-after j k hj hk) (ramp-after top (getD l (qPlace g j k) 0) wide k hk (omega arith) (diff j))
 
 -- ---- every store is at most top
-limit-most : (top : ℕ) (z : ℤ) → limit top z ≤ top
-limit-most top (pos n) = omega arith
-limit-most top (negsuc n) = omega arith
-
 before-most : (top x : ℕ) (d : ℤ) (s i : ℕ) → before top x d s i ≤ top
 before-most top x d s i = limit-most top (pos x +ℤ move d s i)
 

@@ -7,11 +7,10 @@ use Prim.Native.Nat.{ℕ, _+_, _-_, _*_, _≤_, _<_, max}
 use native.Mathlib.Nat.{mul-le-mul-right, add-mul, le-antisymm}
 use native.Mathlib.Omega.{arith}
 use lib.ListN.{length, getD, set}
-use lib.Seq.{set-comm}
 use lib.IntN.{ℤ}
 use Rattle.laws.specs.Lists.{Each, each-append, each-loop}
 use Rattle.laws.specs.Loops.{each, each-same}
-use Rattle.laws.specs.Stores.{Store, puts, puts-append, puts-then, puts-one, puts-none, puts-more, puts-other, puts-length}
+use Rattle.laws.specs.Stores.{Store, puts, puts-append, puts-then, puts-one, puts-none, puts-more, puts-other, puts-length, puts-set}
 use Rattle.laws.specs.Whole.{within}
 use Rattle.rules.specs.Taps.{weightOf, difference, before, after}
 use Rattle.rules.specs.Segment.{pAt, qAt}
@@ -67,12 +66,6 @@ module _ (top at step s by : ℕ) (plus : Bool) (l : List ℕ) (one : 1 ≤ step
       (g ∙ ap (λ (x : ℕ). against top x plus (by * (s - i))) (after-unread i e)))
 
 -- ---- both sides, one store more on each
-
--- a store to a place that none of those before it goes to may come first
-puts-set : (ss : List Store) (l : List ℕ) (p v : ℕ) → Each (λ (st : Store). st .0 ≡ p → ⊥) ss → set (puts ss l) p v ≡ puts ss (set l p v)
-unfolding puts
-puts-set [] l p v h = refl
-puts-set (s ∷ ss) l p v h = puts-set ss (set l (s .0) (s .1)) p v (h .1) ∙ ap (λ (x : List ℕ). puts ss x) (set-comm l (s .0) p (s .1) v (h .0))
 
 module _ (top at step s by : ℕ) (plus : Bool) (l : List ℕ) (one : 1 ≤ step) where
   abbrev P : ℕ → List Store

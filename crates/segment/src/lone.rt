@@ -10,24 +10,16 @@ use rules::refusals::Found;
 use rules::refusals::Refusal;
 use rules::refusals::Width;
 use rules::settings::Lone;
+use scan::in_range;
 use scan::samples;
 ghost use mathlib.Core.Path.{_≡_};
 ghost use Prim.Native.Nat.{_≤_};
 ghost use lib.ListN.{length};
-ghost use Rattle.rules.specs.Numbers.{inRange, topOf};
+ghost use Rattle.rules.specs.Numbers.{topOf};
 ghost use Rattle.rules.specs.Refusals.{found};
 ghost use Rattle.rules.specs.declared.refusals.Refusal.the-variants.{Sample};
 ghost use Rattle.rules.specs.Lone.{edgeOf, sizesOk, settingsOk, overEdge, loneCheck, lonePlane, loneWidth};
 ghost use Rattle.segment.specs.Fit.{InPlane};
-
-fn in_range(low: usize, high: usize, n: usize) -> bool
-    ensures { λ r. ⌜ r ≡ inRange low high n ⌝ }
-{
-    if n < low {
-        return false;
-    }
-    n <= high
-}
 
 fn sizes_ok(s: Lone) -> bool
     ensures { λ r. ⌜ r ≡ sizesOk s ⌝ }

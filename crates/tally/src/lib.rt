@@ -41,6 +41,14 @@ pub fn unread(before: Tally) -> Tally
     t
 }
 
+// A line that is no case: it counts where it can't be read.
+pub fn no_case(before: Tally, read: bool) -> Tally {
+    if read {
+        return before;
+    }
+    unread(before)
+}
+
 // One case more, by its refusal's number, 0 for none.
 fn count(before: Tally, number: usize) -> Tally
     ensures { λ r. ⌜ r ≡ numberMore before number ⌝ }

@@ -1,22 +1,22 @@
 -- Laws of an index held as a gap: the whole number that it is, and its limits.
 -- Assumes nothing.
-use mathlib.Core.Path.{_≡_, refl, sym, _∙_}
+use mathlib.Core.Path.{_≡_, sym, _∙_}
 use mathlib.Core.Bool.{true, false}
 use Prim.Native.Nat.{ℕ, _+_, _*_, _-_, _≤_, _<_, min, max}
 use native.Mathlib.Omega.{arith}
-use borrow.Author.Tests.{leb-true}
+use borrow.Author.Tests.{le-leb}
 use lib.IntN.{ℤ, pos, negsuc}
-use Rattle.laws.specs.Choose.{both-parts, both-bad, both-later, both-ok, is-le, not-le}
-use Rattle.laws.specs.Whole.{Is, over, under, same, self, count, recast, plus, minus, scale, between, between-is}
+use Rattle.laws.specs.Whole.{Is, over, under, same, self, count, plus, differ, scale, between, between-is}
 use Rattle.laws.specs.declared.whole.Gap.{Gap}
-use Rattle.rules.specs.Numbers.{deltaOk, inRangeZ}
+use Rattle.rules.specs.Numbers.{deltaOk}
 use Rattle.rules.specs.Thresholds.{indexOf}
+use Rattle.scan.proofs.Ranges.{range-below, range-above, range-over, range-parts}
 use Rattle.thresholds.specs.Index.{whole, IndexIs}
 
 -- a gap stands for up - down
 pub whole-is : (g : Gap) → Is (whole g) (g .up) (g .down)
 unfolding whole
-whole-is g = recast (minus (pos (g .up)) (pos (g .down)) (count (g .up)) (count (g .down))) (omega arith)
+whole-is g = differ (g .up) (g .down)
 
 -- two gaps, or a gap and a number, that are the same difference
 pub whole-of : (g : Gap) (z : ℤ) {a b : ℕ} → Is z a b → g .up + b ≡ a + g .down → whole g ≡ z
@@ -43,27 +43,29 @@ pub record Small (delta : ℤ) : Type 0 where
   pub below : under delta ≤ 128
 
 pub small : (delta : ℤ) → deltaOk delta ≡ true → Small delta
-unfolding deltaOk inRangeZ
-small (pos n) ok = record { above = leb-true _ _ (both-parts _ _ ok .1); below = omega arith }
-small (negsuc n) ok =
-    let h : n ≤ 127 = leb-true _ _ (both-parts _ _ ok .0) in
-    record { above = omega arith; below = omega arith }
+unfolding deltaOk
+small delta ok = let p = range-parts delta 128 127 ok in record { above = p .1; below = p .0 }
 
 -- how the two tests of a delta come out
 pub too-low : (delta : ℤ) → over delta + 128 < under delta → false ≡ deltaOk delta
-unfolding deltaOk inRangeZ
-too-low (pos n) h = absurd (omega arith)
-too-low (negsuc n) h = both-bad _ _ (not-le n 127 (omega arith))
+unfolding deltaOk
+too-low delta h = range-below delta 128 127 (omega arith)
 
 pub too-high : (delta : ℤ) → 127 + under delta < over delta → false ≡ deltaOk delta
-unfolding deltaOk inRangeZ
-too-high (pos n) h = both-later _ _ (not-le n 127 (omega arith))
-too-high (negsuc n) h = absurd (omega arith)
+unfolding deltaOk
+too-high delta h = range-over delta 128 127 (omega arith)
 
 pub in-range : (delta : ℤ) → under delta ≤ over delta + 128 → over delta ≤ 127 + under delta → true ≡ deltaOk delta
-unfolding deltaOk inRangeZ
-in-range (pos n) l h = both-ok _ _ _ refl (is-le n 127 (omega arith))
-in-range (negsuc n) l h = both-ok _ _ _ (is-le n 127 (omega arith)) refl
+unfolding deltaOk
+in-range delta l h = sym (le-leb _ _ (high delta h)) ∙ range-above delta 128 127 (low delta l)
+  where
+    low : (z : ℤ) → under z ≤ over z + 128 → under z ≤ 128
+    low (pos n) l = omega arith
+    low (negsuc n) l = omega arith
+
+    high : (z : ℤ) → over z ≤ 127 + under z → over z ≤ 127
+    high (pos n) h = omega arith
+    high (negsuc n) h = omega arith
 
 -- qindex + 8·delta in counts
 pub index-is : (qindex : ℕ) (delta : ℤ) (g : Gap) → deltaOk delta ≡ true → qindex < 65536 → g .up ≡ qindex + 8 * over delta → g .down ≡ 8 * under delta → IndexIs qindex delta g

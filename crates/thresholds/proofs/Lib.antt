@@ -1,4 +1,3 @@
-pub mod Neighbours
 pub mod SideRule
 pub mod Indices
 pub mod Sides

@@ -15,7 +15,7 @@ use lib.Signed.{leZ, _≤ℤ_, leZ-yes, ≤ℤ-refl}
 use Rattle.laws.specs.Tests.{and-l, and-r}
 use Rattle.laws.specs.Whole.{over, under}
 use Rattle.rules.specs.SideTable.{sideTable}
-use Rattle.thresholds.proofs.Neighbours.{near}
+use Rattle.laws.specs.Table.{near}
 
 abbrev pub entry : ℕ → ℤ
 entry k = getD sideTable k (pos 0)

@@ -1,6 +1,6 @@
 -- The table that stands is the front of the lent list. Assumes nothing.
 use borrow.Author.Needs.{needs}
-use Rattle.run_plane.proofs.Fronts.{front}
+use Rattle.laws.specs.Lists.{front}
 use Rattle.run_plane.proofs.replay.Statement.{statement}
 use Rattle.run_plane.proofs.replay.Tie as tie
 
@@ -9,6 +9,9 @@ read-unsigned-requires c κs = search needs
 
 set-steps-requires : tie.Need-set-steps-requires
 set-steps-requires c κs = search needs
+
+no-case-requires : tie.Need-no-case-requires
+no-case-requires c κs = search needs
 
 same-length : tie.Need-same-length
 same-length c = search needs
@@ -43,6 +46,7 @@ replay-spec =
     (tie.spec
     read-unsigned-requires
     set-steps-requires
+    no-case-requires
     same-length
     returns
     unread-requires

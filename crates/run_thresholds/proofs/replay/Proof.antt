@@ -17,6 +17,9 @@ returns c = search needs
 set-steps-requires : tie.Need-set-steps-requires
 set-steps-requires c κs = search needs
 
+no-case-requires : tie.Need-no-case-requires
+no-case-requires c κs = search needs
+
 same-length : tie.Need-same-length
 same-length c = search needs
 
@@ -52,6 +55,7 @@ replay-spec =
     unread-requires
     returns
     set-steps-requires
+    no-case-requires
     same-length
     returns-2
     returns-3

@@ -1,5 +1,5 @@
 -- `read_u16s` fills the front of the list, by what the length and the filling ensure. Assumes nothing.
-use Rattle.cases.proofs.Filled.{fillings}
+use Rattle.cases.proofs.Filled.{listings}
 use borrow.Author.Needs.{needs}
 use Rattle.cases.proofs.lists.read_u16s.Statement.{statement}
 use Rattle.cases.proofs.lists.read_u16s.Tie as tie
@@ -14,7 +14,7 @@ same-length : tie.Need-same-length
 same-length c = search needs
 
 returns : tie.Need-returns
-returns c = search fillings
+returns c = search listings
 
 pub read-u16s-spec : {M : Type 1} → statement M
 read-u16s-spec = tie.close (tie.spec read-length-requires fill-u16s-requires same-length returns)

@@ -1,5 +1,5 @@
 -- `read_usizes` fills the front of the list, by what the length and the filling ensure. Assumes nothing.
-use Rattle.cases.proofs.Filled.{fillings}
+use Rattle.cases.proofs.Filled.{listings}
 use borrow.Author.Needs.{needs}
 use Rattle.cases.proofs.lists.read_usizes.Statement.{statement}
 use Rattle.cases.proofs.lists.read_usizes.Tie as tie
@@ -14,7 +14,7 @@ same-length : tie.Need-same-length
 same-length c = search needs
 
 returns : tie.Need-returns
-returns c = search fillings
+returns c = search listings
 
 pub read-usizes-spec : {M : Type 1} → statement M
 read-usizes-spec =

@@ -8,7 +8,7 @@ use Rattle.frame.proofs.filter.check_and_run.Tie as tie
 late-requires : tie.Need-late-requires
 late-requires c κs =
     let p = c .before .before .before .before .before .before .before .before .before .before .before .before .before .before .before .before .before .pre in
-    ((p .0 .sampled, p .1 .0 .sampled, p .1 .1 .0 .sampled), (marked (p .0), (marked (p .1 .0), p .1 .1 .1)))
+    ((p .0 .sampled, search needs, search needs), (marked (p .0), (marked (p .1 .0), p .1 .1 .1)))
 
 enum-known-a : tie.Need-enum-known-a
 enum-known-a c = search needs
@@ -24,9 +24,9 @@ same-length-3 c = search needs
 
 returns : tie.Need-returns
 returns c =
-    late-stop _ (c .before .before .before .before .before .before .before .before .before .before .before .before .before .before .before .before .before .before .before .before .before .pre .1 .1 .1) _ _ _ _
-    (c .before .before .before .late .ensures _ _)
-    (c .before .a .given .1)
+    let s = c .before .before .before .before .before .before .before .before .before .before .before .before .before .before .before .before .before .before .before .before .before in
+    let late = c .before .before .before .late .ensures (s .args .lq .now) (s .args .cq .now) in
+    late-stop _ (s .pre .1 .1 .1) _ _ _ _ (search needs) (c .before .a .given .1)
 
 enum-told : tie.Need-enum-told
 enum-told c = search needs

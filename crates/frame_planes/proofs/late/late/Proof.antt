@@ -19,10 +19,10 @@ enum-told : tie.Need-enum-told
 enum-told c = search needs
 
 overs-requires : tie.Need-overs-requires
-overs-requires c κs = c .before .before .before .before .before .before .before .before .before .before .before .before .before .before .pre .0
+overs-requires c κs = search needs
 
 returns-2 : tie.Need-returns-2
-returns-2 c = λ q d. go-on-by _ _ _ _ (c .before .before .before .rooms .ensures q d) (c .before .enum-told .given .1) (c .overs .ensures) ∙ sym (late-is _ (c .before .before .before .before .before .before .before .before .before .before .before .before .before .before .before .pre .1 .1 .1) _ _ _)
+returns-2 c = λ q d. rw (late-is _ (c .before .before .before .before .before .before .before .before .before .before .before .before .before .before .before .pre .1 .1 .1)) (go-on-by _ _ _ _ (c .before .before .before .rooms .ensures q d) (c .before .enum-told .given .1) (search needs))
 
 pub late-spec : {M : Type 1} → statement M
 late-spec =

@@ -7,7 +7,8 @@ use lib.IntN.{ℤ, pos, natAbs, _-ℤ_}
 use mir.Syntax.{w32, w64}
 use mir.Val.{toZ, ofZ}
 use Rattle.laws.specs.Whole.{Is, over, under, self, count, minus, size-is, none-over, none-under}
-use Rattle.laws.specs.Machine.{fits-at, word-at, below-at, above-at, widened, wide-same, lt-yes, lt-no, non-neg}
+use Rattle.laws.specs.Order.{lt-yes, lt-no}
+use Rattle.laws.specs.Machine.{fits-at, word-at, below-at, above-at, widened, wide-same, non-neg}
 use Rattle.laws.proofs.whole.split.Statement.{statement}
 use Rattle.laws.proofs.whole.split.Tie as tie
 

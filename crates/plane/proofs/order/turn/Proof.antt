@@ -24,7 +24,7 @@ same-length-2 : tie.Need-same-length-2
 same-length-2 c = search needs
 
 returns-2 : tie.Need-returns-2
-returns-2 c = turn-later _ _ _ _ _ _ (c .before .before .before .before .before .before .before .vert-sb .ensures) (c .before .before .before .before .if1 .left) (c .before .before .horz-sb .ensures)
+returns-2 c = turn-later _ _ _ _ _ _ (c .before .before .before .before .before .before .before .vert-sb .ensures) (c .before .before .before .before .if1 .left) (c .before .before .horz-sb .ensures) (search needs)
 
 pub turn-spec : {M : Type 1} → statement M
 turn-spec =

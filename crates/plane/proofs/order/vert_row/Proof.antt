@@ -1,5 +1,5 @@
 -- `vert_row` meets its contract: the invariant says that the columns passed have run. Assumes nothing.
-use Rattle.plane.proofs.Runs.{field-same, ran-more, ran-end}
+use Rattle.plane.proofs.Runs.{field-same, row-more, ran-end}
 use Prim.Native.Nat.{_+_, _-_, _≤_}
 use lib.ListN.{length}
 use mathlib.Core.Path.{_≡_}
@@ -33,7 +33,7 @@ loop-less : tie.Need-loop-less Inv-loop μ-loop
 loop-less c = search runs
 
 loop-again : tie.Need-loop-again Inv-loop μ-loop
-loop-again c = (search runs, ran-more _ _ (c .before .before .before .before .before .loop .inv .1) (c .before .before .visit .ensures), search runs)
+loop-again c = (search runs, row-more _ _ _ _ _ (c .before .before .before .before .before .loop .inv .1) (c .before .before .visit .ensures) (search runs), search runs)
 
 same-length : tie.Need-same-length Inv-loop μ-loop
 same-length c = search runs

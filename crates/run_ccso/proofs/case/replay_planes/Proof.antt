@@ -1,6 +1,6 @@
 -- `replay_planes` lends the fronts of both planes. Assumes nothing.
 use borrow.Author.Needs.{needs}
-use Rattle.run_ccso.proofs.Fronts.{front}
+use Rattle.laws.specs.Lists.{front}
 use Rattle.run_ccso.proofs.case.replay_planes.Statement.{statement}
 use Rattle.run_ccso.proofs.case.replay_planes.Tie as tie
 

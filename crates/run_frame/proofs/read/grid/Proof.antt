@@ -19,7 +19,7 @@ read-u16s-requires : tie.Need-read-u16s-requires
 read-u16s-requires c κs = search needs
 
 same-length : tie.Need-same-length
-same-length c = search needs
+same-length c = search (needs, c .before .before .before .before .before .before .before .before .before .before .before .before .before .before .before .before .before .before .before .read-u8s)
 
 same-length-2 : tie.Need-same-length-2
 same-length-2 c = search needs
@@ -35,11 +35,11 @@ same-length-5 c = search needs
 
 returns : tie.Need-returns
 returns c = (
-  c .before .before .before .before .before .before .before .before .before .before .before .before .before .before .before .before .before .before .before .read-u8s .ensures,
-  c .before .before .before .before .before .before .before .before .before .before .before .before .before .before .before .read-u8s2 .ensures,
-  c .before .before .before .before .before .before .before .before .before .before .before .read-u8s3 .ensures,
-  c .before .before .before .before .before .before .before .read-u8s4 .ensures,
-  c .before .before .before .read-u16s .ensures,
+  c .before .before .before .before .before .before .before .before .before .before .before .before .before .before .before .before .before .before .before .read-u8s .ensures .fills,
+  c .before .before .before .before .before .before .before .before .before .before .before .before .before .before .before .read-u8s2 .ensures .fills,
+  c .before .before .before .before .before .before .before .before .before .before .before .read-u8s3 .ensures .fills,
+  c .before .before .before .before .before .before .before .read-u8s4 .ensures .fills,
+  c .before .before .before .read-u16s .ensures .fills,
 )
 
 pub grid-spec : {M : Type 1} → statement M

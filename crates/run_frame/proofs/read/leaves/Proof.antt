@@ -3,7 +3,7 @@ use mathlib.Core.Path.{_≡_}
 use Prim.Native.Nat.{_≤_, _-_}
 use lib.ListN.{length}
 use borrow.Author.Needs.{needs}
-use Rattle.run_frame.proofs.Fronts.{front}
+use Rattle.laws.specs.Lists.{front}
 use Rattle.run_frame.proofs.read.leaves.Statement.{statement}
 use Rattle.run_frame.proofs.read.leaves.Tie as tie
 

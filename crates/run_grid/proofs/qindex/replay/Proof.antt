@@ -1,6 +1,6 @@
 -- `replay` lends the fronts of both lists. Assumes nothing.
 use borrow.Author.Needs.{needs}
-use Rattle.run_grid.proofs.Fronts.{front}
+use Rattle.laws.specs.Lists.{front}
 use Rattle.run_grid.proofs.qindex.replay.Statement.{statement}
 use Rattle.run_grid.proofs.qindex.replay.Tie as tie
 

@@ -1,6 +1,6 @@
 -- `replay` lends the fronts of both lists of leaves. Assumes nothing.
 use borrow.Author.Needs.{needs}
-use Rattle.run_grid.proofs.Fronts.{front}
+use Rattle.laws.specs.Lists.{front}
 use Rattle.run_grid.proofs.tx.replay.Statement.{statement}
 use Rattle.run_grid.proofs.tx.replay.Tie as tie
 

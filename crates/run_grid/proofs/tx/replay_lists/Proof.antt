@@ -1,6 +1,6 @@
 -- `replay_lists` lends the fronts of the four lists. Assumes nothing.
 use borrow.Author.Needs.{needs}
-use Rattle.run_grid.proofs.Fronts.{front}
+use Rattle.laws.specs.Lists.{front}
 use Rattle.run_grid.proofs.tx.replay_lists.Statement.{statement}
 use Rattle.run_grid.proofs.tx.replay_lists.Tie as tie
 

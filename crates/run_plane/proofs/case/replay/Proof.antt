@@ -1,6 +1,6 @@
 -- `replay` lends the fronts of the marks and size indices. Assumes nothing.
 use borrow.Author.Needs.{needs}
-use Rattle.run_plane.proofs.Fronts.{front}
+use Rattle.laws.specs.Lists.{front}
 use Rattle.run_plane.proofs.case.replay.Statement.{statement}
 use Rattle.run_plane.proofs.case.replay.Tie as tie
 

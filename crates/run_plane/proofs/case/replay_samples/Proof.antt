@@ -1,6 +1,6 @@
 -- `replay_samples` lends the fronts of the qindex list and of the plane. Assumes nothing.
 use borrow.Author.Needs.{needs}
-use Rattle.run_plane.proofs.Fronts.{front}
+use Rattle.laws.specs.Lists.{front}
 use Rattle.run_plane.proofs.case.replay_samples.Statement.{statement}
 use Rattle.run_plane.proofs.case.replay_samples.Tie as tie
 

@@ -5,7 +5,7 @@ use mir.Syntax.{w32}
 use mir.Val.{toZ, ofZ}
 use mir.Facts.{toZ-ofZ}
 use Rattle.laws.specs.Whole.{Is, over, under, self, count}
-use Rattle.laws.specs.Machine.{lt-yes, lt-no}
+use Rattle.laws.specs.Order.{lt-yes, lt-no}
 use Rattle.thresholds.proofs.Indices.{too-low, too-high, in-range}
 use Rattle.thresholds.proofs.checks.delta_ok.Statement.{statement}
 use Rattle.thresholds.proofs.checks.delta_ok.Tie as tie

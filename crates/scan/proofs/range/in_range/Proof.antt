@@ -1,8 +1,8 @@
--- Both tests in their order.
+-- `in_range` makes both tests. Assumes nothing.
 use Rattle.laws.specs.Choose.{tests}
 use Rattle.rules.specs.Numbers.{inRange}
-use Rattle.segment.proofs.lone.in_range.Statement.{statement}
-use Rattle.segment.proofs.lone.in_range.Tie as tie
+use Rattle.scan.proofs.range.in_range.Statement.{statement}
+use Rattle.scan.proofs.range.in_range.Tie as tie
 
 returns : tie.Need-returns
 unfolding inRange
