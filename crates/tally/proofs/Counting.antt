@@ -10,11 +10,19 @@ use Rattle.laws.specs.Choose.{pick-yes, pick-no, both-bad, both-ok, is-lt, not-
 use Rattle.rules.specs.Refusals.{numberOf, placeOf}
 use Rattle.rules.specs.declared.refusals.Refusal.{Refusal}
 use Rattle.tally.specs.declared.Tally.{Tally}
-use Rattle.tally.specs.Counts.{nextOf, bumped, counts, unreadMore, differentMore, numberMore, caseMore, widthMore, isRefusal}
+use Rattle.tally.specs.Counts.{nextOf, bumped, counts, unreadMore, noCase, differentMore, numberMore, caseMore, widthMore, isRefusal}
 
 pub unread-counted : (t : Tally) (v : ℕ) → v ≡ nextOf (t .unread) → counts (t .numbers) (t .widths) (t .different) v ≡ unreadMore t
 unfolding unreadMore
 unread-counted t v e = ap (λ (x : ℕ). counts (t .numbers) (t .widths) (t .different) x) e
+
+pub line-read : (t : Tally) (b : Bool) → b ≡ true → t ≡ noCase t b
+unfolding noCase
+line-read t b e = pick-yes _ _ _ _ (sym e) refl
+
+pub line-unread : (t r : Tally) (b : Bool) → b ≡ false → r ≡ unreadMore t → r ≡ noCase t b
+unfolding noCase
+line-unread t r b e f = pick-no _ _ _ _ (sym e) f
 
 pub number-counted : (t : Tally) (n v : ℕ) → n < 10 → v ≡ nextOf (getD (t .numbers) n 0)
     → counts (set (t .numbers) n v) (t .widths) (t .different) (t .unread) ≡ numberMore t n
@@ -58,4 +66,4 @@ unfolding isRefusal
 refusal-placed r m n p k e f g = both-ok _ _ _ (is-eq (numberOf r) n (sym e ∙ f)) (ap (λ (x : ℕ). eqb x k) g)
 
 pub ruleset counting =
-    (needs, unread-counted, number-counted, number-unknown, case-same, case-different, width-counted, width-unknown, refusal-other, refusal-placed)
+    (needs, unread-counted, line-read, line-unread, number-counted, number-unknown, case-same, case-different, width-counted, width-unknown, refusal-other, refusal-placed)

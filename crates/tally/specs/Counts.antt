@@ -28,6 +28,10 @@ noCounts = counts (0 ∷ 0 ∷ 0 ∷ 0 ∷ 0 ∷ 0 ∷ 0 ∷ 0 ∷ 0 ∷ 0 ∷ [
 unfoldable pub unreadMore : Tally → Tally
 unreadMore t = counts (t .numbers) (t .widths) (t .different) (nextOf (t .unread))
 
+-- a line that is no case
+unfoldable pub noCase : Tally → Bool → Tally
+noCase t read = pick read t (unreadMore t)
+
 unfoldable pub differentMore : Tally → Tally
 differentMore t = counts (t .numbers) (t .widths) (nextOf (t .different)) (t .unread)
 

@@ -1,6 +1,6 @@
 // What a replay of recorded cases counts, and what it prints: the programs run_* speak through it, and oracle/compare reads it.
 ghost use mathlib.Core.Path.{_≡_};
-ghost use Rattle.tally.specs.Counts.{nextOf, noCounts, unreadMore, numberMore, caseMore, widthMore, isRefusal, isAnswer};
+ghost use Rattle.tally.specs.Counts.{nextOf, noCounts, unreadMore, noCase, numberMore, caseMore, widthMore, isRefusal, isAnswer};
 use rules::refusals;
 use rules::refusals::Answer;
 use rules::refusals::Refusal;
@@ -42,7 +42,9 @@ pub fn unread(before: Tally) -> Tally
 }
 
 // A line that is no case: it counts where it can't be read.
-pub fn no_case(before: Tally, read: bool) -> Tally {
+pub fn no_case(before: Tally, read: bool) -> Tally
+    ensures { λ r. ⌜ r ≡ noCase before read ⌝ }
+{
     if read {
         return before;
     }
