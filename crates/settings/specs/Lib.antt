@@ -1,2 +1,3 @@
--- What `specs/` holds: the names.
+-- What `specs/` holds: the names, and where their numbers go.
 pub mod Names
+pub mod Rules
