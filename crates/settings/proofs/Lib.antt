@@ -1,2 +1,4 @@
 -- The laws of this crate's proofs.
 pub mod Rules
+pub mod Taking
+pub mod Signs
