@@ -2,3 +2,5 @@
 pub mod Rules
 pub mod Taking
 pub mod Signs
+pub mod Settling
+pub mod Walking
