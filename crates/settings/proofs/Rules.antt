@@ -1,11 +1,11 @@
 -- The first places, put into an array one kind at a time. Assumes nothing.
-use mathlib.Core.Path.{_≡_, refl, sym, ap, _∙_}
+use mathlib.Core.Path.{_≡_, sym, ap, _∙_}
 use mathlib.Core.List.{List, [], _∷_}
 use Prim.Native.Nat.{ℕ, _+_, _≤_, _<_}
 use native.Mathlib.Omega.{arith}
-use lib.ListN.{length, getD, set}
+use lib.ListN.{length, set}
 use lib.Seq.{ext-getD}
-use Rattle.laws.specs.Loops.{each, filled, filled-none, filled-more, filled-end, filled-length, filled-at, singles-length, singles-at}
+use Rattle.laws.specs.Loops.{each, filled, filled-more, filled-end, filled-length, filled-at, singles-length, singles-at}
 use Rattle.settings.specs.declared.names.Rule.{Rule}
 use Rattle.settings.specs.Rules.{ruleOf, firstPlaces}
 

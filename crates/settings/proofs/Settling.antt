@@ -1,10 +1,9 @@
 -- What a line says, put together from what its parts say. Assumes nothing.
-use mathlib.Core.Path.{_≡_, refl, sym, ap, _∙_}
+use mathlib.Core.Path.{_≡_, refl, ap, _∙_}
 use mathlib.Core.List.{List, [], _∷_}
 use mathlib.Core.Bool.{Bool, true, false, not}
-use Prim.Native.Nat.{ℕ, _-_, _≤_, _<_}
+use Prim.Native.Nat.{ℕ, _-_}
 use native.Mathlib.Omega.{arith}
-use borrow.Author.Needs.{needs}
 use borrow.Author.Tests.{eq-eqb, ne-eqb}
 use lib.ListN.{length, getD, set}
 use lib.IntN.{ℤ, pos, negsuc}
@@ -22,8 +21,17 @@ use Rattle.settings.specs.declared.names.Rule.{Rule}
 use Rattle.settings.specs.declared.values.Taken.{Taken}
 use Rattle.settings.specs.Names.{kindOf}
 use Rattle.settings.specs.Rules.{ruleOf}
-use Rattle.settings.specs.Values.{Put, readSigned, readUpTo, readOffset, takenTo}
-use Rattle.settings.specs.Lines.{Lists, State, Said, Filled, lists, inNumbers, inShorts, inSteps, inFlags, inOffsets, takeOf, startOf, isOne, versionBad, verdictOf, settled, judged, ruled, fillOf, tooSoon, settingOf, namedOf, inkedOf, lineOf}
+use Rattle.settings.specs.Values.{readSigned, readUpTo, readOffset, takenTo}
+use Rattle.settings.specs.Lines.{Lists, Kept, State, Said, lists, inNumbers, inShorts, inSteps, inFlags, inOffsets, takeOf, startOf, isOne, versionBad, verdictOf, settled, judged, ruled, fillOf, tooSoon, settingOf, namedOf, inkedOf, lineOf}
+
+-- ---- the lists' lengths
+
+pub kept-same : (s : Lists) → Kept s s
+kept-same s = record { numbers = refl; shorts = refl; steps = refl; flags = refl; offsets = refl }
+
+pub kept-then : {a b c : Lists} → Kept a b → Kept b c → Kept a c
+kept-then h k =
+    record { numbers = k .numbers ∙ h .numbers; shorts = k .shorts ∙ h .shorts; steps = k .steps ∙ h .steps; flags = k .flags ∙ h .flags; offsets = k .offsets ∙ h .offsets }
 
 -- ---- the numbers go to the list that is theirs
 

@@ -3,7 +3,7 @@ use mathlib.Core.Path.{_≡_}
 use Prim.Native.Nat.{ℕ, zero, suc, _≤_, _<_}
 use native.Mathlib.Omega.{arith}
 use borrow.Author.Tests.{le-leb, lt-leb}
-use lib.IntN.{ℤ, pos, negsuc, negℤ, _-ℤ_}
+use lib.IntN.{pos, negsuc, negℤ, _-ℤ_}
 use mir.Syntax.{w8}
 use mir.Val.{SFits, toZ, ofZ}
 use mir.Facts.{toZ-ofZ}

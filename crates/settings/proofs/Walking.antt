@@ -1,7 +1,7 @@
 -- How a text is walked one line at a time. Assumes nothing.
 use mathlib.Core.Path.{_≡_, refl, sym, ap, _∙_}
 use mathlib.Core.List.{List}
-use mathlib.Core.Bool.{Bool, true, false}
+use mathlib.Core.Bool.{true}
 use Prim.Native.Nat.{ℕ, zero, suc, _+_, _-_, _≤_, _<_}
 use native.Mathlib.Omega.{arith}
 use borrow.Author.Tests.{lt-ltb, le-ltb}
@@ -9,8 +9,7 @@ use lib.ListN.{length}
 use lib.Dec.{eqb, ltb}
 use Rattle.laws.specs.Choose.{pick, pick-yes, pick-no, is-eq, not-eq}
 use Rattle.words.specs.Places.{seek, newlineAt, remarkAt}
-use Rattle.settings.specs.declared.text.Fault.{Fault}
-use Rattle.settings.specs.Lines.{State, Said, lineOf}
+use Rattle.settings.specs.Lines.{State, lineOf}
 use Rattle.settings.specs.Text.{Parsed, missingOf, ended, lineEnd, saidAt, walk, parseOf}
 
 -- whole is what the lines say from the first one on; a text of n bytes has at most n lines, and line l is not the first of fewer
@@ -33,11 +32,12 @@ module _ (xs : List ℕ) (n at l : ℕ) (s : State) (whole : Parsed) (sized : n 
         let t : true ≡ ltb at (length xs) = sym (lt-ltb at (length xs) (omega arith)) in
         rw m (sym (pick-yes _ _ _ _ t (rw (← ending, ← saying))))
 
-    pub walk-on : k ≡ 0 → walk xs (n + 1 - (l + 1)) (e + 1) (l + 1) s′ ≡ whole
-    walk-on h = pick-yes _ _ _ _ (is-eq k 0 h) refl ∙ sym step ∙ inv
+    -- the next line starts at a, and is line m
+    pub walk-on : (a m : ℕ) → k ≡ 0 → a ≡ e + 1 → m ≡ l + 1 → walk xs (n + 1 - m) a m s′ ≡ whole
+    walk-on a m h p q = rw (p, q) (pick-yes _ _ _ _ (is-eq k 0 h) refl ∙ sym step ∙ inv)
 
-    pub walk-bad : (k ≡ 0 → ⊥) → record { state = s′; fault = record { line = l; kind = k } } ≡ whole
-    walk-bad h = pick-no _ _ _ _ (not-eq k 0 h) refl ∙ sym step ∙ inv
+    pub walk-bad : (m : ℕ) → (k ≡ 0 → ⊥) → m ≡ l → record { state = s′; fault = record { line = m; kind = k } } ≡ whole
+    walk-bad m h q = rw q (pick-no _ _ _ _ (not-eq k 0 h) refl ∙ sym step ∙ inv)
 
   -- no line is left
   module _ (k : ℕ) (past : n ≤ at) (missed : k ≡ missingOf (s .places)) where
@@ -50,8 +50,8 @@ module _ (xs : List ℕ) (n at l : ℕ) (s : State) (whole : Parsed) (sized : n 
     over-is zero = ended-is
     over-is (suc m) = pick-no _ _ _ _ (sym (le-ltb at (length xs) (omega arith))) ended-is
 
-    pub walk-end : record { state = s; fault = record { line = l; kind = k } } ≡ whole
-    walk-end = over-is (n + 1 - l) ∙ inv
+    pub walk-end : (m : ℕ) → m ≡ l → record { state = s; fault = record { line = m; kind = k } } ≡ whole
+    walk-end m q = rw q (over-is (n + 1 - l) ∙ inv)
 
 -- the first line is line 1
 pub walk-start : (xs : List ℕ) (n : ℕ) (s : State) {p : Parsed} → n ≡ length xs → p ≡ walk xs (n + 1 - 1) 0 1 s → p ≡ parseOf xs s

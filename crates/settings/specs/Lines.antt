@@ -1,8 +1,9 @@
 -- What one line of a settings text says: the lists after it, and whether it is as it should be. Assumes nothing.
 use Prim.Native.Nat.{ℕ, _-_}
+use mathlib.Core.Path.{_≡_}
 use mathlib.Core.List.{List, [], _∷_}
 use mathlib.Core.Bool.{Bool, true, false, not}
-use lib.ListN.{getD, set}
+use lib.ListN.{length, getD, set}
 use lib.IntN.{ℤ, pos, negsuc}
 use lib.Dec.{eqb, leb, ltb}
 use Rattle.laws.specs.Choose.{pick, both, all}
@@ -34,6 +35,14 @@ lists numbers shorts steps flags offsets = record { numbers = numbers; shorts = 
 
 abbrev pub state : List ℤ → List ℕ → List ℕ → List ℕ → List ℤ → List ℕ → State
 state numbers shorts steps flags offsets places = record { lists = lists numbers shorts steps flags offsets; places = places }
+
+-- every list is as long as it was
+pub record Kept (before after : Lists) : Type 0 where
+  pub numbers : length (after .numbers) ≡ length (before .numbers)
+  pub shorts : length (after .shorts) ≡ length (before .shorts)
+  pub steps : length (after .steps) ≡ length (before .steps)
+  pub flags : length (after .flags) ≡ length (before .flags)
+  pub offsets : length (after .offsets) ≡ length (before .offsets)
 
 -- ---- a line's numbers
 

@@ -2,7 +2,7 @@
 ghost use mathlib.Core.Path.{_≡_};
 ghost use Prim.Native.Nat.{_≤_};
 ghost use lib.ListN.{length};
-ghost use Rattle.settings.specs.Lines.{lists, state, takeOf, startOf, wholeOf, versionBad, verdictOf, fillOf, tooSoon, settingOf, lineOf};
+ghost use Rattle.settings.specs.Lines.{Kept, lists, state, takeOf, startOf, wholeOf, versionBad, verdictOf, fillOf, tooSoon, settingOf, lineOf};
 ghost use Rattle.settings.specs.Text.{missingOf, parseOf};
 use crate::names::kind;
 use crate::names::rule_of;
@@ -35,7 +35,7 @@ fn take(
     offsets: &mut [i8],
 ) -> Taken
     ensures { λ r. ⌜ from ≤ r .at ⌝ }
-    ensures { λ _. ⌜ (length (now (numbers .exit)) ≡ length (now (numbers .entry))) × (length (now (shorts .exit)) ≡ length (now (shorts .entry))) × (length (now (steps .exit)) ≡ length (now (steps .entry))) × (length (now (flags .exit)) ≡ length (now (flags .entry))) × (length (now (offsets .exit)) ≡ length (now (offsets .entry))) ⌝ }
+    ensures { λ _. ⌜ Kept (lists (now (numbers .entry)) (now (shorts .entry)) (now (steps .entry)) (now (flags .entry)) (now (offsets .entry))) (lists (now (numbers .exit)) (now (shorts .exit)) (now (steps .exit)) (now (flags .exit)) (now (offsets .exit))) ⌝ }
     ensures { λ r. ⌜ record { lists = lists (now (numbers .exit)) (now (shorts .exit)) (now (steps .exit)) (now (flags .exit)) (now (offsets .exit)); left = r } ≡ takeOf (now (text .entry)) c list from end (lists (now (numbers .entry)) (now (shorts .entry)) (now (steps .entry)) (now (flags .entry)) (now (offsets .entry))) ⌝ }
 {
     match list {
@@ -118,7 +118,7 @@ fn fill(
     places: &mut [usize; 21],
 ) -> usize
     requires { ⌜ kind ≤ 20 ⌝ }
-    ensures { λ _. ⌜ (length (now (numbers .exit)) ≡ length (now (numbers .entry))) × (length (now (shorts .exit)) ≡ length (now (shorts .entry))) × (length (now (steps .exit)) ≡ length (now (steps .entry))) × (length (now (flags .exit)) ≡ length (now (flags .entry))) × (length (now (offsets .exit)) ≡ length (now (offsets .entry))) ⌝ }
+    ensures { λ _. ⌜ Kept (lists (now (numbers .entry)) (now (shorts .entry)) (now (steps .entry)) (now (flags .entry)) (now (offsets .entry))) (lists (now (numbers .exit)) (now (shorts .exit)) (now (steps .exit)) (now (flags .exit)) (now (offsets .exit))) ⌝ }
     ensures { λ r. ⌜ record { state = state (now (numbers .exit)) (now (shorts .exit)) (now (steps .exit)) (now (flags .exit)) (now (offsets .exit)) (now (places .exit)); answer = r } ≡ fillOf (now (text .entry)) at end kind (state (now (numbers .entry)) (now (shorts .entry)) (now (steps .entry)) (now (flags .entry)) (now (offsets .entry)) (now (places .entry))) ⌝ }
 {
     let rule = rule_of(kind);
@@ -172,7 +172,7 @@ fn setting(
     places: &mut [usize; 21],
 ) -> usize
     requires { ⌜ kind ≤ 20 ⌝ }
-    ensures { λ _. ⌜ (length (now (numbers .exit)) ≡ length (now (numbers .entry))) × (length (now (shorts .exit)) ≡ length (now (shorts .entry))) × (length (now (steps .exit)) ≡ length (now (steps .entry))) × (length (now (flags .exit)) ≡ length (now (flags .entry))) × (length (now (offsets .exit)) ≡ length (now (offsets .entry))) ⌝ }
+    ensures { λ _. ⌜ Kept (lists (now (numbers .entry)) (now (shorts .entry)) (now (steps .entry)) (now (flags .entry)) (now (offsets .entry))) (lists (now (numbers .exit)) (now (shorts .exit)) (now (steps .exit)) (now (flags .exit)) (now (offsets .exit))) ⌝ }
     ensures { λ r. ⌜ record { state = state (now (numbers .exit)) (now (shorts .exit)) (now (steps .exit)) (now (flags .exit)) (now (offsets .exit)) (now (places .exit)); answer = r } ≡ settingOf (now (text .entry)) at end kind (state (now (numbers .entry)) (now (shorts .entry)) (now (steps .entry)) (now (flags .entry)) (now (offsets .entry)) (now (places .entry))) ⌝ }
 {
     if too_soon(kind, places[1]) {
@@ -205,7 +205,7 @@ fn line(
     places: &mut [usize; 21],
 ) -> usize
     requires { ⌜ (from ≤ end) × (end ≤ length (now text)) ⌝ }
-    ensures { λ _. ⌜ (length (now (numbers .exit)) ≡ length (now (numbers .entry))) × (length (now (shorts .exit)) ≡ length (now (shorts .entry))) × (length (now (steps .exit)) ≡ length (now (steps .entry))) × (length (now (flags .exit)) ≡ length (now (flags .entry))) × (length (now (offsets .exit)) ≡ length (now (offsets .entry))) ⌝ }
+    ensures { λ _. ⌜ Kept (lists (now (numbers .entry)) (now (shorts .entry)) (now (steps .entry)) (now (flags .entry)) (now (offsets .entry))) (lists (now (numbers .exit)) (now (shorts .exit)) (now (steps .exit)) (now (flags .exit)) (now (offsets .exit))) ⌝ }
     ensures { λ r. ⌜ record { state = state (now (numbers .exit)) (now (shorts .exit)) (now (steps .exit)) (now (flags .exit)) (now (offsets .exit)) (now (places .exit)); answer = r } ≡ lineOf (now (text .entry)) from end (state (now (numbers .entry)) (now (shorts .entry)) (now (steps .entry)) (now (flags .entry)) (now (offsets .entry)) (now (places .entry))) ⌝ }
 {
     let at = spaces(text, from, end);
@@ -254,7 +254,7 @@ pub fn parse(
     offsets: &mut [i8],
     places: &mut [usize; 21],
 ) -> Fault
-    ensures { λ _. ⌜ (length (now (numbers .exit)) ≡ length (now (numbers .entry))) × (length (now (shorts .exit)) ≡ length (now (shorts .entry))) × (length (now (steps .exit)) ≡ length (now (steps .entry))) × (length (now (flags .exit)) ≡ length (now (flags .entry))) × (length (now (offsets .exit)) ≡ length (now (offsets .entry))) ⌝ }
+    ensures { λ _. ⌜ Kept (lists (now (numbers .entry)) (now (shorts .entry)) (now (steps .entry)) (now (flags .entry)) (now (offsets .entry))) (lists (now (numbers .exit)) (now (shorts .exit)) (now (steps .exit)) (now (flags .exit)) (now (offsets .exit))) ⌝ }
     ensures { λ r. ⌜ record { state = state (now (numbers .exit)) (now (shorts .exit)) (now (steps .exit)) (now (flags .exit)) (now (offsets .exit)) (now (places .exit)); fault = r } ≡ parseOf (now (text .entry)) (state (now (numbers .entry)) (now (shorts .entry)) (now (steps .entry)) (now (flags .entry)) (now (offsets .entry)) (now (places .entry))) ⌝ }
 {
     let n = text.len();

@@ -71,87 +71,87 @@ put-requires-21 c κs = search needs
 
 returns : tie.Need-returns
 unfolding ruleOf pick
-returns c = rw (c .before .match .keys1) (c .put .ensures)
+returns c = rw (c .before .match .keys1) (cc)
 
 returns-2 : tie.Need-returns-2
 unfolding ruleOf pick
-returns-2 c = rw (c .before .match .keys2) (c .put2 .ensures)
+returns-2 c = rw (c .before .match .keys2) (cc)
 
 returns-3 : tie.Need-returns-3
 unfolding ruleOf pick
-returns-3 c = rw (c .before .match .keys3) (c .put3 .ensures)
+returns-3 c = rw (c .before .match .keys3) (cc)
 
 returns-4 : tie.Need-returns-4
 unfolding ruleOf pick
-returns-4 c = rw (c .before .match .keys4) (c .put4 .ensures)
+returns-4 c = rw (c .before .match .keys4) (cc)
 
 returns-5 : tie.Need-returns-5
 unfolding ruleOf pick
-returns-5 c = rw (c .before .match .keys5) (c .put5 .ensures)
+returns-5 c = rw (c .before .match .keys5) (cc)
 
 returns-6 : tie.Need-returns-6
 unfolding ruleOf pick
-returns-6 c = rw (c .before .match .keys6) (c .put6 .ensures)
+returns-6 c = rw (c .before .match .keys6) (cc)
 
 returns-7 : tie.Need-returns-7
 unfolding ruleOf pick
-returns-7 c = rw (c .before .match .keys7) (c .put7 .ensures)
+returns-7 c = rw (c .before .match .keys7) (cc)
 
 returns-8 : tie.Need-returns-8
 unfolding ruleOf pick
-returns-8 c = rw (c .before .match .keys8) (c .put8 .ensures)
+returns-8 c = rw (c .before .match .keys8) (cc)
 
 returns-9 : tie.Need-returns-9
 unfolding ruleOf pick
-returns-9 c = rw (c .before .match .keys9) (c .put9 .ensures)
+returns-9 c = rw (c .before .match .keys9) (cc)
 
 returns-10 : tie.Need-returns-10
 unfolding ruleOf pick
-returns-10 c = rw (c .before .match .keys10) (c .put10 .ensures)
+returns-10 c = rw (c .before .match .keys10) (cc)
 
 returns-11 : tie.Need-returns-11
 unfolding ruleOf pick
-returns-11 c = rw (c .before .match .keys11) (c .put11 .ensures)
+returns-11 c = rw (c .before .match .keys11) (cc)
 
 returns-12 : tie.Need-returns-12
 unfolding ruleOf pick
-returns-12 c = rw (c .before .match .keys12) (c .put12 .ensures)
+returns-12 c = rw (c .before .match .keys12) (cc)
 
 returns-13 : tie.Need-returns-13
 unfolding ruleOf pick
-returns-13 c = rw (c .before .match .keys13) (c .put13 .ensures)
+returns-13 c = rw (c .before .match .keys13) (cc)
 
 returns-14 : tie.Need-returns-14
 unfolding ruleOf pick
-returns-14 c = rw (c .before .match .keys14) (c .put14 .ensures)
+returns-14 c = rw (c .before .match .keys14) (cc)
 
 returns-15 : tie.Need-returns-15
 unfolding ruleOf pick
-returns-15 c = rw (c .before .match .keys15) (c .put15 .ensures)
+returns-15 c = rw (c .before .match .keys15) (cc)
 
 returns-16 : tie.Need-returns-16
 unfolding ruleOf pick
-returns-16 c = rw (c .before .match .keys16) (c .put16 .ensures)
+returns-16 c = rw (c .before .match .keys16) (cc)
 
 returns-17 : tie.Need-returns-17
 unfolding ruleOf pick
-returns-17 c = rw (c .before .match .keys17) (c .put17 .ensures)
+returns-17 c = rw (c .before .match .keys17) (cc)
 
 returns-18 : tie.Need-returns-18
 unfolding ruleOf pick
-returns-18 c = rw (c .before .match .keys18) (c .put18 .ensures)
+returns-18 c = rw (c .before .match .keys18) (cc)
 
 returns-19 : tie.Need-returns-19
 unfolding ruleOf pick
-returns-19 c = rw (c .before .match .keys19) (c .put19 .ensures)
+returns-19 c = rw (c .before .match .keys19) (cc)
 
 returns-20 : tie.Need-returns-20
 unfolding ruleOf pick
-returns-20 c = rw (c .before .match .keys20) (c .put20 .ensures)
+returns-20 c = rw (c .before .match .keys20) (cc)
 
 returns-21 : tie.Need-returns-21
 unfolding ruleOf pick
-returns-21 c = rw (ne-eqb _ _ (c .before .match .rest .0 .0 .0 .0 .0 .0 .0 .0 .0 .0 .0 .0 .0 .0 .0 .0 .0 .0 .0 .1), ne-eqb _ _ (c .before .match .rest .0 .0 .0 .0 .0 .0 .0 .0 .0 .0 .0 .0 .0 .0 .0 .0 .0 .0 .1), ne-eqb _ _ (c .before .match .rest .0 .0 .0 .0 .0 .0 .0 .0 .0 .0 .0 .0 .0 .0 .0 .0 .0 .1), ne-eqb _ _ (c .before .match .rest .0 .0 .0 .0 .0 .0 .0 .0 .0 .0 .0 .0 .0 .0 .0 .0 .1), ne-eqb _ _ (c .before .match .rest .0 .0 .0 .0 .0 .0 .0 .0 .0 .0 .0 .0 .0 .0 .0 .1), ne-eqb _ _ (c .before .match .rest .0 .0 .0 .0 .0 .0 .0 .0 .0 .0 .0 .0 .0 .0 .1), ne-eqb _ _ (c .before .match .rest .0 .0 .0 .0 .0 .0 .0 .0 .0 .0 .0 .0 .0 .1), ne-eqb _ _ (c .before .match .rest .0 .0 .0 .0 .0 .0 .0 .0 .0 .0 .0 .0 .1), ne-eqb _ _ (c .before .match .rest .0 .0 .0 .0 .0 .0 .0 .0 .0 .0 .0 .1), ne-eqb _ _ (c .before .match .rest .0 .0 .0 .0 .0 .0 .0 .0 .0 .0 .1), ne-eqb _ _ (c .before .match .rest .0 .0 .0 .0 .0 .0 .0 .0 .0 .1), ne-eqb _ _ (c .before .match .rest .0 .0 .0 .0 .0 .0 .0 .0 .1), ne-eqb _ _ (c .before .match .rest .0 .0 .0 .0 .0 .0 .0 .1), ne-eqb _ _ (c .before .match .rest .0 .0 .0 .0 .0 .0 .1), ne-eqb _ _ (c .before .match .rest .0 .0 .0 .0 .0 .1), ne-eqb _ _ (c .before .match .rest .0 .0 .0 .0 .1), ne-eqb _ _ (c .before .match .rest .0 .0 .0 .1), ne-eqb _ _ (c .before .match .rest .0 .0 .1), ne-eqb _ _ (c .before .match .rest .0 .1), ne-eqb _ _ (c .before .match .rest .1)) (c .put21 .ensures)
+returns-21 c = rw (ne-eqb _ _ (c .before .match .rest .0 .0 .0 .0 .0 .0 .0 .0 .0 .0 .0 .0 .0 .0 .0 .0 .0 .0 .0 .1), ne-eqb _ _ (c .before .match .rest .0 .0 .0 .0 .0 .0 .0 .0 .0 .0 .0 .0 .0 .0 .0 .0 .0 .0 .1), ne-eqb _ _ (c .before .match .rest .0 .0 .0 .0 .0 .0 .0 .0 .0 .0 .0 .0 .0 .0 .0 .0 .0 .1), ne-eqb _ _ (c .before .match .rest .0 .0 .0 .0 .0 .0 .0 .0 .0 .0 .0 .0 .0 .0 .0 .0 .1), ne-eqb _ _ (c .before .match .rest .0 .0 .0 .0 .0 .0 .0 .0 .0 .0 .0 .0 .0 .0 .0 .1), ne-eqb _ _ (c .before .match .rest .0 .0 .0 .0 .0 .0 .0 .0 .0 .0 .0 .0 .0 .0 .1), ne-eqb _ _ (c .before .match .rest .0 .0 .0 .0 .0 .0 .0 .0 .0 .0 .0 .0 .0 .1), ne-eqb _ _ (c .before .match .rest .0 .0 .0 .0 .0 .0 .0 .0 .0 .0 .0 .0 .1), ne-eqb _ _ (c .before .match .rest .0 .0 .0 .0 .0 .0 .0 .0 .0 .0 .0 .1), ne-eqb _ _ (c .before .match .rest .0 .0 .0 .0 .0 .0 .0 .0 .0 .0 .1), ne-eqb _ _ (c .before .match .rest .0 .0 .0 .0 .0 .0 .0 .0 .0 .1), ne-eqb _ _ (c .before .match .rest .0 .0 .0 .0 .0 .0 .0 .0 .1), ne-eqb _ _ (c .before .match .rest .0 .0 .0 .0 .0 .0 .0 .1), ne-eqb _ _ (c .before .match .rest .0 .0 .0 .0 .0 .0 .1), ne-eqb _ _ (c .before .match .rest .0 .0 .0 .0 .0 .1), ne-eqb _ _ (c .before .match .rest .0 .0 .0 .0 .1), ne-eqb _ _ (c .before .match .rest .0 .0 .0 .1), ne-eqb _ _ (c .before .match .rest .0 .0 .1), ne-eqb _ _ (c .before .match .rest .0 .1), ne-eqb _ _ (c .before .match .rest .1)) (cc)
 
 pub rule-of-spec : {M : Type 1} → statement M
 rule-of-spec =

@@ -38,7 +38,7 @@ same-length-5 : tie.Need-same-length-5
 same-length-5 c = search needs
 
 returns : tie.Need-returns
-returns c = (c .before .before .before .before .before .before .before .before .before .before .before .take .ensures .1 .0, fill-bad _ _ _ _ _ _ _ _ _ _ (c .before .before .before .before .before .before .before .before .before .before .before .before .before .before .before .before .before .before .before .rule-of .ensures) (c .before .before .before .before .before .before .before .before .before .before .before .before .before .before .before .before .before .start .ensures) (c .before .before .before .before .before .before .before .before .before .before .before .take .ensures .1 .1) (c .before .verdict .ensures) (c .if1 .taken))
+returns c = let b = c .before .before .before .before .before .before .before .before .before .before .before in (b .take .ensures .1 .0, fill-bad _ _ _ _ _ _ _ _ _ _ (b .before .before .before .before .before .before .before .before .rule-of .ensures) (b .before .before .before .before .before .before .start .ensures) (b .take .ensures .1 .1) (c .before .verdict .ensures) (c .if1 .taken))
 
 mul-places : tie.Need-mul-places
 mul-places c = search needs
@@ -62,7 +62,7 @@ same-length-10 : tie.Need-same-length-10
 same-length-10 c = search needs
 
 returns-2 : tie.Need-returns-2
-returns-2 c = (c .before .before .before .before .before .before .before .before .before .before .before .take .ensures .1 .0, fill-good _ _ _ _ _ _ _ _ _ _ (c .before .before .before .before .before .before .before .before .before .before .before .before .before .before .before .before .before .before .before .rule-of .ensures) (c .before .before .before .before .before .before .before .before .before .before .before .before .before .before .before .before .before .start .ensures) (c .before .before .before .before .before .before .before .before .before .before .before .take .ensures .1 .1) (c .before .verdict .ensures) (c .if1 .left))
+returns-2 c = let b = c .before .before .before .before .before .before .before .before .before .before .before in (b .take .ensures .1 .0, fill-good _ _ _ _ _ _ _ _ _ _ (b .before .before .before .before .before .before .before .before .rule-of .ensures) (b .before .before .before .before .before .before .start .ensures) (b .take .ensures .1 .1) (c .before .verdict .ensures) (c .if1 .left))
 
 pub fill-spec : {M : Type 1} → statement M
 fill-spec =

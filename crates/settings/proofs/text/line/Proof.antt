@@ -1,6 +1,5 @@
 -- `line` goes by the line's name. Assumes nothing.
-use mathlib.Core.Path.{refl}
-use Rattle.settings.proofs.Settling.{line-empty, line-unknown, line-known}
+use Rattle.settings.proofs.Settling.{kept-same, line-empty, line-unknown, line-known}
 use borrow.Author.Needs.{needs}
 use Rattle.settings.proofs.text.line.Statement.{statement}
 use Rattle.settings.proofs.text.line.Tie as tie
@@ -9,7 +8,7 @@ spaces-requires : tie.Need-spaces-requires
 spaces-requires c κs = search needs
 
 returns : tie.Need-returns
-returns c = ((refl, refl, refl, refl, refl), line-empty _ _ _ _ _ (c .before .spaces .ensures .0) (c .if1 .taken))
+returns c = (kept-same _, line-empty _ _ _ _ _ (c .before .spaces .ensures .0) (c .if1 .taken))
 
 read-word-requires : tie.Need-read-word-requires
 read-word-requires c κs = search needs
@@ -18,7 +17,7 @@ kind-requires : tie.Need-kind-requires
 kind-requires c κs = search needs
 
 returns-2 : tie.Need-returns-2
-returns-2 c = ((refl, refl, refl, refl, refl), line-unknown _ _ _ _ _ (c .before .before .before .before .spaces .ensures .0) _ _ (c .before .before .before .if1 .left) (c .before .before .read-word .ensures .0) (c .before .kind .ensures .0) (c .if2 .taken))
+returns-2 c = (kept-same _, line-unknown _ _ _ _ _ (c .before .before .before .before .spaces .ensures .0) _ _ (c .before .before .before .if1 .left) (c .before .before .read-word .ensures .0) (c .before .kind .ensures .0) (c .if2 .taken))
 
 setting-requires : tie.Need-setting-requires
 setting-requires c κs = search needs

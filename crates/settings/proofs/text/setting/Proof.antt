@@ -1,6 +1,5 @@
 -- `setting` asks for the first setting. Assumes nothing.
-use mathlib.Core.Path.{refl}
-use Rattle.settings.proofs.Settling.{setting-soon, setting-on}
+use Rattle.settings.proofs.Settling.{kept-same, setting-soon, setting-on}
 use borrow.Author.Needs.{needs}
 use Rattle.settings.proofs.text.setting.Statement.{statement}
 use Rattle.settings.proofs.text.setting.Tie as tie
@@ -12,7 +11,7 @@ too-soon-requires : tie.Need-too-soon-requires
 too-soon-requires c κs = search needs
 
 returns : tie.Need-returns
-returns c = ((refl, refl, refl, refl, refl), setting-soon _ _ _ _ _ _ (c .before .too-soon .ensures) (c .if1 .taken))
+returns c = (kept-same _, setting-soon _ _ _ _ _ _ (c .before .too-soon .ensures) (c .if1 .taken))
 
 fill-requires : tie.Need-fill-requires
 fill-requires c κs = search needs

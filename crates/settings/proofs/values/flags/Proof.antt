@@ -1,10 +1,9 @@
 -- `flags` puts the line's numbers into the list one after the other. Assumes nothing.
-use mathlib.Core.Path.{_≡_, refl, ap, _∙_}
-use Rattle.cases.specs.declared.typed.Unsigned.{Unsigned}
+use Rattle.settings.proofs.Taking.{reading, take-more, take-stop, take-full, take-whole}
+use mathlib.Core.Path.{_≡_, refl}
 use Rattle.settings.specs.Values.{readUpTo, taken}
-use Rattle.settings.proofs.Taking.{take-more, take-stop, take-full, take-whole}
 use borrow.Author.Needs.{needs}
-use Prim.Native.Nat.{_+_, _-_, _*_, _≤_, _<_}
+use Prim.Native.Nat.{_-_, _≤_}
 use lib.ListN.{length}
 use Rattle.settings.proofs.values.flags.Statement.{statement}
 use Rattle.settings.proofs.values.flags.Tie as tie
@@ -46,8 +45,7 @@ loop-less : tie.Need-loop-less Inv-loop μ-loop
 loop-less c = search needs
 
 loop-again : tie.Need-loop-again Inv-loop μ-loop
-unfolding readUpTo
-loop-again c = (search needs, search needs, search needs, take-more _ (readUpTo 1 _) _ _ _ _ _ (c .before .before .before .before .before .loop .inv .3) (search needs) (c .before .before .before .more .ensures) (c .before .before .if1 .taken) (ap (λ (n : Unsigned). n .value) (c .before .read-unsigned .ensures .0)) (ap (λ (n : Unsigned). n .rest) (c .before .read-unsigned .ensures .0)) (c .skip2 .ensures))
+loop-again c = (search needs, search needs, search needs, take-more _ (readUpTo 1 _) _ _ _ _ _ (c .before .before .before .before .before .loop .inv .3) (search needs) (c .before .before .before .more .ensures) (c .before .before .if1 .taken) (search reading) (search reading) (c .skip2 .ensures))
 
 same-length : tie.Need-same-length Inv-loop μ-loop
 same-length c = search needs

@@ -1,12 +1,9 @@
 -- `offsets` puts the line's numbers into the list one after the other. Assumes nothing.
-use mathlib.Core.Path.{_≡_, refl, ap, _∙_}
-use Rattle.cases.specs.declared.number.Number.{Number}
-use Rattle.settings.specs.Values.{readOffset, offsetOf, taken}
-use Rattle.settings.proofs.Taking.{take-more, take-stop, take-full, take-whole}
+use Rattle.settings.proofs.Taking.{reading, take-more, take-stop, take-full, take-whole}
+use mathlib.Core.Path.{_≡_, refl}
+use Rattle.settings.specs.Values.{readOffset, taken}
 use borrow.Author.Needs.{needs}
-use mir.Syntax.{w8}
-use mir.Facts.{toZ-ofZ}
-use Prim.Native.Nat.{_+_, _-_, _*_, _≤_, _<_}
+use Prim.Native.Nat.{_-_, _≤_}
 use lib.ListN.{length}
 use Rattle.settings.proofs.values.offsets.Statement.{statement}
 use Rattle.settings.proofs.values.offsets.Tie as tie
@@ -48,8 +45,7 @@ loop-less : tie.Need-loop-less Inv-loop μ-loop
 loop-less c = search needs
 
 loop-again : tie.Need-loop-again Inv-loop μ-loop
-unfolding readOffset
-loop-again c = (search needs, search needs, search needs, take-more _ (readOffset _) _ _ _ _ _ (c .before .before .before .before .before .before .loop .inv .3) (search needs) (c .before .before .before .before .more .ensures) (c .before .before .before .if1 .taken) (toZ-ofZ {w = w8} (search needs) ∙ c .before .offset .ensures ∙ ap (λ (n : Number). offsetOf (n .negative) (n .size)) (c .before .before .next-number .ensures)) (ap (λ (n : Number). n .rest) (c .before .before .next-number .ensures)) (c .skip2 .ensures))
+loop-again c = (search needs, search needs, search needs, take-more _ (readOffset _) _ _ _ _ _ (c .before .before .before .before .before .before .loop .inv .3) (search needs) (c .before .before .before .before .more .ensures) (c .before .before .before .if1 .taken) (search reading) (search reading) (c .skip2 .ensures))
 
 same-length : tie.Need-same-length Inv-loop μ-loop
 same-length c = search needs

@@ -1,12 +1,9 @@
 -- `signed` puts the line's numbers into the list one after the other. Assumes nothing.
-use mathlib.Core.Path.{_≡_, refl, ap, _∙_}
-use Rattle.cases.specs.declared.typed.Signed.{Signed}
+use Rattle.settings.proofs.Taking.{reading, take-more, take-stop, take-full, take-whole}
+use mathlib.Core.Path.{_≡_, refl}
 use Rattle.settings.specs.Values.{readSigned, taken}
-use Rattle.settings.proofs.Taking.{take-more, take-stop, take-full, take-whole}
 use borrow.Author.Needs.{needs}
-use mir.Syntax.{w32}
-use mir.Facts.{toZ-ofZ}
-use Prim.Native.Nat.{_+_, _-_, _*_, _≤_, _<_}
+use Prim.Native.Nat.{_-_, _≤_}
 use lib.ListN.{length}
 use Rattle.settings.proofs.values.signed.Statement.{statement}
 use Rattle.settings.proofs.values.signed.Tie as tie
@@ -48,8 +45,7 @@ loop-less : tie.Need-loop-less Inv-loop μ-loop
 loop-less c = search needs
 
 loop-again : tie.Need-loop-again Inv-loop μ-loop
-unfolding readSigned
-loop-again c = (search needs, search needs, search needs, take-more _ (readSigned _) _ _ _ _ _ (c .before .before .before .before .before .before .loop .inv .3) (search needs) (c .before .before .before .before .more .ensures) (c .before .before .before .if1 .taken) (toZ-ofZ {w = w32} (search needs) ∙ ap (λ (n : Signed). n .value) (c .before .before .read-signed .ensures)) (ap (λ (n : Signed). n .rest) (c .before .before .read-signed .ensures)) (c .skip2 .ensures))
+loop-again c = (search needs, search needs, search needs, take-more _ (readSigned _) _ _ _ _ _ (c .before .before .before .before .before .before .loop .inv .3) (search needs) (c .before .before .before .before .more .ensures) (c .before .before .before .if1 .taken) (search reading) (search reading) (c .skip2 .ensures))
 
 same-length : tie.Need-same-length Inv-loop μ-loop
 same-length c = search needs
