@@ -1,2 +1,6 @@
--- What `specs/` holds: the names.
+-- What `specs/` holds: the names, where their numbers go, how they are read, a line, and the whole text.
 pub mod Names
+pub mod Rules
+pub mod Values
+pub mod Lines
+pub mod Text

@@ -2,6 +2,7 @@
 ghost use mathlib.Core.Path.{_≡_};
 ghost use Prim.Native.Nat.{_≤_};
 ghost use Rattle.settings.specs.Names.{kindOf};
+ghost use Rattle.settings.specs.Rules.{ruleOf, firstPlaces};
 
 // Which list the numbers go to: 0 signed numbers, 1 short ones, 2 steps, 3 flags, 4 offsets; the first place and the one after the last;
 // and how many numbers a line has, 0 for any.
@@ -14,33 +15,6 @@ pub struct Rule {
 
 // How many numbers the list of short ones holds.
 pub const SHORTS: usize = 12587008;
-
-// The first place of each kind; as numbers are read it moves to the place after the last one.
-pub fn first_places() -> [usize; 21] {
-    [
-        0,
-        0,
-        0,
-        0,
-        4096,
-        4198400,
-        8392704,
-        1,
-        2,
-        3,
-        5,
-        7,
-        16,
-        32,
-        48,
-        0,
-        4096,
-        8192,
-        0,
-        128,
-        256,
-    ]
-}
 
 // The number of a name, 0 for none.
 pub fn kind(name: usize) -> usize
@@ -91,7 +65,10 @@ pub fn kind(name: usize) -> usize
     }
 }
 
-fn put(list: usize, from: usize, end: usize, each: usize) -> Rule {
+// A rule by its four numbers.
+fn put(list: usize, from: usize, end: usize, each: usize) -> Rule
+    ensures { λ r. ⌜ r ≡ record { list = list; from = from; end = end; each = each } ⌝ }
+{
     Rule {
         list,
         from,
@@ -101,7 +78,9 @@ fn put(list: usize, from: usize, end: usize, each: usize) -> Rule {
 }
 
 // Where the numbers of a kind go.
-pub fn rule_of(kind: usize) -> Rule {
+pub fn rule_of(kind: usize) -> Rule
+    ensures { λ r. ⌜ r ≡ ruleOf kind ⌝ }
+{
     match kind {
         1 => put(0, 0, 1, 1),
         2 => put(1, 0, 4096, 0),
@@ -122,6 +101,21 @@ pub fn rule_of(kind: usize) -> Rule {
         17 => put(3, 8192, 12288, 0),
         18 => put(4, 0, 128, 0),
         19 => put(4, 128, 256, 0),
-        _ => put(4, 256, 384, 0),
+        20 => put(4, 256, 384, 0),
+        _ => put(0, 0, 0, 0),
     }
+}
+
+// The first place of each kind; as numbers are read it moves to the place after the last one.
+pub fn first_places() -> [usize; 21]
+    ensures { λ r. ⌜ r ≡ firstPlaces ⌝ }
+{
+    let mut places: [usize; 21] = [0; 21];
+    let mut kind = 0;
+    while kind < 21 {
+        let rule = rule_of(kind);
+        places[kind] = rule.from;
+        kind += 1;
+    }
+    places
 }

@@ -2,11 +2,14 @@
 ghost use mathlib.Core.Path.{_≡_};
 ghost use Prim.Native.Nat.{_≤_};
 ghost use lib.ListN.{length};
+ghost use Rattle.settings.specs.Lines.{Kept, lists, state, takeOf, startOf, wholeOf, versionBad, verdictOf, fillOf, tooSoon, settingOf, lineOf};
+ghost use Rattle.settings.specs.Text.{missingOf, parseOf};
 use crate::names::kind;
 use crate::names::rule_of;
 use crate::values;
 use crate::values::Taken;
 use cases::Cursor;
+use laws::split;
 use words::place::content_end;
 use words::place::line_end;
 use words::place::spaces;
@@ -32,7 +35,8 @@ fn take(
     offsets: &mut [i8],
 ) -> Taken
     ensures { λ r. ⌜ from ≤ r .at ⌝ }
-    ensures { λ r. ⌜ (length (now (numbers .exit)) ≡ length (now (numbers .entry))) × (length (now (shorts .exit)) ≡ length (now (shorts .entry))) × (length (now (steps .exit)) ≡ length (now (steps .entry))) × (length (now (flags .exit)) ≡ length (now (flags .entry))) × (length (now (offsets .exit)) ≡ length (now (offsets .entry))) ⌝ }
+    ensures { λ _. ⌜ Kept (lists (now (numbers .entry)) (now (shorts .entry)) (now (steps .entry)) (now (flags .entry)) (now (offsets .entry))) (lists (now (numbers .exit)) (now (shorts .exit)) (now (steps .exit)) (now (flags .exit)) (now (offsets .exit))) ⌝ }
+    ensures { λ r. ⌜ record { lists = lists (now (numbers .exit)) (now (shorts .exit)) (now (steps .exit)) (now (flags .exit)) (now (offsets .exit)); left = r } ≡ takeOf (now (text .entry)) c list from end (lists (now (numbers .entry)) (now (shorts .entry)) (now (steps .entry)) (now (flags .entry)) (now (offsets .entry))) ⌝ }
 {
     match list {
         0 => values::signed(text, c, numbers, from, end),
@@ -44,13 +48,19 @@ fn take(
 }
 
 // Where a line's numbers begin: signed numbers stand at a place of their own, others after those before them.
-fn start(list: usize, from: usize, place: usize) -> usize {
-    if list == 0 { from } else { place }
+fn start(list: usize, from: usize, place: usize) -> usize
+    ensures { λ r. ⌜ r ≡ startOf list from place ⌝ }
+{
+    if list == 0 {
+        return from;
+    }
+    place
 }
 
 // Whether the line was read to its end and had as many numbers as it should.
 fn whole(t: Taken, from: usize, each: usize) -> bool
     requires { ⌜ from ≤ t .at ⌝ }
+    ensures { λ r. ⌜ r ≡ wholeOf t from each ⌝ }
 {
     let rest = t.rest;
     if !rest.good {
@@ -60,22 +70,42 @@ fn whole(t: Taken, from: usize, each: usize) -> bool
         return false;
     }
     let n = t.at - from;
-    if each == 0 { 0 < n } else { n == each }
+    if each == 0 {
+        return 0 < n;
+    }
+    n == each
 }
 
 // The version of this form of settings.
-fn version_bad(kind: usize, numbers: &[i32]) -> bool {
+fn version_bad(kind: usize, numbers: &[i32]) -> bool
+    ensures { λ r. ⌜ r ≡ versionBad kind (now (numbers .entry)) ⌝ }
+{
     if kind != 1 {
         return false;
     }
     if numbers.len() == 0 {
         return true;
     }
-    numbers[0] != 1
+    let version = split(numbers[0]);
+    version.up != 1
 }
 
-// A line after its name, of a known kind: 0, or the kind that was expected.
-fn setting(
+// What is to be said of a line's numbers: 0, or the kind that was expected.
+fn verdict(t: Taken, from: usize, each: usize, kind: usize, numbers: &[i32]) -> usize
+    requires { ⌜ from ≤ t .at ⌝ }
+    ensures { λ r. ⌜ r ≡ verdictOf t from each kind (now (numbers .entry)) ⌝ }
+{
+    if !whole(t, from, each) {
+        return kind;
+    }
+    if version_bad(kind, numbers) {
+        return 1;
+    }
+    0
+}
+
+// The numbers of a line of a known kind; the kind's place moves on where they are good.
+fn fill(
     text: &[u8],
     at: usize,
     end: usize,
@@ -88,11 +118,9 @@ fn setting(
     places: &mut [usize; 21],
 ) -> usize
     requires { ⌜ kind ≤ 20 ⌝ }
-    ensures { λ r. ⌜ (length (now (numbers .exit)) ≡ length (now (numbers .entry))) × (length (now (shorts .exit)) ≡ length (now (shorts .entry))) × (length (now (steps .exit)) ≡ length (now (steps .entry))) × (length (now (flags .exit)) ≡ length (now (flags .entry))) × (length (now (offsets .exit)) ≡ length (now (offsets .entry))) ⌝ }
+    ensures { λ _. ⌜ Kept (lists (now (numbers .entry)) (now (shorts .entry)) (now (steps .entry)) (now (flags .entry)) (now (offsets .entry))) (lists (now (numbers .exit)) (now (shorts .exit)) (now (steps .exit)) (now (flags .exit)) (now (offsets .exit))) ⌝ }
+    ensures { λ r. ⌜ record { state = state (now (numbers .exit)) (now (shorts .exit)) (now (steps .exit)) (now (flags .exit)) (now (offsets .exit)) (now (places .exit)); answer = r } ≡ fillOf (now (text .entry)) at end kind (state (now (numbers .entry)) (now (shorts .entry)) (now (steps .entry)) (now (flags .entry)) (now (offsets .entry)) (now (places .entry))) ⌝ }
 {
-    if kind != 1 && places[1] == 0 {
-        return 1;
-    }
     let rule = rule_of(kind);
     let from = start(rule.list, rule.from, places[kind]);
     let c = Cursor {
@@ -112,14 +140,56 @@ fn setting(
         flags,
         offsets,
     );
-    if !whole(t, from, rule.each) {
-        return kind;
-    }
-    if version_bad(kind, numbers) {
-        return 1;
+    let k = verdict(t, from, rule.each, kind, numbers);
+    if k != 0 {
+        return k;
     }
     places[kind] = t.at;
     0
+}
+
+// Whether a setting stands before the first one, whose place is still 0.
+fn too_soon(kind: usize, first: usize) -> bool
+    ensures { λ r. ⌜ r ≡ tooSoon kind first ⌝ }
+{
+    if kind == 1 {
+        return false;
+    }
+    first == 0
+}
+
+// A line after its name, of a known kind: 0, or the kind that was expected.
+fn setting(
+    text: &[u8],
+    at: usize,
+    end: usize,
+    kind: usize,
+    numbers: &mut [i32],
+    shorts: &mut [u16],
+    steps: &mut [u32],
+    flags: &mut [u8],
+    offsets: &mut [i8],
+    places: &mut [usize; 21],
+) -> usize
+    requires { ⌜ kind ≤ 20 ⌝ }
+    ensures { λ _. ⌜ Kept (lists (now (numbers .entry)) (now (shorts .entry)) (now (steps .entry)) (now (flags .entry)) (now (offsets .entry))) (lists (now (numbers .exit)) (now (shorts .exit)) (now (steps .exit)) (now (flags .exit)) (now (offsets .exit))) ⌝ }
+    ensures { λ r. ⌜ record { state = state (now (numbers .exit)) (now (shorts .exit)) (now (steps .exit)) (now (flags .exit)) (now (offsets .exit)) (now (places .exit)); answer = r } ≡ settingOf (now (text .entry)) at end kind (state (now (numbers .entry)) (now (shorts .entry)) (now (steps .entry)) (now (flags .entry)) (now (offsets .entry)) (now (places .entry))) ⌝ }
+{
+    if too_soon(kind, places[1]) {
+        return 1;
+    }
+    fill(
+        text,
+        at,
+        end,
+        kind,
+        numbers,
+        shorts,
+        steps,
+        flags,
+        offsets,
+        places,
+    )
 }
 
 // One line: 0, or the kind that was expected.
@@ -135,7 +205,8 @@ fn line(
     places: &mut [usize; 21],
 ) -> usize
     requires { ⌜ (from ≤ end) × (end ≤ length (now text)) ⌝ }
-    ensures { λ r. ⌜ (length (now (numbers .exit)) ≡ length (now (numbers .entry))) × (length (now (shorts .exit)) ≡ length (now (shorts .entry))) × (length (now (steps .exit)) ≡ length (now (steps .entry))) × (length (now (flags .exit)) ≡ length (now (flags .entry))) × (length (now (offsets .exit)) ≡ length (now (offsets .entry))) ⌝ }
+    ensures { λ _. ⌜ Kept (lists (now (numbers .entry)) (now (shorts .entry)) (now (steps .entry)) (now (flags .entry)) (now (offsets .entry))) (lists (now (numbers .exit)) (now (shorts .exit)) (now (steps .exit)) (now (flags .exit)) (now (offsets .exit))) ⌝ }
+    ensures { λ r. ⌜ record { state = state (now (numbers .exit)) (now (shorts .exit)) (now (steps .exit)) (now (flags .exit)) (now (offsets .exit)) (now (places .exit)); answer = r } ≡ lineOf (now (text .entry)) from end (state (now (numbers .entry)) (now (shorts .entry)) (now (steps .entry)) (now (flags .entry)) (now (offsets .entry)) (now (places .entry))) ⌝ }
 {
     let at = spaces(text, from, end);
     if at == end {
@@ -161,11 +232,16 @@ fn line(
 }
 
 // What is missing where every line was good: the first setting, or a qindex.
-fn missing(places: &[usize; 21]) -> usize {
+fn missing(places: &[usize; 21]) -> usize
+    ensures { λ r. ⌜ r ≡ missingOf (now (places .entry)) ⌝ }
+{
     if places[1] == 0 {
         return 1;
     }
-    if places[2] == 0 { 2 } else { 0 }
+    if places[2] == 0 {
+        return 2;
+    }
+    0
 }
 
 // Every line of a text; lines count from 1.
@@ -177,7 +253,10 @@ pub fn parse(
     flags: &mut [u8],
     offsets: &mut [i8],
     places: &mut [usize; 21],
-) -> Fault {
+) -> Fault
+    ensures { λ _. ⌜ Kept (lists (now (numbers .entry)) (now (shorts .entry)) (now (steps .entry)) (now (flags .entry)) (now (offsets .entry))) (lists (now (numbers .exit)) (now (shorts .exit)) (now (steps .exit)) (now (flags .exit)) (now (offsets .exit))) ⌝ }
+    ensures { λ r. ⌜ record { state = state (now (numbers .exit)) (now (shorts .exit)) (now (steps .exit)) (now (flags .exit)) (now (offsets .exit)) (now (places .exit)); fault = r } ≡ parseOf (now (text .entry)) (state (now (numbers .entry)) (now (shorts .entry)) (now (steps .entry)) (now (flags .entry)) (now (offsets .entry)) (now (places .entry))) ⌝ }
+{
     let n = text.len();
     let mut at: usize = 0;
     let mut l: usize = 1;

@@ -2,7 +2,9 @@
 ghost use mathlib.Core.Path.{_≡_};
 ghost use Prim.Native.Nat.{_≤_};
 ghost use lib.ListN.{length};
+ghost use Rattle.settings.specs.Values.{readSigned, readUpTo, readOffset, belowOf, aboveOf, offsetOf, skipped, goesOn, takenTo};
 use cases::Cursor;
+use laws::least;
 use words::place::spaces;
 
 // The place after the last number, and what is left of the line.
@@ -12,7 +14,9 @@ pub struct Taken {
 }
 
 // The same place of a line after its spaces.
-fn skip(text: &[u8], c: Cursor) -> Cursor {
+fn skip(text: &[u8], c: Cursor) -> Cursor
+    ensures { λ r. ⌜ r ≡ skipped (now (text .entry)) c ⌝ }
+{
     let at = c.at;
     let end = c.end;
     if text.len() < end {
@@ -28,15 +32,10 @@ fn skip(text: &[u8], c: Cursor) -> Cursor {
     }
 }
 
-// The smaller of two.
-fn least(a: usize, b: usize) -> usize
-    ensures { λ r. ⌜ r ≤ b ⌝ }
-{
-    if a < b { a } else { b }
-}
-
 // Whether a number is to be read.
-fn more(c: Cursor) -> bool {
+fn more(c: Cursor) -> bool
+    ensures { λ r. ⌜ r ≡ goesOn c ⌝ }
+{
     c.good && c.at < c.end
 }
 
@@ -44,6 +43,7 @@ fn more(c: Cursor) -> bool {
 pub fn signed(text: &[u8], c: Cursor, list: &mut [i32], from: usize, end: usize) -> Taken
     ensures { λ r. ⌜ from ≤ r .at ⌝ }
     ensures { λ r. ⌜ length (now (list .exit)) ≡ length (now (list .entry)) ⌝ }
+    ensures { λ r. ⌜ record { list = now (list .exit); left = r } ≡ takenTo (now (text .entry)) (readSigned (now (text .entry))) (now (list .entry)) from end c ⌝ }
 {
     let stop = least(end, list.len());
     let mut at = from;
@@ -62,6 +62,7 @@ pub fn signed(text: &[u8], c: Cursor, list: &mut [i32], from: usize, end: usize)
 pub fn shorts(text: &[u8], c: Cursor, list: &mut [u16], from: usize, end: usize) -> Taken
     ensures { λ r. ⌜ from ≤ r .at ⌝ }
     ensures { λ r. ⌜ length (now (list .exit)) ≡ length (now (list .entry)) ⌝ }
+    ensures { λ r. ⌜ record { list = now (list .exit); left = r } ≡ takenTo (now (text .entry)) (readUpTo 65535 (now (text .entry))) (now (list .entry)) from end c ⌝ }
 {
     let stop = least(end, list.len());
     let mut at = from;
@@ -80,6 +81,7 @@ pub fn shorts(text: &[u8], c: Cursor, list: &mut [u16], from: usize, end: usize)
 pub fn steps(text: &[u8], c: Cursor, list: &mut [u32], from: usize, end: usize) -> Taken
     ensures { λ r. ⌜ from ≤ r .at ⌝ }
     ensures { λ r. ⌜ length (now (list .exit)) ≡ length (now (list .entry)) ⌝ }
+    ensures { λ r. ⌜ record { list = now (list .exit); left = r } ≡ takenTo (now (text .entry)) (readUpTo 4294967295 (now (text .entry))) (now (list .entry)) from end c ⌝ }
 {
     let stop = least(end, list.len());
     let mut at = from;
@@ -98,6 +100,7 @@ pub fn steps(text: &[u8], c: Cursor, list: &mut [u32], from: usize, end: usize) 
 pub fn flags(text: &[u8], c: Cursor, list: &mut [u8], from: usize, end: usize) -> Taken
     ensures { λ r. ⌜ from ≤ r .at ⌝ }
     ensures { λ r. ⌜ length (now (list .exit)) ≡ length (now (list .entry)) ⌝ }
+    ensures { λ r. ⌜ record { list = now (list .exit); left = r } ≡ takenTo (now (text .entry)) (readUpTo 1 (now (text .entry))) (now (list .entry)) from end c ⌝ }
 {
     let stop = least(end, list.len());
     let mut at = from;
@@ -113,46 +116,40 @@ pub fn flags(text: &[u8], c: Cursor, list: &mut [u8], from: usize, end: usize) -
 }
 
 // An offset below zero; what is below -10 is none, and stands as the lowest number.
-fn below(size: usize) -> i8 {
-    match size {
-        0 => 0,
-        1 => -1,
-        2 => -2,
-        3 => -3,
-        4 => -4,
-        5 => -5,
-        6 => -6,
-        7 => -7,
-        8 => -8,
-        9 => -9,
-        10 => -10,
-        _ => -128,
+fn below(size: usize) -> i8
+    ensures { λ r. ⌜ r ≡ belowOf size ⌝ }
+{
+    if 10 < size {
+        return -128;
     }
+    0 - size as i8
 }
 
 // An offset from zero on; what is above 7 is none, and stands as the highest number.
-fn above(size: usize) -> i8 {
-    match size {
-        0 => 0,
-        1 => 1,
-        2 => 2,
-        3 => 3,
-        4 => 4,
-        5 => 5,
-        6 => 6,
-        7 => 7,
-        _ => 127,
+fn above(size: usize) -> i8
+    ensures { λ r. ⌜ r ≡ aboveOf size ⌝ }
+{
+    if 7 < size {
+        return 127;
     }
+    size as i8
 }
 
-fn offset(negative: bool, size: usize) -> i8 {
-    if negative { below(size) } else { above(size) }
+// An offset by its sign and size.
+fn offset(negative: bool, size: usize) -> i8
+    ensures { λ r. ⌜ r ≡ offsetOf negative size ⌝ }
+{
+    if negative {
+        return below(size);
+    }
+    above(size)
 }
 
 // Offsets.
 pub fn offsets(text: &[u8], c: Cursor, list: &mut [i8], from: usize, end: usize) -> Taken
     ensures { λ r. ⌜ from ≤ r .at ⌝ }
     ensures { λ r. ⌜ length (now (list .exit)) ≡ length (now (list .entry)) ⌝ }
+    ensures { λ r. ⌜ record { list = now (list .exit); left = r } ≡ takenTo (now (text .entry)) (readOffset (now (text .entry))) (now (list .entry)) from end c ⌝ }
 {
     let stop = least(end, list.len());
     let mut at = from;

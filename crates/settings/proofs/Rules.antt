@@ -1,0 +1,29 @@
+-- The first places, put into an array one kind at a time. Assumes nothing.
+use mathlib.Core.Path.{_≡_, sym, ap, _∙_}
+use mathlib.Core.List.{List, [], _∷_}
+use Prim.Native.Nat.{ℕ, _+_, _≤_, _<_}
+use native.Mathlib.Omega.{arith}
+use lib.ListN.{length, set}
+use lib.Seq.{ext-getD}
+use Rattle.laws.specs.Loops.{each, filled, filled-more, filled-end, filled-length, filled-at, singles-length, singles-at}
+use Rattle.settings.specs.declared.names.Rule.{Rule}
+use Rattle.settings.specs.Rules.{ruleOf, firstPlaces}
+
+-- a list filled to its end is the list of the values
+filled-all : (start : List ℕ) (f : ℕ → ℕ) (n : ℕ) → length start ≡ n → filled start f n ≡ each n (λ k. f k ∷ [])
+filled-all start f n e =
+    ext-getD 0 _ _ (filled-length start f n ∙ e ∙ sym (singles-length f n))
+    (λ k h. let b : k < n = omega (arith, filled-length start f n) in
+    filled-at start f 0 n k b (omega arith) ∙ sym (singles-at f 0 n k b))
+
+abbrev pub fromOf : ℕ → ℕ
+fromOf kind = ruleOf kind .from
+
+module _ (start : List ℕ) where
+  -- one more kind
+  pub places-more : (kind : ℕ) (q : List ℕ) (r : Rule) → r ≡ ruleOf kind → q ≡ filled start fromOf kind → set q kind (r .from) ≡ filled start fromOf (kind + 1)
+  places-more kind q r e inv = filled-more start fromOf kind inv (ap (λ (x : Rule). set q kind (x .from)) e)
+
+  pub places-end : (kind : ℕ) (q : List ℕ) → length start ≡ 21 → kind ≤ 21 → 21 ≤ kind → q ≡ filled start fromOf kind → q ≡ firstPlaces
+  unfolding firstPlaces
+  places-end kind q l a b inv = filled-end start fromOf kind 21 inv a b ∙ filled-all start fromOf 21 l

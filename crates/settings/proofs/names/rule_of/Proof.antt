@@ -1,0 +1,201 @@
+-- `rule_of` tells the twenty kinds from all other numbers. Assumes nothing.
+use borrow.Author.Tests.{ne-eqb}
+use Rattle.laws.specs.Choose.{pick}
+use Rattle.settings.specs.Rules.{ruleOf}
+use borrow.Author.Needs.{needs}
+use Rattle.settings.proofs.names.rule_of.Statement.{statement}
+use Rattle.settings.proofs.names.rule_of.Tie as tie
+
+put-requires : tie.Need-put-requires
+put-requires c κs = search needs
+
+put-requires-2 : tie.Need-put-requires-2
+put-requires-2 c κs = search needs
+
+put-requires-3 : tie.Need-put-requires-3
+put-requires-3 c κs = search needs
+
+put-requires-4 : tie.Need-put-requires-4
+put-requires-4 c κs = search needs
+
+put-requires-5 : tie.Need-put-requires-5
+put-requires-5 c κs = search needs
+
+put-requires-6 : tie.Need-put-requires-6
+put-requires-6 c κs = search needs
+
+put-requires-7 : tie.Need-put-requires-7
+put-requires-7 c κs = search needs
+
+put-requires-8 : tie.Need-put-requires-8
+put-requires-8 c κs = search needs
+
+put-requires-9 : tie.Need-put-requires-9
+put-requires-9 c κs = search needs
+
+put-requires-10 : tie.Need-put-requires-10
+put-requires-10 c κs = search needs
+
+put-requires-11 : tie.Need-put-requires-11
+put-requires-11 c κs = search needs
+
+put-requires-12 : tie.Need-put-requires-12
+put-requires-12 c κs = search needs
+
+put-requires-13 : tie.Need-put-requires-13
+put-requires-13 c κs = search needs
+
+put-requires-14 : tie.Need-put-requires-14
+put-requires-14 c κs = search needs
+
+put-requires-15 : tie.Need-put-requires-15
+put-requires-15 c κs = search needs
+
+put-requires-16 : tie.Need-put-requires-16
+put-requires-16 c κs = search needs
+
+put-requires-17 : tie.Need-put-requires-17
+put-requires-17 c κs = search needs
+
+put-requires-18 : tie.Need-put-requires-18
+put-requires-18 c κs = search needs
+
+put-requires-19 : tie.Need-put-requires-19
+put-requires-19 c κs = search needs
+
+put-requires-20 : tie.Need-put-requires-20
+put-requires-20 c κs = search needs
+
+put-requires-21 : tie.Need-put-requires-21
+put-requires-21 c κs = search needs
+
+returns : tie.Need-returns
+unfolding ruleOf pick
+returns c = rw (c .before .match .keys1) (cc)
+
+returns-2 : tie.Need-returns-2
+unfolding ruleOf pick
+returns-2 c = rw (c .before .match .keys2) (cc)
+
+returns-3 : tie.Need-returns-3
+unfolding ruleOf pick
+returns-3 c = rw (c .before .match .keys3) (cc)
+
+returns-4 : tie.Need-returns-4
+unfolding ruleOf pick
+returns-4 c = rw (c .before .match .keys4) (cc)
+
+returns-5 : tie.Need-returns-5
+unfolding ruleOf pick
+returns-5 c = rw (c .before .match .keys5) (cc)
+
+returns-6 : tie.Need-returns-6
+unfolding ruleOf pick
+returns-6 c = rw (c .before .match .keys6) (cc)
+
+returns-7 : tie.Need-returns-7
+unfolding ruleOf pick
+returns-7 c = rw (c .before .match .keys7) (cc)
+
+returns-8 : tie.Need-returns-8
+unfolding ruleOf pick
+returns-8 c = rw (c .before .match .keys8) (cc)
+
+returns-9 : tie.Need-returns-9
+unfolding ruleOf pick
+returns-9 c = rw (c .before .match .keys9) (cc)
+
+returns-10 : tie.Need-returns-10
+unfolding ruleOf pick
+returns-10 c = rw (c .before .match .keys10) (cc)
+
+returns-11 : tie.Need-returns-11
+unfolding ruleOf pick
+returns-11 c = rw (c .before .match .keys11) (cc)
+
+returns-12 : tie.Need-returns-12
+unfolding ruleOf pick
+returns-12 c = rw (c .before .match .keys12) (cc)
+
+returns-13 : tie.Need-returns-13
+unfolding ruleOf pick
+returns-13 c = rw (c .before .match .keys13) (cc)
+
+returns-14 : tie.Need-returns-14
+unfolding ruleOf pick
+returns-14 c = rw (c .before .match .keys14) (cc)
+
+returns-15 : tie.Need-returns-15
+unfolding ruleOf pick
+returns-15 c = rw (c .before .match .keys15) (cc)
+
+returns-16 : tie.Need-returns-16
+unfolding ruleOf pick
+returns-16 c = rw (c .before .match .keys16) (cc)
+
+returns-17 : tie.Need-returns-17
+unfolding ruleOf pick
+returns-17 c = rw (c .before .match .keys17) (cc)
+
+returns-18 : tie.Need-returns-18
+unfolding ruleOf pick
+returns-18 c = rw (c .before .match .keys18) (cc)
+
+returns-19 : tie.Need-returns-19
+unfolding ruleOf pick
+returns-19 c = rw (c .before .match .keys19) (cc)
+
+returns-20 : tie.Need-returns-20
+unfolding ruleOf pick
+returns-20 c = rw (c .before .match .keys20) (cc)
+
+returns-21 : tie.Need-returns-21
+unfolding ruleOf pick
+returns-21 c = rw (ne-eqb _ _ (c .before .match .rest .0 .0 .0 .0 .0 .0 .0 .0 .0 .0 .0 .0 .0 .0 .0 .0 .0 .0 .0 .1), ne-eqb _ _ (c .before .match .rest .0 .0 .0 .0 .0 .0 .0 .0 .0 .0 .0 .0 .0 .0 .0 .0 .0 .0 .1), ne-eqb _ _ (c .before .match .rest .0 .0 .0 .0 .0 .0 .0 .0 .0 .0 .0 .0 .0 .0 .0 .0 .0 .1), ne-eqb _ _ (c .before .match .rest .0 .0 .0 .0 .0 .0 .0 .0 .0 .0 .0 .0 .0 .0 .0 .0 .1), ne-eqb _ _ (c .before .match .rest .0 .0 .0 .0 .0 .0 .0 .0 .0 .0 .0 .0 .0 .0 .0 .1), ne-eqb _ _ (c .before .match .rest .0 .0 .0 .0 .0 .0 .0 .0 .0 .0 .0 .0 .0 .0 .1), ne-eqb _ _ (c .before .match .rest .0 .0 .0 .0 .0 .0 .0 .0 .0 .0 .0 .0 .0 .1), ne-eqb _ _ (c .before .match .rest .0 .0 .0 .0 .0 .0 .0 .0 .0 .0 .0 .0 .1), ne-eqb _ _ (c .before .match .rest .0 .0 .0 .0 .0 .0 .0 .0 .0 .0 .0 .1), ne-eqb _ _ (c .before .match .rest .0 .0 .0 .0 .0 .0 .0 .0 .0 .0 .1), ne-eqb _ _ (c .before .match .rest .0 .0 .0 .0 .0 .0 .0 .0 .0 .1), ne-eqb _ _ (c .before .match .rest .0 .0 .0 .0 .0 .0 .0 .0 .1), ne-eqb _ _ (c .before .match .rest .0 .0 .0 .0 .0 .0 .0 .1), ne-eqb _ _ (c .before .match .rest .0 .0 .0 .0 .0 .0 .1), ne-eqb _ _ (c .before .match .rest .0 .0 .0 .0 .0 .1), ne-eqb _ _ (c .before .match .rest .0 .0 .0 .0 .1), ne-eqb _ _ (c .before .match .rest .0 .0 .0 .1), ne-eqb _ _ (c .before .match .rest .0 .0 .1), ne-eqb _ _ (c .before .match .rest .0 .1), ne-eqb _ _ (c .before .match .rest .1)) (cc)
+
+pub rule-of-spec : {M : Type 1} → statement M
+rule-of-spec =
+    tie.close
+    (tie.spec
+    put-requires
+    put-requires-2
+    put-requires-3
+    put-requires-4
+    put-requires-5
+    put-requires-6
+    put-requires-7
+    put-requires-8
+    put-requires-9
+    put-requires-10
+    put-requires-11
+    put-requires-12
+    put-requires-13
+    put-requires-14
+    put-requires-15
+    put-requires-16
+    put-requires-17
+    put-requires-18
+    put-requires-19
+    put-requires-20
+    put-requires-21
+    returns
+    returns-2
+    returns-3
+    returns-4
+    returns-5
+    returns-6
+    returns-7
+    returns-8
+    returns-9
+    returns-10
+    returns-11
+    returns-12
+    returns-13
+    returns-14
+    returns-15
+    returns-16
+    returns-17
+    returns-18
+    returns-19
+    returns-20
+    returns-21)

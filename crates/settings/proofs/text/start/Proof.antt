@@ -1,0 +1,16 @@
+-- `start` goes by the list. Assumes nothing.
+use Rattle.laws.specs.Choose.{tests}
+use Rattle.settings.specs.Lines.{startOf}
+use Rattle.settings.proofs.text.start.Statement.{statement}
+use Rattle.settings.proofs.text.start.Tie as tie
+
+returns : tie.Need-returns
+unfolding startOf
+returns c = search tests
+
+returns-2 : tie.Need-returns-2
+unfolding startOf
+returns-2 c = search tests
+
+pub start-spec : {M : Type 1} → statement M
+start-spec = tie.close (tie.spec returns returns-2)

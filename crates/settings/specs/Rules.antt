@@ -1,0 +1,41 @@
+-- Where the numbers of each kind of setting go. Assumes nothing.
+use Prim.Native.Nat.{ℕ, _+_, _*_}
+use mathlib.Core.List.{List, [], _∷_}
+use lib.Dec.{eqb}
+use Rattle.laws.specs.Choose.{pick}
+use Rattle.laws.specs.Loops.{each}
+use Rattle.settings.specs.declared.names.Rule.{Rule}
+
+-- a list, the first place there, room for so many numbers from it on, and how many numbers a line has, 0 for any
+abbrev pub room : ℕ → ℕ → ℕ → ℕ → Rule
+room list from size each = record { list = list; from = from; end = from + size; each = each }
+
+-- The lists: 0 signed numbers, 1 short ones, 2 steps, 3 flags, 4 offsets. A kind that is none has no room.
+-- 4096 entries of qindex, and then 1048576 leaves of each sort, four numbers a leaf; sixteen places for the CCSO numbers of a plane.
+unfoldable pub ruleOf : ℕ → Rule
+ruleOf kind =
+    pick (eqb kind 1) (room 0 0 1 1)
+    (pick (eqb kind 2) (room 1 0 4096 0)
+    (pick (eqb kind 3) (room 2 0 352 0)
+    (pick (eqb kind 4) (room 1 4096 (4 * 1048576) 4)
+    (pick (eqb kind 5) (room 1 (4096 + 4 * 1048576) (4 * 1048576) 4)
+    (pick (eqb kind 6) (room 1 (4096 + 8 * 1048576) (4 * 1048576) 4)
+    (pick (eqb kind 7) (room 0 1 1 1)
+    (pick (eqb kind 8) (room 0 2 1 1)
+    (pick (eqb kind 9) (room 0 3 2 2)
+    (pick (eqb kind 10) (room 0 5 2 2)
+    (pick (eqb kind 11) (room 0 7 1 1)
+    (pick (eqb kind 12) (room 0 16 11 11)
+    (pick (eqb kind 13) (room 0 32 11 11)
+    (pick (eqb kind 14) (room 0 48 11 11)
+    (pick (eqb kind 15) (room 3 0 4096 0)
+    (pick (eqb kind 16) (room 3 4096 4096 0)
+    (pick (eqb kind 17) (room 3 8192 4096 0)
+    (pick (eqb kind 18) (room 4 0 128 0)
+    (pick (eqb kind 19) (room 4 128 128 0)
+    (pick (eqb kind 20) (room 4 256 128 0)
+    (room 0 0 0 0))))))))))))))))))))
+
+-- the first places of the kinds 0 to 20, in this order
+unfoldable pub firstPlaces : List ℕ
+firstPlaces = each 21 (λ kind. ruleOf kind .from ∷ [])
