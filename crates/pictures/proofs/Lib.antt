@@ -1,2 +1,7 @@
 -- The laws of this crate's proofs.
 pub mod Fronts
+pub mod Storing
+pub mod Steps
+pub mod Leaves
+pub mod Repeats
+pub mod Completing
