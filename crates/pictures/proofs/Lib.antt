@@ -5,3 +5,7 @@ pub mod Steps
 pub mod Leaves
 pub mod Repeats
 pub mod Completing
+pub mod Copies
+pub mod Parts
+pub mod Packing
+pub mod Texts

@@ -7,9 +7,9 @@ use native.Mathlib.Nat.{add-zero, le-refl, le-step, mul-suc, le-antisymm}
 use native.Mathlib.Numerals.{add-one}
 use native.Mathlib.Omega.{arith}
 use borrow.Author.Needs.{needs}
-use lib.ListN.{length, getD, take, drop, set, replicate, length-set, length-append, length-replicate, replicate-append-replicate}
-use lib.Seq.{sets, length-sets, sets-eq, drop-set-lt, getD-set-other}
-use Rattle.laws.specs.Loops.{each}
+use lib.ListN.{length, getD, take, drop, set, replicate, length-set, length-take, take-append-drop, length-append, length-replicate, replicate-append-replicate}
+use lib.Seq.{take-all, take-suc, set-out, sets, length-sets, sets-eq, drop-set-lt, getD-set-other}
+use Rattle.laws.specs.Loops.{each, filled, singles-length}
 use Rattle.pictures.specs.Storing.{stored}
 
 module _ {A : Type 0} where
@@ -55,6 +55,53 @@ module _ {A : Type 0} where
   stored-beyond [] l i p d h = refl
   stored-beyond (v ∷ vs) l i p d h =
       stored-beyond vs (set l i v) (suc i) p d (omega arith) ∙ getD-set-other l i p v d (λ q. absurd (omega arith))
+
+  -- nothing, beyond the end
+  pub stored-out : (vs l : List A) (i : ℕ) → length l ≤ i → stored l i vs ≡ l
+  unfolding stored
+  stored-out [] l i h = refl
+  stored-out (v ∷ vs) l i h = stored-out vs (set l i v) (suc i) (omega (arith, length-set l i v)) ∙ set-out l i v h
+
+-- ---- the front of another list, as a loop copies it
+
+module _ {A : Type 0} (l : List A) (i : ℕ) (s : List A) (d : A) where
+  pub copy-none : l ≡ stored l i (take 0 s)
+  copy-none = stored-none l i
+
+  pub copy-more : (k : ℕ) {q : List A} → k < length s → q ≡ stored l i (take k s) → set q (i + k) (getD s k d) ≡ stored l i (take (k + 1) s)
+  copy-more k {q} h e =
+      ap (λ (p : ℕ). set q p (getD s k d)) (place h)
+      ∙ stored-then l i (take k s) (getD s k d ∷ []) e (stored-one q (i + length (take k s)) (getD s k d))
+      ∙ ap (λ (x : List A). stored l i x) (sym (take-suc s k d h) ∙ ap (λ (n : ℕ). take n s) (sym (add-one k)))
+    where
+      place : k < length s → i + k ≡ i + length (take k s)
+      place h = omega (arith, length-take k s)
+
+  pub copy-end : (k n : ℕ) {q : List A} → q ≡ stored l i (take k s) → k ≤ n → n ≤ k → q ≡ stored l i (take n s)
+  copy-end k n e a b = rw (le-antisymm a b) at e
+
+-- all of it, where nothing is left to copy, or no place
+pub copy-all : {A : Type 0} (l s : List A) (k : ℕ) {q : List A} → length s ≤ k → q ≡ stored l 0 (take k s) → q ≡ stored l 0 s
+copy-all l s k h e = e ∙ ap (λ (x : List _). stored l 0 x) (take-all k s h)
+
+pub copy-full : {A : Type 0} (l s : List A) (k : ℕ) {q : List A} → k ≤ length s → length l ≤ k → q ≡ stored l 0 (take k s) → q ≡ stored l 0 s
+copy-full {A} l s k a b e =
+    e
+    ∙ sym (stored-out (drop k s) (stored l 0 (take k s)) (0 + length (take k s)) (omega (arith, length-take k s, stored-length l 0 (take k s))))
+    ∙ sym (stored-append (take k s) (drop k s) l 0)
+    ∙ ap (λ (x : List A). stored l 0 x) (take-append-drop k s)
+
+-- ---- a list filled from its front
+
+pub filled-stored : {A : Type 0} (l : List A) (f : ℕ → A) (n : ℕ) → filled l f n ≡ stored l 0 (each n (λ i. f i ∷ []))
+unfolding filled each
+filled-stored l f zero = stored-none l 0
+filled-stored {A} l f (suc n) =
+    ap (λ (p : ℕ). set (filled l f n) p (f n)) (place (singles-length f n))
+    ∙ stored-then l 0 (each n (λ i. f i ∷ [])) (f n ∷ []) (filled-stored l f n) (stored-one (filled l f n) (0 + length (each n (λ i. f i ∷ []))) (f n))
+  where
+    place : length (each n (λ i. f i ∷ [])) ≡ n → n ≡ 0 + length (each n (λ i. f i ∷ []))
+    place h = omega arith
 
 -- ---- the same number again and again
 
