@@ -9,3 +9,4 @@ pub mod Copies
 pub mod Parts
 pub mod Packing
 pub mod Texts
+pub mod Reading

@@ -43,7 +43,7 @@ pub fn read_line(fd: i32, buf: &mut [u8]) -> usize
     n
 }
 
-// Whether the file ends here.
+// Whether the file ends here; nothing can be promised of a file.
 pub fn at_end(fd: i32) -> bool {
     let next = next_byte(fd);
     match next {

@@ -6,7 +6,7 @@ ghost use lib.Dec.{leb};
 ghost use lib.ListN.{length, take, drop};
 ghost use Rattle.pictures.specs.Storing.{stored};
 ghost use Rattle.pictures.specs.Shapes.{Fit, eightsOf, halvedOf, shapeOf};
-ghost use Rattle.pictures.specs.Rows.{rowBytes, rowPut, packed, rowOut};
+ghost use Rattle.pictures.specs.Rows.{rowBytes, NextRow, rowPut, FilePlane, packed, rowOut};
 use laws::least;
 use y4m::samples::to_bytes;
 use y4m::samples::to_samples;
@@ -70,6 +70,7 @@ fn row_bytes(width: usize, wide: bool) -> usize
 // The next row's bytes to the front of the buffer, where the plane has another row; false where the file ends before.
 fn read_row(fd: i32, bytes: &mut [u8], n: usize, more: bool) -> bool
     requires { ⌜ n ≤ length (now bytes) ⌝ }
+    ensures { λ r. ⌜ NextRow more n (now (bytes .entry)) (now (bytes .exit)) r ⌝ }
 {
     if !more {
         return true;
@@ -91,9 +92,10 @@ fn put_row(bytes: &[u8], plane: &mut [u16], at: usize, s: Shape, wide: bool) -> 
     true
 }
 
-// A plane from a file; rows past the last one repeat it. False where the file ends before.
+// A plane from a file; rows past the last one repeat it. False where the file ends before. Promised is how bytes make the plane, not which the file has.
 pub fn read_plane(fd: i32, plane: &mut [u16], s: Shape, wide: bool) -> bool
     requires { ⌜ Fit s ⌝ }
+    ensures { λ r. ⌜ (r ≡ true → FilePlane wide s (now (plane .entry)) (now (plane .exit))) ⌝ }
 {
     let mut bytes = [0u8; 8192];
     let n = row_bytes(s.width, wide);
@@ -143,7 +145,7 @@ pub fn pack(plane: &mut [u16], s: Shape)
     }
 }
 
-// One row of a packed plane to a file.
+// One row of a packed plane to a file; promised are the bytes that are handed on.
 fn write_row(fd: i32, row: &[u16], bytes: &mut [u8], n: usize, wide: bool) -> bool
     requires { ⌜ n ≤ length (now bytes) ⌝ }
     ensures { λ _. ⌜ now (bytes .exit) ≡ rowOut wide (now (row .entry)) n (now (bytes .entry)) ⌝ }
@@ -152,9 +154,10 @@ fn write_row(fd: i32, row: &[u16], bytes: &mut [u8], n: usize, wide: bool) -> bo
     io::write_all(fd, &bytes[..n])
 }
 
-// A packed plane to a file; false where a row can't be written.
+// A packed plane to a file; false where a row can't be written. Promised is that a plane that was written whole was there whole.
 pub fn write_plane(fd: i32, plane: &[u16], s: Shape, wide: bool) -> bool
     requires { ⌜ Fit s ⌝ }
+    ensures { λ r. ⌜ (r ≡ true → s .width * s .height ≤ length (now (plane .entry))) ⌝ }
 {
     let mut bytes = [0u8; 8192];
     let n = row_bytes(s.width, wide);
