@@ -1,2 +1,12 @@
 -- The laws of this crate's proofs.
 pub mod Fronts
+pub mod Storing
+pub mod Steps
+pub mod Leaves
+pub mod Repeats
+pub mod Completing
+pub mod Copies
+pub mod Parts
+pub mod Packing
+pub mod Texts
+pub mod Reading

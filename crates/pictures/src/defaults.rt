@@ -1,76 +1,21 @@
 // What the settings do not say: numbers, steps, a qindex for every superblock, a leaf for every superblock.
 ghost use mathlib.Core.Path.{_≡_};
 ghost use Prim.Native.Nat.{_+_, _≤_, _<_};
-ghost use lib.ListN.{length};
+ghost use lib.ListN.{length, set};
+ghost use Rattle.pictures.specs.Storing.{stored};
+ghost use Rattle.pictures.specs.Defaults.{defaultNumbers, stepAt, stepTable, StepsTo, blocksOf, lastRepeated, leaf, leafRow, tiled, tiledEnd, completeShorts, completePlaces};
 
 // Deltas 0, caps of 16 cells, chroma deblocked.
-pub fn numbers() -> [i32; 64] {
-    [
-        0,
-        0,
-        0,
-        16,
-        16,
-        16,
-        16,
-        1,
-        0,
-        0,
-        0,
-        0,
-        0,
-        0,
-        0,
-        0,
-        0,
-        0,
-        0,
-        0,
-        0,
-        0,
-        0,
-        0,
-        0,
-        0,
-        0,
-        0,
-        0,
-        0,
-        0,
-        0,
-        0,
-        0,
-        0,
-        0,
-        0,
-        0,
-        0,
-        0,
-        0,
-        0,
-        0,
-        0,
-        0,
-        0,
-        0,
-        0,
-        0,
-        0,
-        0,
-        0,
-        0,
-        0,
-        0,
-        0,
-        0,
-        0,
-        0,
-        0,
-        0,
-        0,
-        0,
-        0,
-    ]
+pub fn numbers() -> [i32; 64]
+    ensures { λ r. ⌜ r ≡ defaultNumbers ⌝ }
+{
+    let mut t = [0i32; 64];
+    t[3] = 16;
+    t[4] = 16;
+    t[5] = 16;
+    t[6] = 16;
+    t[7] = 1;
+    t
 }
 
 pub fn shorts() -> [u16; 12587008] {
@@ -108,7 +53,8 @@ const FIRST: [u32; 25] = [
 
 // The table's next entry after i of them: twice the one 24 before it, and from 255 on the same.
 fn next_step(t: &[u32; 352], i: usize) -> u32
-    requires { ⌜ i < 352 ⌝ }
+    requires { ⌜ (i < 352) × StepsTo i (now t) ⌝ }
+    ensures { λ r. ⌜ r ≡ stepAt i ⌝ }
 {
     if i < 25 {
         return FIRST[i];
@@ -116,12 +62,13 @@ fn next_step(t: &[u32; 352], i: usize) -> u32
     if 255 < i {
         return t[i - 1];
     }
-    let e = t[i - 24];
-    if e < 1048576 { 2 * e } else { e }
+    2 * t[i - 24]
 }
 
 // The published table of AC steps.
-pub fn steps() -> [u32; 352] {
+pub fn steps() -> [u32; 352]
+    ensures { λ r. ⌜ r ≡ stepTable ⌝ }
+{
     let mut t = [0u32; 352];
     let mut i: usize = 0;
     while i < 352 {
@@ -134,7 +81,7 @@ pub fn steps() -> [u32; 352] {
 // The last qindex of n serves the superblocks after it.
 fn repeat_last(shorts: &mut [u16], n: usize)
     requires { ⌜ 4096 ≤ length (now shorts) ⌝ }
-    ensures { λ _. ⌜ length (now (shorts .exit)) ≡ length (now (shorts .entry)) ⌝ }
+    ensures { λ _. ⌜ now (shorts .exit) ≡ lastRepeated n (now (shorts .entry)) ⌝ }
 {
     if n == 0 {
         return;
@@ -148,7 +95,7 @@ fn repeat_last(shorts: &mut [u16], n: usize)
 
 fn put(shorts: &mut [u16], at: usize, v: u16)
     requires { ⌜ at < length (now shorts) ⌝ }
-    ensures { λ _. ⌜ length (now (shorts .exit)) ≡ length (now (shorts .entry)) ⌝ }
+    ensures { λ _. ⌜ now (shorts .exit) ≡ set (now (shorts .entry)) at v ⌝ }
 {
     shorts[at] = v;
 }
@@ -156,7 +103,7 @@ fn put(shorts: &mut [u16], at: usize, v: u16)
 // One leaf of 16 by 16 cells.
 fn put_leaf(shorts: &mut [u16], at: usize, row: u16, column: u16)
     requires { ⌜ at + 4 ≤ length (now shorts) ⌝ }
-    ensures { λ _. ⌜ length (now (shorts .exit)) ≡ length (now (shorts .entry)) ⌝ }
+    ensures { λ _. ⌜ now (shorts .exit) ≡ stored (now (shorts .entry)) at (leaf row column) ⌝ }
 {
     put(shorts, at, row);
     put(shorts, at + 1, column);
@@ -167,7 +114,7 @@ fn put_leaf(shorts: &mut [u16], at: usize, row: u16, column: u16)
 // A row of superblocks.
 fn leaf_row(shorts: &mut [u16], at: usize, row: u16, across: usize)
     requires { ⌜ (across ≤ 64) × (at + 256 ≤ length (now shorts)) ⌝ }
-    ensures { λ _. ⌜ length (now (shorts .exit)) ≡ length (now (shorts .entry)) ⌝ }
+    ensures { λ _. ⌜ now (shorts .exit) ≡ stored (now (shorts .entry)) at (leafRow row across) ⌝ }
 {
     let mut c: usize = 0;
     while c < across {
@@ -179,6 +126,7 @@ fn leaf_row(shorts: &mut [u16], at: usize, row: u16, across: usize)
 // A leaf for every superblock; answers the place after the last.
 fn tile(shorts: &mut [u16], across: usize, down: usize) -> usize
     requires { ⌜ (across ≤ 64) × (down ≤ 64) × (24576 ≤ length (now shorts)) ⌝ }
+    ensures { λ r. ⌜ (now (shorts .exit) ≡ tiled across down (now (shorts .entry))) × (r ≡ tiledEnd across down) ⌝ }
 {
     let mut at: usize = 4096;
     let mut r: usize = 0;
@@ -193,7 +141,7 @@ fn tile(shorts: &mut [u16], across: usize, down: usize) -> usize
 // Superblocks of 64 samples.
 fn blocks(n: usize) -> usize
     requires { ⌜ n ≤ 4096 ⌝ }
-    ensures { λ r. ⌜ r ≤ 64 ⌝ }
+    ensures { λ r. ⌜ (r ≤ 64) × (r ≡ blocksOf n) ⌝ }
 {
     (n + 63) / 64
 }
@@ -201,6 +149,8 @@ fn blocks(n: usize) -> usize
 // What the picture's size decides.
 pub fn complete(shorts: &mut [u16], places: &mut [usize; 21], width: usize, height: usize)
     requires { ⌜ (width ≤ 4096) × (height ≤ 4096) × (24576 ≤ length (now shorts)) ⌝ }
+    ensures { λ _. ⌜ now (shorts .exit) ≡ completeShorts width height (now (places .entry)) (now (shorts .entry)) ⌝ }
+    ensures { λ _. ⌜ now (places .exit) ≡ completePlaces width height (now (places .entry)) ⌝ }
 {
     repeat_last(shorts, places[2]);
     if places[4] == 4096 {

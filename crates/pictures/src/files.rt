@@ -2,6 +2,7 @@
 ghost use mathlib.Core.Path.{_≡_};
 ghost use Prim.Native.Nat.{_≤_};
 ghost use lib.ListN.{length};
+ghost use Rattle.pictures.specs.Texts.{Line, partIn, partLength};
 
 // How many bytes a settings text may have.
 pub fn text_room() -> [u8; 33554432] {
@@ -25,7 +26,7 @@ fn next_byte(fd: i32) -> Next {
 
 // Reads a line without its newline and answers its length; one that does not fit, or that the file ends, has the buffer's length.
 pub fn read_line(fd: i32, buf: &mut [u8]) -> usize
-    ensures { λ r. ⌜ (r ≤ length (now (buf .exit))) × (length (now (buf .exit)) ≡ length (now (buf .entry))) ⌝ }
+    ensures { λ r. ⌜ Line (now (buf .entry)) (now (buf .exit)) r ⌝ }
 {
     let mut n: usize = 0;
     while n < buf.len() {
@@ -42,7 +43,7 @@ pub fn read_line(fd: i32, buf: &mut [u8]) -> usize
     n
 }
 
-// Whether the file ends here.
+// Whether the file ends here; nothing can be promised of a file.
 pub fn at_end(fd: i32) -> bool {
     let next = next_byte(fd);
     match next {
@@ -54,6 +55,7 @@ pub fn at_end(fd: i32) -> bool {
 // A name with '.part' after it, into a buffer; answers its length, or 0 where it does not fit.
 pub fn part_name(name: &[u8], buf: &mut [u8]) -> usize
     ensures { λ r. ⌜ (r ≤ length (now (buf .exit))) × (length (now (buf .exit)) ≡ length (now (buf .entry))) ⌝ }
+    ensures { λ r. ⌜ (r ≡ partLength (now (name .entry)) (now (buf .entry))) × (now (buf .exit) ≡ partIn (now (name .entry)) (now (buf .entry))) ⌝ }
 {
     let n = name.len();
     if buf.len() < 5 {

@@ -1,8 +1,12 @@
 // A picture's planes: read into rows with padding, packed, and written.
 ghost use mathlib.Core.Path.{_≡_};
+ghost use mathlib.Core.Bool.{true};
 ghost use Prim.Native.Nat.{_+_, _*_, _≤_};
-ghost use lib.ListN.{length};
-ghost use Rattle.pictures.specs.Shapes.{Fit};
+ghost use lib.Dec.{leb};
+ghost use lib.ListN.{length, take, drop};
+ghost use Rattle.pictures.specs.Storing.{stored};
+ghost use Rattle.pictures.specs.Shapes.{Fit, eightsOf, halvedOf, shapeOf};
+ghost use Rattle.pictures.specs.Rows.{rowBytes, NextRow, rowPut, FilePlane, packed, rowOut};
 use laws::least;
 use y4m::samples::to_bytes;
 use y4m::samples::to_samples;
@@ -19,6 +23,7 @@ pub struct Shape {
 fn eights(n: usize) -> usize
     requires { ⌜ n ≤ 4096 ⌝ }
     ensures { λ r. ⌜ (n ≤ r) × (r ≤ 4096) ⌝ }
+    ensures { λ r. ⌜ r ≡ eightsOf n ⌝ }
 {
     (n + 7) / 8 * 8
 }
@@ -27,6 +32,7 @@ fn eights(n: usize) -> usize
 fn halved(n: usize, ss: usize) -> usize
     requires { ⌜ (1 ≤ n) × (n ≤ 4096) ⌝ }
     ensures { λ r. ⌜ (1 ≤ r) × (r ≤ 4096) ⌝ }
+    ensures { λ r. ⌜ r ≡ halvedOf n ss ⌝ }
 {
     if ss == 0 { n } else { (n + 1) / 2 }
 }
@@ -35,6 +41,7 @@ fn halved(n: usize, ss: usize) -> usize
 pub fn shape_of(width: usize, height: usize, ssx: usize, ssy: usize) -> Shape
     requires { ⌜ (1 ≤ width) × (width ≤ 4096) × (1 ≤ height) × (height ≤ 4096) ⌝ }
     ensures { λ r. ⌜ Fit r ⌝ }
+    ensures { λ r. ⌜ r ≡ shapeOf width height ssx ssy ⌝ }
 {
     let w = halved(width, ssx);
     let h = halved(height, ssy);
@@ -55,6 +62,7 @@ pub fn samples_room() -> [u16; 16777216] {
 fn row_bytes(width: usize, wide: bool) -> usize
     requires { ⌜ width ≤ 4096 ⌝ }
     ensures { λ r. ⌜ r ≤ 8192 ⌝ }
+    ensures { λ r. ⌜ r ≡ rowBytes width wide ⌝ }
 {
     if wide { 2 * width } else { width }
 }
@@ -62,6 +70,7 @@ fn row_bytes(width: usize, wide: bool) -> usize
 // The next row's bytes to the front of the buffer, where the plane has another row; false where the file ends before.
 fn read_row(fd: i32, bytes: &mut [u8], n: usize, more: bool) -> bool
     requires { ⌜ n ≤ length (now bytes) ⌝ }
+    ensures { λ r. ⌜ NextRow more n (now (bytes .entry)) (now (bytes .exit)) r ⌝ }
 {
     if !more {
         return true;
@@ -72,6 +81,8 @@ fn read_row(fd: i32, bytes: &mut [u8], n: usize, more: bool) -> bool
 // One row of a plane from the buffer; false where the plane has no such row.
 fn put_row(bytes: &[u8], plane: &mut [u16], at: usize, s: Shape, wide: bool) -> bool
     requires { ⌜ Fit s × (at ≤ 16777216) ⌝ }
+    ensures { λ r. ⌜ r ≡ leb (at + s .stride) (length (now (plane .entry))) ⌝ }
+    ensures { λ _. ⌜ now (plane .exit) ≡ rowPut wide s (now (bytes .entry)) at (now (plane .entry)) ⌝ }
 {
     let end = at + s.stride;
     if plane.len() < end {
@@ -81,9 +92,10 @@ fn put_row(bytes: &[u8], plane: &mut [u16], at: usize, s: Shape, wide: bool) -> 
     true
 }
 
-// A plane from a file; rows past the last one repeat it. False where the file ends before.
+// A plane from a file; rows past the last one repeat it. False where the file ends before. Promised is how bytes make the plane, not which the file has.
 pub fn read_plane(fd: i32, plane: &mut [u16], s: Shape, wide: bool) -> bool
     requires { ⌜ Fit s ⌝ }
+    ensures { λ r. ⌜ (r ≡ true → FilePlane wide s (now (plane .entry)) (now (plane .exit))) ⌝ }
 {
     let mut bytes = [0u8; 8192];
     let n = row_bytes(s.width, wide);
@@ -105,6 +117,7 @@ pub fn read_plane(fd: i32, plane: &mut [u16], s: Shape, wide: bool) -> bool
 // Moves n samples towards the front.
 fn move_row(plane: &mut [u16], from: usize, to: usize, n: usize)
     requires { ⌜ (to ≤ from) × (from + n ≤ length (now plane)) ⌝ }
+    ensures { λ _. ⌜ now (plane .exit) ≡ stored (now (plane .entry)) to (take n (drop from (now (plane .entry)))) ⌝ }
 {
     let mut k: usize = 0;
     while k < n {
@@ -116,6 +129,7 @@ fn move_row(plane: &mut [u16], from: usize, to: usize, n: usize)
 // Takes the padding out of a plane: its rows then follow each other.
 pub fn pack(plane: &mut [u16], s: Shape)
     requires { ⌜ Fit s ⌝ }
+    ensures { λ _. ⌜ now (plane .exit) ≡ packed s (now (plane .entry)) ⌝ }
 {
     let mut from: usize = 0;
     let mut to: usize = 0;
@@ -131,17 +145,19 @@ pub fn pack(plane: &mut [u16], s: Shape)
     }
 }
 
-// One row of a packed plane to a file.
+// One row of a packed plane to a file; promised are the bytes that are handed on.
 fn write_row(fd: i32, row: &[u16], bytes: &mut [u8], n: usize, wide: bool) -> bool
     requires { ⌜ n ≤ length (now bytes) ⌝ }
+    ensures { λ _. ⌜ now (bytes .exit) ≡ rowOut wide (now (row .entry)) n (now (bytes .entry)) ⌝ }
 {
     to_bytes(row, &mut bytes[..n], wide);
     io::write_all(fd, &bytes[..n])
 }
 
-// A packed plane to a file; false where a row can't be written.
+// A packed plane to a file; false where a row can't be written. Promised is that a plane that was written whole was there whole.
 pub fn write_plane(fd: i32, plane: &[u16], s: Shape, wide: bool) -> bool
     requires { ⌜ Fit s ⌝ }
+    ensures { λ r. ⌜ (r ≡ true → s .width * s .height ≤ length (now (plane .entry))) ⌝ }
 {
     let mut bytes = [0u8; 8192];
     let n = row_bytes(s.width, wide);
@@ -162,7 +178,9 @@ pub fn write_plane(fd: i32, plane: &[u16], s: Shape, wide: bool) -> bool
 }
 
 // Copies as much as both planes hold.
-pub fn copy(from: &[u16], to: &mut [u16]) {
+pub fn copy(from: &[u16], to: &mut [u16])
+    ensures { λ _. ⌜ now (to .exit) ≡ stored (now (to .entry)) 0 (now (from .entry)) ⌝ }
+{
     let n = least(from.len(), to.len());
     let mut k: usize = 0;
     while k < n {

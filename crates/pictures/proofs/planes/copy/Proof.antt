@@ -1,49 +1,50 @@
--- `copy` stays within both planes. Assumes nothing.
-use borrow.Author.Needs.{needs}
-use Prim.Native.Nat.{_+_, _-_, _*_, _≤_, _<_}
+-- `copy` stores the front of a list, a place a turn. Assumes nothing.
 use mathlib.Core.Path.{_≡_}
-use lib.ListN.{length}
+use Prim.Native.Nat.{_-_, _≤_, min}
+use lib.ListN.{length, take}
+use Rattle.pictures.specs.Storing.{stored}
+use Rattle.pictures.proofs.Copies.{copying}
 use Rattle.pictures.proofs.planes.copy.Statement.{statement}
 use Rattle.pictures.proofs.planes.copy.Tie as tie
 
 abbrev Inv-loop : tie.InvT-loop
-Inv-loop from to₀ n k₀ to k = (k ≤ n) × (n ≤ length from) × (n ≤ length to₀) × (length to ≡ length to₀)
+Inv-loop from to₀ n k₀ to k = (k ≤ n) × (n ≡ min (length from) (length to₀)) × (length to ≡ length to₀) × (to ≡ stored to₀ 0 (take k from))
 
 abbrev μ-loop : tie.MeasureT-loop
 μ-loop from to₀ n k₀ to k = n - k
 
 least-requires : tie.Need-least-requires Inv-loop μ-loop
-least-requires c κs = search needs
+least-requires c κs = search copying
 
 loop-holds : tie.Need-loop-holds Inv-loop μ-loop
-loop-holds c = search needs
+loop-holds c = search copying
 
 mul-to : tie.Need-mul-to Inv-loop μ-loop
-mul-to c = search needs
+mul-to c = search copying
 
 shared-slice-read-to : tie.Need-shared-slice-read-to Inv-loop μ-loop
-shared-slice-read-to c = search needs
+shared-slice-read-to c = search copying
 
 mul-to-2 : tie.Need-mul-to-2 Inv-loop μ-loop
-mul-to-2 c = search needs
+mul-to-2 c = search copying
 
 slice-write-to : tie.Need-slice-write-to Inv-loop μ-loop
-slice-write-to c = search needs
+slice-write-to c = search copying
 
 add-k : tie.Need-add-k Inv-loop μ-loop
-add-k c = search needs
+add-k c = search copying
 
 loop-less : tie.Need-loop-less Inv-loop μ-loop
-loop-less c = search needs
+loop-less c = search copying
 
 loop-again : tie.Need-loop-again Inv-loop μ-loop
-loop-again c = search needs
+loop-again c = search copying
 
 same-length : tie.Need-same-length Inv-loop μ-loop
-same-length c = search needs
+same-length c = search copying
 
 returns : tie.Need-returns Inv-loop μ-loop
-returns c = search needs
+returns c = search copying
 
 pub copy-spec : {M : Type 1} → statement M
 copy-spec =

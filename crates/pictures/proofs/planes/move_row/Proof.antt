@@ -1,52 +1,53 @@
--- `move_row` stays within the plane. Assumes nothing.
-use borrow.Author.Needs.{needs}
-use Prim.Native.Nat.{_+_, _-_, _*_, _≤_, _<_}
+-- `move_row` stores samples that stand further on, a place a turn. Assumes nothing.
 use mathlib.Core.Path.{_≡_}
-use lib.ListN.{length}
+use Prim.Native.Nat.{_-_, _≤_}
+use lib.ListN.{length, take, drop}
+use Rattle.pictures.specs.Storing.{stored}
+use Rattle.pictures.proofs.Copies.{copying}
 use Rattle.pictures.proofs.planes.move_row.Statement.{statement}
 use Rattle.pictures.proofs.planes.move_row.Tie as tie
 
 abbrev Inv-loop : tie.InvT-loop
-Inv-loop plane₀ from to n k₀ plane k = (k ≤ n) × (length plane ≡ length plane₀)
+Inv-loop plane₀ from to n k₀ plane k = (k ≤ n) × (length plane ≡ length plane₀) × (plane ≡ stored plane₀ to (take k (drop from plane₀)))
 
 abbrev μ-loop : tie.MeasureT-loop
 μ-loop plane₀ from to n k₀ plane k = n - k
 
 loop-holds : tie.Need-loop-holds Inv-loop μ-loop
-loop-holds c = search needs
+loop-holds c = search copying
 
 add-plane : tie.Need-add-plane Inv-loop μ-loop
-add-plane c = search needs
+add-plane c = search copying
 
 mul-plane : tie.Need-mul-plane Inv-loop μ-loop
-mul-plane c = search needs
+mul-plane c = search copying
 
 slice-read-plane : tie.Need-slice-read-plane Inv-loop μ-loop
-slice-read-plane c = search needs
+slice-read-plane c = search copying
 
 add-plane-2 : tie.Need-add-plane-2 Inv-loop μ-loop
-add-plane-2 c = search needs
+add-plane-2 c = search copying
 
 mul-plane-2 : tie.Need-mul-plane-2 Inv-loop μ-loop
-mul-plane-2 c = search needs
+mul-plane-2 c = search copying
 
 slice-write-plane : tie.Need-slice-write-plane Inv-loop μ-loop
-slice-write-plane c = search needs
+slice-write-plane c = search copying
 
 add-k : tie.Need-add-k Inv-loop μ-loop
-add-k c = search needs
+add-k c = search copying
 
 loop-less : tie.Need-loop-less Inv-loop μ-loop
-loop-less c = search needs
+loop-less c = search copying
 
 loop-again : tie.Need-loop-again Inv-loop μ-loop
-loop-again c = search needs
+loop-again c = search copying
 
 same-length : tie.Need-same-length Inv-loop μ-loop
-same-length c = search needs
+same-length c = search copying
 
 returns : tie.Need-returns Inv-loop μ-loop
-returns c = search needs
+returns c = search copying
 
 pub move-row-spec : {M : Type 1} → statement M
 move-row-spec =

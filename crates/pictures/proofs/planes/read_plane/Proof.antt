@@ -1,13 +1,16 @@
--- `read_plane` goes from row to row within the plane. Assumes nothing.
+-- `read_plane` reads a row and puts it into the plane, a turn each. Assumes nothing.
 use borrow.Author.Needs.{needs}
-use Prim.Native.Nat.{_+_, _-_, _*_, _≤_, _<_}
 use mathlib.Core.Path.{_≡_}
+use Prim.Native.Nat.{_-_, _*_, _≤_}
 use lib.ListN.{length}
+use Rattle.laws.specs.Choose.{true-not-false}
+use Rattle.pictures.proofs.Packing.{next-row}
+use Rattle.pictures.proofs.Reading.{SoFar, so-far-none, so-far-more, so-far-end}
 use Rattle.pictures.proofs.planes.read_plane.Statement.{statement}
 use Rattle.pictures.proofs.planes.read_plane.Tie as tie
 
 abbrev Inv-loop : tie.InvT-loop
-Inv-loop fd plane₀ s wide bytes₀ n at₀ r₀ plane bytes at r = (length bytes ≡ 8192) × (at ≤ 4096 * r) × (r ≤ 4096) × (length plane ≡ length plane₀)
+Inv-loop fd plane₀ s wide bytes₀ n at₀ r₀ plane bytes at r = (length bytes ≡ 8192) × (at ≤ 4096 * r) × (r ≤ s .rows) × (length plane ≡ length plane₀) × (at ≡ s .stride * r) × SoFar wide s plane₀ plane bytes r
 
 abbrev μ-loop : tie.MeasureT-loop
 μ-loop fd plane₀ s wide bytes₀ n at₀ r₀ plane bytes at r = s .rows - r
@@ -16,7 +19,7 @@ row-bytes-requires : tie.Need-row-bytes-requires Inv-loop μ-loop
 row-bytes-requires c κs = search needs
 
 loop-holds : tie.Need-loop-holds Inv-loop μ-loop
-loop-holds c = search needs
+loop-holds c = search (needs, so-far-none)
 
 slice-aggregate-read-row : tie.Need-slice-aggregate-read-row Inv-loop μ-loop
 slice-aggregate-read-row c = search needs
@@ -28,7 +31,7 @@ same-length : tie.Need-same-length Inv-loop μ-loop
 same-length c = search needs
 
 returns : tie.Need-returns Inv-loop μ-loop
-returns c = search needs
+returns c = λ e. true-not-false e
 
 slice-aggregate-put-row : tie.Need-slice-aggregate-put-row Inv-loop μ-loop
 slice-aggregate-put-row c = search needs
@@ -40,7 +43,7 @@ same-length-2 : tie.Need-same-length-2 Inv-loop μ-loop
 same-length-2 c = search needs
 
 returns-2 : tie.Need-returns-2 Inv-loop μ-loop
-returns-2 c = search needs
+returns-2 c = λ e. true-not-false e
 
 add-at : tie.Need-add-at Inv-loop μ-loop
 add-at c = search needs
@@ -52,13 +55,20 @@ loop-less : tie.Need-loop-less Inv-loop μ-loop
 loop-less c = search needs
 
 loop-again : tie.Need-loop-again Inv-loop μ-loop
-loop-again c = search needs
+loop-again c = (
+  search needs,
+  search needs,
+  search needs,
+  search needs,
+  next-row _ _ _ (c .before .before .before .before .before .before .before .before .before .before .before .before .before .before .loop .inv .4),
+  so-far-more _ _ _ _ _ _ _ _ _ _ _ (c .before .before .before .before .before .before .before .before .before .before .before .before .before .before .loop .inv .4) (c .before .before .before .before .before .before .before .before .before .before .before .before .before .before .loop .inv .5) (c .before .before .before .before .before .before .before .before .before .read-row .ensures) (c .before .before .before .before .put-row .ensures .0) (c .before .if3 .left) (c .before .before .before .before .put-row .ensures .1),
+)
 
 same-length-3 : tie.Need-same-length-3 Inv-loop μ-loop
 same-length-3 c = search needs
 
 returns-3 : tie.Need-returns-3 Inv-loop μ-loop
-returns-3 c = search needs
+returns-3 c = λ e. so-far-end _ _ _ _ _ _ (c .before .before .loop .inv .5) (c .before .before .loop .inv .2) (c .if1 .left)
 
 pub read-plane-spec : {M : Type 1} → statement M
 read-plane-spec =

@@ -1,6 +1,8 @@
 -- `read_row` lends the front of the buffer. Assumes nothing.
 use borrow.Author.Needs.{needs}
+use borrow.Author.Tests.{not-false}
 use Rattle.pictures.proofs.Fronts.{front}
+use Rattle.pictures.proofs.Reading.{next-row-read}
 use Rattle.pictures.proofs.planes.read_row.Statement.{statement}
 use Rattle.pictures.proofs.planes.read_row.Tie as tie
 
@@ -20,7 +22,7 @@ same-length : tie.Need-same-length
 same-length c = search needs
 
 returns-2 : tie.Need-returns-2
-returns-2 c = search needs
+returns-2 c = next-row-read _ _ _ _ (c .before .before .read-full .last .1 .0) (search (needs, not-false)) (c .before .before .before .before .before .before .pre) (search needs)
 
 pub read-row-spec : {M : Type 1} → statement M
 read-row-spec =

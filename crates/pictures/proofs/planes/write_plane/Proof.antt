@@ -1,13 +1,16 @@
 -- `write_plane` goes from row to row within the plane. Assumes nothing.
 use borrow.Author.Needs.{needs}
-use Prim.Native.Nat.{_+_, _-_, _*_, _≤_, _<_}
 use mathlib.Core.Path.{_≡_}
+use Prim.Native.Nat.{_-_, _*_, _≤_}
 use lib.ListN.{length}
+use Rattle.laws.specs.Choose.{true-not-false}
+use Rattle.pictures.proofs.Packing.{next-row}
+use Rattle.pictures.proofs.Reading.{rows-written}
 use Rattle.pictures.proofs.planes.write_plane.Statement.{statement}
 use Rattle.pictures.proofs.planes.write_plane.Tie as tie
 
 abbrev Inv-loop : tie.InvT-loop
-Inv-loop fd plane s wide bytes₀ n at₀ r₀ bytes at r = (length bytes ≡ 8192) × (at ≤ 4096 * r) × (r ≤ 4096)
+Inv-loop fd plane s wide bytes₀ n at₀ r₀ bytes at r = (length bytes ≡ 8192) × (at ≤ 4096 * r) × (r ≤ s .height) × (at ≤ length plane) × (at ≡ s .width * r)
 
 abbrev μ-loop : tie.MeasureT-loop
 μ-loop fd plane s wide bytes₀ n at₀ r₀ bytes at r = s .height - r
@@ -22,7 +25,7 @@ add-end : tie.Need-add-end Inv-loop μ-loop
 add-end c = search needs
 
 returns : tie.Need-returns Inv-loop μ-loop
-returns c = search needs
+returns c = λ e. true-not-false e
 
 mul-write-row : tie.Need-mul-write-row Inv-loop μ-loop
 mul-write-row c = search needs
@@ -43,7 +46,7 @@ write-row-requires : tie.Need-write-row-requires Inv-loop μ-loop
 write-row-requires c κs = search needs
 
 returns-2 : tie.Need-returns-2 Inv-loop μ-loop
-returns-2 c = search needs
+returns-2 c = λ e. true-not-false e
 
 add-r : tie.Need-add-r Inv-loop μ-loop
 add-r c = search needs
@@ -52,10 +55,10 @@ loop-less : tie.Need-loop-less Inv-loop μ-loop
 loop-less c = search needs
 
 loop-again : tie.Need-loop-again Inv-loop μ-loop
-loop-again c = search needs
+loop-again c = (search needs, search needs, search needs, search needs, next-row _ _ _ (c .before .before .before .before .before .before .before .before .before .loop .inv .4))
 
 returns-3 : tie.Need-returns-3 Inv-loop μ-loop
-returns-3 c = search needs
+returns-3 c = λ e. rows-written _ _ _ _ _ (c .before .before .loop .inv .4) (c .before .before .loop .inv .2) (c .if1 .left) (c .before .before .loop .inv .3)
 
 pub write-plane-spec : {M : Type 1} → statement M
 write-plane-spec =

@@ -1,6 +1,7 @@
--- `write_row` lends the front of the buffer. Assumes nothing.
+-- `write_row` fills the front of the buffer. Assumes nothing.
 use borrow.Author.Needs.{needs}
 use Rattle.pictures.proofs.Fronts.{front}
+use Rattle.pictures.proofs.Parts.{row-out}
 use Rattle.pictures.proofs.planes.write_row.Statement.{statement}
 use Rattle.pictures.proofs.planes.write_row.Tie as tie
 
@@ -26,7 +27,7 @@ same-length : tie.Need-same-length
 same-length c = search needs
 
 returns : tie.Need-returns
-returns c = search needs
+returns c = row-out _ _ _ _ (c .before .before .before .before .before .before .before .before .pre) (c .before .before .before .before .to-bytes .ensures)
 
 pub write-row-spec : {M : Type 1} → statement M
 write-row-spec =

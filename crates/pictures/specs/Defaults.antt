@@ -1,0 +1,76 @@
+-- What holds where the settings do not say: numbers, steps, a qindex for every superblock, a leaf for every superblock.
+-- Assumes nothing.
+use mathlib.Core.Path.{_≡_}
+use mathlib.Core.List.{List, [], _∷_}
+use Prim.Native.Nat.{ℕ, _+_, _-_, _*_, _/_, _%_, _^_, _<_, min}
+use lib.Dec.{eqb}
+use lib.IntN.{ℤ, pos}
+use lib.ListN.{getD, set, replicate}
+use Rattle.laws.specs.Choose.{pick}
+use Rattle.laws.specs.Loops.{each}
+use Rattle.pictures.specs.Storing.{stored}
+
+-- luma's and chroma's caps of 16 cells each way at 3 to 6, chroma deblocked at 7; deltas and all else 0
+unfoldable pub defaultNumbers : List ℤ
+defaultNumbers = stored (replicate 64 (pos 0)) 3 (pos 16 ∷ pos 16 ∷ pos 16 ∷ pos 16 ∷ pos 1 ∷ [])
+
+-- ---- the published AC steps
+
+-- entries 1 to 24
+unfoldable pub octave : List ℕ
+octave =
+    40 ∷ 41 ∷ 43 ∷ 44 ∷ 45 ∷ 47 ∷ 48 ∷ 49 ∷ 51 ∷ 52 ∷ 54 ∷ 55 ∷ 57 ∷ 59 ∷ 60 ∷ 62 ∷ 64 ∷ 66 ∷ 68 ∷ 70 ∷ 72 ∷ 74 ∷ 76 ∷ 78 ∷ []
+
+-- the same, doubled with every 24 further ones
+unfoldable pub doubling : ℕ → ℕ
+doubling j = getD octave (j % 24) 0 * 2 ^ (j / 24)
+
+-- entry k: the first one is 64, and the one at 255 serves those after it
+unfoldable pub stepAt : ℕ → ℕ
+stepAt k = pick (eqb k 0) 64 (doubling (min k 255 - 1))
+
+unfoldable pub stepTable : List ℕ
+stepTable = each 352 (λ k. stepAt k ∷ [])
+
+-- the first n entries of t are right
+abbrev pub StepsTo : ℕ → List ℕ → Type 0
+StepsTo n t = (k : ℕ) → k < n → getD t k 0 ≡ stepAt k
+
+-- ---- superblocks of 64 by 64 samples, 16 by 16 cells
+
+-- how many cover n samples
+unfoldable pub blocksOf : ℕ → ℕ
+blocksOf n = (n + 63) / 64
+
+-- the last of n qindex entries serves the superblocks after it, up to the 4096th; without one nothing does
+unfoldable pub lastRepeated : ℕ → List ℕ → List ℕ
+lastRepeated n l = pick (eqb n 0) l (stored l n (replicate (4096 - n) (getD l (n - 1) 0)))
+
+-- the leaf of a superblock: its row and column in cells, and its size
+unfoldable pub leaf : ℕ → ℕ → List ℕ
+leaf row column = row ∷ column ∷ 16 ∷ 16 ∷ []
+
+-- a leaf for each of a row of superblocks, and for each of the rows
+unfoldable pub leafRow : ℕ → ℕ → List ℕ
+leafRow row across = each across (λ c. leaf row (16 * c))
+
+unfoldable pub leaves : ℕ → ℕ → List ℕ
+leaves across down = each down (λ r. leafRow (16 * r) across)
+
+-- the list of short numbers, whose leaves stand from place 4096 on, and the place after the last of them
+unfoldable pub tiled : ℕ → ℕ → List ℕ → List ℕ
+tiled across down l = stored l 4096 (leaves across down)
+
+unfoldable pub tiledEnd : ℕ → ℕ → ℕ
+tiledEnd across down = 4096 + 4 * across * down
+
+-- ---- what a picture's size decides, where place 2 is that after the last qindex entry, and place 4 that after the last leaf
+
+-- a leaf for every superblock where there is none
+unfoldable pub completeShorts : ℕ → ℕ → List ℕ → List ℕ → List ℕ
+completeShorts width height places l =
+    pick (eqb (getD places 4 0) 4096) (tiled (blocksOf width) (blocksOf height) (lastRepeated (getD places 2 0) l)) (lastRepeated (getD places 2 0) l)
+
+unfoldable pub completePlaces : ℕ → ℕ → List ℕ → List ℕ
+completePlaces width height places =
+    pick (eqb (getD places 4 0) 4096) (set places 4 (tiledEnd (blocksOf width) (blocksOf height))) places
