@@ -1,0 +1,4 @@
+-- The laws of this crate's proofs.
+pub mod Numbered
+pub mod Placing
+pub mod Gating

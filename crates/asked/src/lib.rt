@@ -1,0 +1,10 @@
+// What the settings of a picture ask for: the filters' own settings, CCSO over the planes, and where a refusal stands.
+
+// The frame, and the CCSO settings of a plane.
+pub mod told;
+
+// Where a refusal stands, by plane or list, row and column.
+pub mod places;
+
+// CCSO over one plane, and over all three.
+pub mod gated;
