@@ -4,13 +4,19 @@
 // What is printed.
 mod say;
 
-// The frame's settings, and the filters.
-mod deblocking;
+// The settings' file.
+mod load;
 
-// The CCSO offsets.
-mod gated;
+// The picture's file.
+mod read;
 
-// From the settings to the written picture.
+// The filters over the planes.
+mod treat;
+
+// The written picture.
+mod save;
+
+// The order of it all.
 mod run;
 
 fn main() {

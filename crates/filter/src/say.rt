@@ -1,4 +1,5 @@
 // The one line that is printed.
+use asked::places::Place;
 use rules::refusals::Refusal;
 use y4m::header::Header;
 
@@ -116,13 +117,7 @@ fn meaning(r: Refusal) {
     }
 }
 
-// Where: a plane or list by its name, and a row and a column.
-pub struct Place {
-    pub plane: usize,
-    pub row: usize,
-    pub column: usize,
-}
-
+// A plane or list by its name.
 fn plane_name(plane: usize) {
     match plane {
         0 => words(b"luma"),

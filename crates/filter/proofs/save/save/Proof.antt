@@ -1,8 +1,8 @@
 -- `save` lends the front of the buffer that has the name. Assumes nothing.
 use borrow.Author.Needs.{needs}
 use Rattle.pictures.proofs.Fronts.{front}
-use Rattle.filter.proofs.run.save.Statement.{statement}
-use Rattle.filter.proofs.run.save.Tie as tie
+use Rattle.filter.proofs.save.save.Statement.{statement}
+use Rattle.filter.proofs.save.save.Tie as tie
 
 buffer-requires : tie.Need-buffer-requires
 buffer-requires c κs = search needs

@@ -1,0 +1,6 @@
+-- What `specs/` holds: the settings' numbers and lists by their places, places of refusals, and both filters over the planes.
+pub mod Numbers
+pub mod Lists
+pub mod Places
+pub mod Deblocked
+pub mod Offsets

@@ -1,0 +1,38 @@
+-- The lists of the settings among their short numbers: 4096 qindex entries, then luma's leaves, chroma's leaves and skip leaves,
+-- each from a place of its own to the place after its last number. Assumes nothing.
+use mathlib.Core.List.{List}
+use Prim.Native.Nat.{ℕ, _≤_, min, max}
+use lib.Dec.{eqb}
+use lib.ListN.{getD}
+use Rattle.laws.specs.Choose.{pick}
+use Rattle.asked.specs.declared.lists.Lists.{Lists}
+
+-- the end of a list that begins at `from` and has room up to `end`, by the place after the last number of its kind
+abbrev pub endOf : List ℕ → ℕ → ℕ → ℕ → ℕ
+endOf places kind from end = max from (min (getD places kind 0) end)
+
+-- kinds 4, 5 and 6; chroma has luma's leaves where it has none of its own
+unfoldable pub listsAsked : List ℕ → Lists
+listsAsked places = record {
+  entries = 4096;
+  leaves = 4096;
+  leavesend = endOf places 4 4096 4198400;
+  chroma = pick (eqb (endOf places 5 4198400 8392704) 4198400) 4096 4198400;
+  chromaend = pick (eqb (endOf places 5 4198400 8392704) 4198400) (endOf places 4 4096 4198400) (endOf places 5 4198400 8392704);
+  skips = 8392704;
+  skipsend = endOf places 6 8392704 12587008;
+}
+
+-- the steps given, at most 352; all 352 of the published table where none is
+unfoldable pub stepsAsked : ℕ → ℕ
+stepsAsked n = pick (eqb n 0) 352 (min n 352)
+
+-- every list begins before it ends, within n numbers
+pub record Within (l : Lists) (n : ℕ) : Type 0 where
+  pub entries-in : l .entries ≤ n
+  pub leaves-from : l .leaves ≤ l .leavesend
+  pub leaves-in : l .leavesend ≤ n
+  pub chroma-from : l .chroma ≤ l .chromaend
+  pub chroma-in : l .chromaend ≤ n
+  pub skips-from : l .skips ≤ l .skipsend
+  pub skips-in : l .skipsend ≤ n

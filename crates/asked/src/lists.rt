@@ -1,0 +1,62 @@
+// The lists of the settings: qindex entries, luma's leaves, chroma's leaves and skip leaves among the short numbers, and the steps.
+ghost use mathlib.Core.Path.{_≡_};
+ghost use Prim.Native.Nat.{_≤_, min, max};
+ghost use lib.ListN.{length};
+ghost use Rattle.asked.specs.Lists.{listsAsked, stepsAsked, Within};
+use laws::least;
+use laws::most;
+
+// Where the lists of short numbers begin and end.
+pub struct Lists {
+    pub entries: usize,
+    pub leaves: usize,
+    pub leavesend: usize,
+    pub chroma: usize,
+    pub chromaend: usize,
+    pub skips: usize,
+    pub skipsend: usize,
+}
+
+// A place between two others.
+pub fn limit(place: usize, from: usize, end: usize) -> usize
+    ensures { λ r. ⌜ r ≡ max from (min place end) ⌝ }
+{
+    most(from, least(place, end))
+}
+
+// How many steps stand in the table: those given, or all of the published ones.
+pub fn steps_of(n: usize) -> usize
+    ensures { λ r. ⌜ (r ≡ stepsAsked n) × (r ≤ 352) ⌝ }
+{
+    if n == 0 { 352 } else { least(n, 352) }
+}
+
+// The lists by the places after their last numbers. Chroma has luma's leaves where it has none of its own.
+pub fn lists_of(places: &[usize]) -> Lists
+    requires { ⌜ 7 ≤ length (now places) ⌝ }
+    ensures { λ r. ⌜ (r ≡ listsAsked (now (places .entry))) × Within r 12587008 ⌝ }
+{
+    let l = limit(places[4], 4096, 4198400);
+    let c = limit(places[5], 4198400, 8392704);
+    let s = limit(places[6], 8392704, 12587008);
+    if c == 4198400 {
+        return Lists {
+            entries: 4096,
+            leaves: 4096,
+            leavesend: l,
+            chroma: 4096,
+            chromaend: l,
+            skips: 8392704,
+            skipsend: s,
+        };
+    }
+    Lists {
+        entries: 4096,
+        leaves: 4096,
+        leavesend: l,
+        chroma: 4198400,
+        chromaend: c,
+        skips: 8392704,
+        skipsend: s,
+    }
+}

@@ -1,0 +1,71 @@
+// The picture, written beside its name and then moved there.
+ghost use Rattle.pictures.specs.Shapes.{Fit};
+use crate::say;
+use pictures::files;
+use pictures::planes;
+use pictures::planes::Shape;
+
+// The lines and the planes to a file.
+fn write_planes(
+    fd: i32,
+    head: &[u8],
+    mark: &[u8],
+    y: &[u16],
+    u: &[u16],
+    v: &[u16],
+    l: Shape,
+    c: Shape,
+    chroma: bool,
+    wide: bool,
+) -> bool
+    requires { ⌜ Fit l × Fit c ⌝ }
+{
+    if !io::write_all(fd, head) || !io::write_all(fd, b"\n") {
+        return false;
+    }
+    if !io::write_all(fd, mark) || !io::write_all(fd, b"\n") {
+        return false;
+    }
+    if !planes::write_plane(fd, y, l, wide) {
+        return false;
+    }
+    if !chroma {
+        return true;
+    }
+    if !planes::write_plane(fd, u, c, wide) {
+        return false;
+    }
+    planes::write_plane(fd, v, c, wide)
+}
+
+// Writes the picture beside its name and then moves it there; false after the line that says why not.
+pub fn save(
+    out: &[u8],
+    head: &[u8],
+    mark: &[u8],
+    y: &[u16],
+    u: &[u16],
+    v: &[u16],
+    l: Shape,
+    c: Shape,
+    chroma: bool,
+    wide: bool,
+) -> bool
+    requires { ⌜ Fit l × Fit c ⌝ }
+{
+    let mut part = io::buffer();
+    let n = files::part_name(out, &mut part);
+    let fd = os::open_overwrite(&part[..n]);
+    if fd < 0 {
+        say::cannot(out, b"the picture can't be written");
+        return false;
+    }
+    let good = write_planes(fd, head, mark, y, u, v, l, c, chroma, wide);
+    libc::close(fd);
+    if good && os::rename(&part[..n], out) == 0 {
+        return true;
+    }
+    os::unlink(&part[..n]);
+    say::cannot(out, b"the picture can't be written");
+    false
+}
