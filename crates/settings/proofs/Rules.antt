@@ -3,6 +3,7 @@ use mathlib.Core.Path.{_≡_, sym, ap, _∙_}
 use mathlib.Core.List.{List, [], _∷_}
 use Prim.Native.Nat.{ℕ, _+_, _≤_, _<_}
 use native.Mathlib.Omega.{arith}
+use borrow.Author.Needs.{needs}
 use lib.ListN.{length, set}
 use lib.Seq.{ext-getD}
 use Rattle.laws.specs.Loops.{each, filled, filled-more, filled-end, filled-length, filled-at, singles-length, singles-at}
@@ -19,10 +20,16 @@ filled-all start f n e =
 abbrev pub fromOf : ℕ → ℕ
 fromOf kind = ruleOf kind .from
 
+-- as the rule has it
+pub from-is : (kind : ℕ) (r : Rule) → r ≡ ruleOf kind → r .from ≡ fromOf kind
+from-is kind r e = ap (λ (x : Rule). x .from) e
+
+pub ruleset placing = (needs, from-is)
+
 module _ (start : List ℕ) where
   -- one more kind
-  pub places-more : (kind : ℕ) (q : List ℕ) (r : Rule) → r ≡ ruleOf kind → q ≡ filled start fromOf kind → set q kind (r .from) ≡ filled start fromOf (kind + 1)
-  places-more kind q r e inv = filled-more start fromOf kind inv (ap (λ (x : Rule). set q kind (x .from)) e)
+  pub places-more : (kind v : ℕ) (q : List ℕ) → v ≡ fromOf kind → q ≡ filled start fromOf kind → set q kind v ≡ filled start fromOf (kind + 1)
+  places-more kind v q e inv = filled-more start fromOf kind inv (ap (λ (x : ℕ). set q kind x) e)
 
   pub places-end : (kind : ℕ) (q : List ℕ) → length start ≡ 21 → kind ≤ 21 → 21 ≤ kind → q ≡ filled start fromOf kind → q ≡ firstPlaces
   unfolding firstPlaces

@@ -33,6 +33,23 @@ pub kept-then : {a b c : Lists} → Kept a b → Kept b c → Kept a c
 kept-then h k =
     record { numbers = k .numbers ∙ h .numbers; shorts = k .shorts ∙ h .shorts; steps = k .steps ∙ h .steps; flags = k .flags ∙ h .flags; offsets = k .offsets ∙ h .offsets }
 
+-- where one list was written
+module _ (s : Lists) where
+  pub kept-numbers : (l : List ℤ) → length l ≡ length (s .numbers) → Kept s (lists l (s .shorts) (s .steps) (s .flags) (s .offsets))
+  kept-numbers l e = record { numbers = e; shorts = refl; steps = refl; flags = refl; offsets = refl }
+
+  pub kept-shorts : (l : List ℕ) → length l ≡ length (s .shorts) → Kept s (lists (s .numbers) l (s .steps) (s .flags) (s .offsets))
+  kept-shorts l e = record { numbers = refl; shorts = e; steps = refl; flags = refl; offsets = refl }
+
+  pub kept-steps : (l : List ℕ) → length l ≡ length (s .steps) → Kept s (lists (s .numbers) (s .shorts) l (s .flags) (s .offsets))
+  kept-steps l e = record { numbers = refl; shorts = refl; steps = e; flags = refl; offsets = refl }
+
+  pub kept-flags : (l : List ℕ) → length l ≡ length (s .flags) → Kept s (lists (s .numbers) (s .shorts) (s .steps) l (s .offsets))
+  kept-flags l e = record { numbers = refl; shorts = refl; steps = refl; flags = e; offsets = refl }
+
+  pub kept-offsets : (l : List ℤ) → length l ≡ length (s .offsets) → Kept s (lists (s .numbers) (s .shorts) (s .steps) (s .flags) l)
+  kept-offsets l e = record { numbers = refl; shorts = refl; steps = refl; flags = refl; offsets = e }
+
 -- ---- the numbers go to the list that is theirs
 
 module _ (xs : List ℕ) (c : Cursor) (list from end : ℕ) (s : Lists) (t : Taken) where

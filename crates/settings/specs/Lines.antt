@@ -118,9 +118,11 @@ settled kind places t answer =
 unfoldable pub judged : ℕ → ℕ → ℕ → List ℕ → Filled → Said
 judged kind from each places t = settled kind places t (verdictOf (t .left) from each kind (t .lists .numbers))
 
+-- they go where the kind's rule says
 unfoldable pub ruled : List ℕ → Cursor → ℕ → Rule → ℕ → State → Said
 ruled xs c kind rule from s = judged kind from (rule .each) (s .places) (takeOf xs c (rule .list) from (rule .end) (s .lists))
 
+-- from a place of the line up to its end
 unfoldable pub fillOf : List ℕ → ℕ → ℕ → ℕ → State → Said
 fillOf xs at end kind s =
     ruled xs (record { at = at; end = end; good = true }) kind (ruleOf kind)
@@ -142,5 +144,6 @@ namedOf xs end w s = pick (eqb (kindOf (w .value)) 0) (record { state = s; answe
 unfoldable pub inkedOf : List ℕ → ℕ → ℕ → State → Said
 inkedOf xs at end s = pick (eqb at end) (record { state = s; answer = 0 }) (namedOf xs end (wordAt xs at end) s)
 
+-- the bytes from from up to end
 unfoldable pub lineOf : List ℕ → ℕ → ℕ → State → Said
 lineOf xs from end s = inkedOf xs (seek (inkAt xs) from (end - from)) end s

@@ -4,7 +4,7 @@ use Prim.Native.Nat.{_-_, _≤_}
 use mathlib.Core.Path.{_≡_}
 use lib.ListN.{length}
 use Rattle.laws.specs.Loops.{filled, filled-none}
-use Rattle.settings.proofs.Rules.{fromOf, places-more, places-end}
+use Rattle.settings.proofs.Rules.{fromOf, placing, places-more, places-end}
 use Rattle.settings.proofs.names.first_places.Statement.{statement}
 use Rattle.settings.proofs.names.first_places.Tie as tie
 
@@ -33,7 +33,7 @@ loop-less : tie.Need-loop-less Inv-loop μ-loop
 loop-less c = search needs
 
 loop-again : tie.Need-loop-again Inv-loop μ-loop
-loop-again c = (search needs, search needs, search needs, places-more _ _ _ _ (c .rule-of .ensures) (c .before .before .loop .inv .3))
+loop-again c = (search needs, search needs, search needs, places-more _ _ _ _ (search placing) (c .before .before .loop .inv .3))
 
 returns : tie.Need-returns Inv-loop μ-loop
 returns c = places-end _ _ _ (c .before .loop .inv .1) (c .before .loop .inv .0) (search needs) (c .before .loop .inv .3)

@@ -1,6 +1,5 @@
 -- `take` goes by the list. Assumes nothing.
-use mathlib.Core.Path.{refl}
-use Rattle.settings.proofs.Settling.{take-numbers, take-shorts, take-steps, take-flags, take-offsets}
+use Rattle.settings.proofs.Settling.{kept-numbers, kept-shorts, kept-steps, kept-flags, kept-offsets, take-numbers, take-shorts, take-steps, take-flags, take-offsets}
 use borrow.Author.Needs.{needs}
 use Rattle.settings.proofs.text.take.Statement.{statement}
 use Rattle.settings.proofs.text.take.Tie as tie
@@ -24,31 +23,31 @@ same-length : tie.Need-same-length
 same-length c = search needs
 
 returns : tie.Need-returns
-returns c = let e = c .before .signed .ensures in (e .0, (record { numbers = e .1 .0; shorts = refl; steps = refl; flags = refl; offsets = refl }, take-numbers _ _ _ _ _ _ _ _ (c .before .before .before .match .keys1) (e .1 .1)))
+returns c = let e = c .before .signed .ensures in (e .0, (kept-numbers _ _ (e .1 .0), take-numbers _ _ _ _ _ _ _ _ (c .before .before .before .match .keys1) (e .1 .1)))
 
 same-length-2 : tie.Need-same-length-2
 same-length-2 c = search needs
 
 returns-2 : tie.Need-returns-2
-returns-2 c = let e = c .before .before .shorts .ensures in (e .0, (record { numbers = refl; shorts = e .1 .0; steps = refl; flags = refl; offsets = refl }, take-shorts _ _ _ _ _ _ _ _ (c .before .before .before .before .match .keys2) (e .1 .1)))
+returns-2 c = let e = c .before .before .shorts .ensures in (e .0, (kept-shorts _ _ (e .1 .0), take-shorts _ _ _ _ _ _ _ _ (c .before .before .before .before .match .keys2) (e .1 .1)))
 
 same-length-3 : tie.Need-same-length-3
 same-length-3 c = search needs
 
 returns-3 : tie.Need-returns-3
-returns-3 c = let e = c .before .before .steps .ensures in (e .0, (record { numbers = refl; shorts = refl; steps = e .1 .0; flags = refl; offsets = refl }, take-steps _ _ _ _ _ _ _ _ (c .before .before .before .before .match .keys3) (e .1 .1)))
+returns-3 c = let e = c .before .before .steps .ensures in (e .0, (kept-steps _ _ (e .1 .0), take-steps _ _ _ _ _ _ _ _ (c .before .before .before .before .match .keys3) (e .1 .1)))
 
 same-length-4 : tie.Need-same-length-4
 same-length-4 c = search needs
 
 returns-4 : tie.Need-returns-4
-returns-4 c = let e = c .before .before .flags .ensures in (e .0, (record { numbers = refl; shorts = refl; steps = refl; flags = e .1 .0; offsets = refl }, take-flags _ _ _ _ _ _ _ _ (c .before .before .before .before .match .keys4) (e .1 .1)))
+returns-4 c = let e = c .before .before .flags .ensures in (e .0, (kept-flags _ _ (e .1 .0), take-flags _ _ _ _ _ _ _ _ (c .before .before .before .before .match .keys4) (e .1 .1)))
 
 same-length-5 : tie.Need-same-length-5
 same-length-5 c = search needs
 
 returns-5 : tie.Need-returns-5
-returns-5 c = let e = c .before .offsets .ensures in (e .0, (record { numbers = refl; shorts = refl; steps = refl; flags = refl; offsets = e .1 .0 }, take-offsets _ _ _ _ _ _ _ _ (c .before .before .before .match .rest .0 .0 .0 .1) (c .before .before .before .match .rest .0 .0 .1) (c .before .before .before .match .rest .0 .1) (c .before .before .before .match .rest .1) (e .1 .1)))
+returns-5 c = let e = c .before .offsets .ensures in (e .0, (kept-offsets _ _ (e .1 .0), take-offsets _ _ _ _ _ _ _ _ (c .before .before .before .match .rest .0 .0 .0 .1) (c .before .before .before .match .rest .0 .0 .1) (c .before .before .before .match .rest .0 .1) (c .before .before .before .match .rest .1) (e .1 .1)))
 
 pub take-spec : {M : Type 1} → statement M
 take-spec =
