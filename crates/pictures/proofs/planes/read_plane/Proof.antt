@@ -63,7 +63,7 @@ loop-again c =
       search needs,
       search needs,
       search needs,
-      next-row _ _ _ (i .4),
+      search (needs, next-row),
       room-told _ _ _ _ (put .0) (c .before .if3 .left) (i .3),
       so-far-more _ _ _ _ _ _ _ _ _ _ _ (i .4) (i .6) row (put .0) (c .before .if3 .left) (put .1),
     )

@@ -54,7 +54,7 @@ loop-less : tie.Need-loop-less Inv-loop μ-loop
 loop-less c = search needs
 
 loop-again : tie.Need-loop-again Inv-loop μ-loop
-loop-again c = (search needs, search needs, search needs, search needs, next-row _ _ _ (c .before .before .before .before .before .before .before .before .before .loop .inv .4))
+loop-again c = (search needs, search needs, search needs, search needs, search (needs, next-row))
 
 returns-3 : tie.Need-returns-3 Inv-loop μ-loop
 returns-3 c =
