@@ -2,7 +2,6 @@
 use mathlib.Core.Path.{_≡_, refl, sym, ap, _∙_}
 use mathlib.Core.List.{List, [], _∷_}
 use Prim.Native.Nat.{ℕ, suc, _+_, _*_, _≤_, _<_}
-use native.Mathlib.Nat.{mul-suc, mul-zero, le-antisymm}
 use native.Mathlib.Numerals.{add-one}
 use native.Mathlib.Omega.{arith}
 use borrow.Author.Needs.{needs}
@@ -10,6 +9,7 @@ use lib.ListN.{length, set}
 use Rattle.laws.specs.Loops.{each}
 use Rattle.pictures.specs.Storing.{stored}
 use Rattle.pictures.specs.Defaults.{leaf, leafRow, leaves, tiled, tiledEnd}
+use Rattle.pictures.proofs.Places.{row-place, first-place, last-place}
 use Rattle.pictures.proofs.Storing.{stored-long, pieces-none, pieces-more, pieces-end, pieces-length}
 
 -- four numbers, one place after the other
@@ -48,15 +48,5 @@ pub row-more : (l : List ℕ) (p at across r : ℕ) {q q′ : List ℕ} → at �
 row-more l p at across r {q} h e g =
     pieces-more (λ k. leafRow (16 * k) across) (4 * across) l p r (λ k b. row-length (16 * k) across) e
     (g ∙ ap (λ (i : ℕ). stored q i (leafRow (16 * r) across)) h)
-
--- its place
-pub row-place : (p at w r : ℕ) → at ≡ p + w * r → at + w ≡ p + w * (r + 1)
-row-place p at w r h = omega (arith, mul-suc w r, ap (λ (k : ℕ). w * k) (add-one r))
-
-pub first-place : (p w : ℕ) → p ≡ p + w * 0
-first-place p w = omega (arith, mul-zero w)
-
-pub last-place : (p at w r n : ℕ) → at ≡ p + w * r → r ≤ n → n ≤ r → at ≡ p + w * n
-last-place p at w r n h a b = h ∙ ap (λ (k : ℕ). p + w * k) (le-antisymm a b)
 
 pub ruleset tiling = (needs, stored-long, pieces-none, leaf-more, row-more, row-place, first-place, last-place, pieces-end)

@@ -1,6 +1,7 @@
 -- The laws of this crate's proofs.
 pub mod Fronts
 pub mod Storing
+pub mod Places
 pub mod Steps
 pub mod Leaves
 pub mod Repeats
@@ -8,5 +9,5 @@ pub mod Completing
 pub mod Copies
 pub mod Parts
 pub mod Packing
-pub mod Texts
 pub mod Reading
+pub mod Texts

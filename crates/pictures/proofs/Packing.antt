@@ -15,11 +15,6 @@ use Rattle.pictures.specs.Shapes.{Fit}
 use Rattle.pictures.specs.Storing.{stored}
 use Rattle.pictures.specs.Rows.{bareRow, packed}
 use Rattle.pictures.proofs.Storing.{stored-rest, pieces-length, pieces-none, pieces-more, pieces-end}
-use Rattle.pictures.proofs.Leaves.{row-place}
-
--- the place of the next row
-pub next-row : (at w r : ℕ) → at ≡ w * r → at + w ≡ w * (r + 1)
-next-row at w r h = omega (arith, row-place 0 at w r (omega arith))
 
 module _ (s : Shape) (l : List ℕ) where
   -- the plane holds row k

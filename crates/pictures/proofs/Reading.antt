@@ -3,11 +3,10 @@ use mathlib.Core.Path.{_≡_, refl, sym, ap, _∙_}
 use mathlib.Core.Bool.{Bool, true, false, not}
 use mathlib.Core.List.{List, _∷_, [], _++_}
 use Prim.Native.Nat.{ℕ, _+_, _-_, _*_, _≤_, _<_, min}
-use native.Mathlib.Nat.{le-antisymm}
 use native.Mathlib.Decide.{decLt}
 use native.Mathlib.Omega.{arith}
 use borrow.Author.Needs.{needs}
-use borrow.Author.Tests.{le-ltb, not-false}
+use borrow.Author.Tests.{le-ltb, leb-true, not-false}
 use lib.Dec.{leb, ltb, eqb}
 use lib.ListN.{length, take, drop}
 use lib.Seq.{drop-at, length-take-le}
@@ -38,6 +37,10 @@ placed : (wide : Bool) (s : Shape) (bytes plane : List ℕ) (at : ℕ) (t : Bool
     → q ≡ rowPut wide s bytes at plane → q ≡ stored plane at (paddedRow wide s bytes)
 unfolding rowPut
 placed wide s bytes plane at t e h g = g ∙ sym (pick-yes (leb (at + s .stride) (length plane)) _ _ _ (sym h ∙ e) refl)
+
+-- there was room for it
+pub room-told : (t : Bool) (a n m : ℕ) → t ≡ leb a n → not t ≡ false → n ≡ m → a ≤ m
+room-told t a n m e h l = rw l at (leb-true a n (sym e ∙ not-false t h))
 
 -- ---- the plane so far
 
@@ -91,12 +94,6 @@ module _ (wide : Bool) (s : Shape) (before : List ℕ) where
       again : ¬ (r < s .height) → next ≡ f .bytes (min r (s .height - 1))
       again b = x .same (le-ltb r (s .height) (omega arith)) .1 ∙ f .last (omega arith) ∙ ap (f .bytes) (end b)
 
-  pub so-far-end : (r : ℕ) (plane buffer : List ℕ) → SoFar plane buffer r → r ≤ s .rows → s .rows ≤ r → FilePlane wide s before plane
-  so-far-end r plane buffer f a b = record { bytes = f .bytes; plane = pieces-end (fileRow wide s (f .bytes)) 0 before 0 r (s .rows) (f .rows) a b }
-
-pub ruleset reading-rows = (needs, so-far-none, so-far-more, so-far-end)
-
--- ---- rows written: one more, and all of them
-
-pub rows-written : (width height r at n : ℕ) → at ≡ width * r → r ≤ height → height ≤ r → at ≤ n → width * height ≤ n
-rows-written width height r at n e a b h = omega (arith, e, ap (λ (k : ℕ). width * k) (le-antisymm a b))
+  pub so-far-end : (r : ℕ) (plane buffer : List ℕ) → SoFar plane buffer r → r ≤ s .rows → s .rows ≤ r → s .stride * s .rows ≤ length before → FilePlane wide s before plane
+  so-far-end r plane buffer f a b w =
+      record { bytes = f .bytes; whole = w; plane = pieces-end (fileRow wide s (f .bytes)) 0 before 0 r (s .rows) (f .rows) a b }

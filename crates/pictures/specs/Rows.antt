@@ -2,7 +2,7 @@
 use mathlib.Core.Path.{_≡_}
 use mathlib.Core.Bool.{Bool, true, false}
 use mathlib.Core.List.{List, [], _∷_}
-use Prim.Native.Nat.{ℕ, _+_, _-_, _*_, min}
+use Prim.Native.Nat.{ℕ, _+_, _-_, _*_, _≤_, min}
 use lib.Dec.{leb}
 use lib.ListN.{length, take, drop}
 use Rattle.laws.specs.Choose.{pick}
@@ -32,9 +32,10 @@ pub record NextRow (more : Bool) (n : ℕ) (before after : List ℕ) (r : Bool) 
 unfoldable pub fileRow : Bool → Shape → (ℕ → List ℕ) → ℕ → List ℕ
 fileRow wide s bytes r = paddedRow wide s (bytes (min r (s .height - 1)))
 
--- the plane's rows are the padded rows of a file, whose bytes are no part of the logic
+-- the plane has room for its rows, and they are the padded rows of a file, whose bytes are no part of the logic
 pub record FilePlane (wide : Bool) (s : Shape) (before after : List ℕ) : Type 0 where
   pub bytes : ℕ → List ℕ
+  pub whole : s .stride * s .rows ≤ length before
   pub plane : after ≡ stored before 0 (each (s .rows) (fileRow wide s bytes))
 
 -- row r of a plane without its padding; nothing where the plane ends before

@@ -28,7 +28,7 @@ element-copy-out-result : tie.Need-element-copy-out-result
 element-copy-out-result c = search needs
 
 returns-2 : tie.Need-returns-2
-returns-2 c = c .before .before .before .pre .1 _ (omega arith) ∙ stays _ (c .before .if2 .taken)
+returns-2 c = c .before .before .before .pre .1 _ (omega arith) ∙ stays _ (search needs)
 
 sub-result-2 : tie.Need-sub-result-2
 sub-result-2 c = search needs

@@ -7,7 +7,8 @@ use lib.ListN.{length}
 use Rattle.laws.specs.Loops.{each}
 use Rattle.pictures.specs.Storing.{stored}
 use Rattle.pictures.specs.Rows.{bareRow}
-use Rattle.pictures.proofs.Packing.{Holds, at-row, next-row, pack-more, packing}
+use Rattle.pictures.proofs.Places.{next-row}
+use Rattle.pictures.proofs.Packing.{Holds, at-row, pack-more, packing}
 use Rattle.pictures.proofs.planes.pack.Statement.{statement}
 use Rattle.pictures.proofs.planes.pack.Tie as tie
 
@@ -46,15 +47,16 @@ loop-less c = search packing
 
 loop-again : tie.Need-loop-again Inv-loop μ-loop
 loop-again c =
-    let h : Holds (c .before .before .before .before .before .before .before .before .before .before .before .before .args .s) (c .before .before .before .before .before .before .before .before .before .before .before .before .args .plane .now) (c .before .before .before .before .before .before .before .before .before .before .loop .r) = at-row (c .before .before .before .before .before .before .before .before .before .before .before .before .args .s) (c .before .before .before .before .before .before .before .before .before .before .before .before .args .plane .now) _ _ _ (c .before .before .before .before .before .before .if2 .left) (c .before .before .before .before .before .before .before .before .before .before .loop .inv .3) (c .before .before .before .before .before .before .before .before .before .before .loop .inv .4) in (
+    let i = c .before .before .before .before .before .before .before .before .before .before .loop .inv in
+    let h : Holds (c .before .before .before .before .before .before .before .before .before .before .before .before .args .s) (c .before .before .before .before .before .before .before .before .before .before .before .before .args .plane .now) (c .before .before .before .before .before .before .before .before .before .before .loop .r) = at-row (c .before .before .before .before .before .before .before .before .before .before .before .before .args .s) (c .before .before .before .before .before .before .before .before .before .before .before .before .args .plane .now) _ _ _ (c .before .before .before .before .before .before .if2 .left) (i .3) (i .4) in (
       search needs,
       search needs,
       search needs,
       search needs,
-      next-row _ _ _ (c .before .before .before .before .before .before .before .before .before .before .loop .inv .4),
-      next-row _ _ _ (c .before .before .before .before .before .before .before .before .before .before .loop .inv .5),
-      below-more _ _ (c .before .before .before .before .before .before .before .before .before .before .loop .inv .6) h,
-      pack-more _ _ _ _ _ (c .before .before .before .before .before .before .before .before .before .before .before .before .pre) (c .before .before .before .before .before .before .before .before .before .before .loop .inv .4) (c .before .before .before .before .before .before .before .before .before .before .loop .inv .5) h (c .before .before .before .before .before .before .before .before .before .before .loop .inv .6) (c .before .before .before .before .before .before .before .before .before .before .loop .inv .7) (c .before .before .before .before .move-row .ensures),
+      next-row _ _ _ (i .4),
+      next-row _ _ _ (i .5),
+      below-more _ _ (i .6) h,
+      pack-more _ _ _ _ _ (c .before .before .before .before .before .before .before .before .before .before .before .before .pre) (i .4) (i .5) h (i .6) (i .7) (c .before .before .before .before .move-row .ensures),
     )
 
 same-length-2 : tie.Need-same-length-2 Inv-loop μ-loop

@@ -4,13 +4,13 @@ use mathlib.Core.Path.{_≡_}
 use Prim.Native.Nat.{_-_, _*_, _≤_}
 use lib.ListN.{length}
 use Rattle.laws.specs.Choose.{true-not-false}
-use Rattle.pictures.proofs.Packing.{next-row}
-use Rattle.pictures.proofs.Reading.{SoFar, so-far-none, so-far-more, so-far-end}
+use Rattle.pictures.proofs.Places.{next-row, all-rows}
+use Rattle.pictures.proofs.Reading.{SoFar, room-told, so-far-none, so-far-more, so-far-end}
 use Rattle.pictures.proofs.planes.read_plane.Statement.{statement}
 use Rattle.pictures.proofs.planes.read_plane.Tie as tie
 
 abbrev Inv-loop : tie.InvT-loop
-Inv-loop fd plane₀ s wide bytes₀ n at₀ r₀ plane bytes at r = (length bytes ≡ 8192) × (at ≤ 4096 * r) × (r ≤ s .rows) × (length plane ≡ length plane₀) × (at ≡ s .stride * r) × SoFar wide s plane₀ plane bytes r
+Inv-loop fd plane₀ s wide bytes₀ n at₀ r₀ plane bytes at r = (length bytes ≡ 8192) × (at ≤ 4096 * r) × (r ≤ s .rows) × (length plane ≡ length plane₀) × (at ≡ s .stride * r) × (at ≤ length plane₀) × SoFar wide s plane₀ plane bytes r
 
 abbrev μ-loop : tie.MeasureT-loop
 μ-loop fd plane₀ s wide bytes₀ n at₀ r₀ plane bytes at r = s .rows - r
@@ -55,20 +55,26 @@ loop-less : tie.Need-loop-less Inv-loop μ-loop
 loop-less c = search needs
 
 loop-again : tie.Need-loop-again Inv-loop μ-loop
-loop-again c = (
-  search needs,
-  search needs,
-  search needs,
-  search needs,
-  next-row _ _ _ (c .before .before .before .before .before .before .before .before .before .before .before .before .before .before .loop .inv .4),
-  so-far-more _ _ _ _ _ _ _ _ _ _ _ (c .before .before .before .before .before .before .before .before .before .before .before .before .before .before .loop .inv .4) (c .before .before .before .before .before .before .before .before .before .before .before .before .before .before .loop .inv .5) (c .before .before .before .before .before .before .before .before .before .read-row .ensures) (c .before .before .before .before .put-row .ensures .0) (c .before .if3 .left) (c .before .before .before .before .put-row .ensures .1),
-)
+loop-again c =
+    let i = c .before .before .before .before .before .before .before .before .before .before .before .before .before .before .loop .inv in
+    let put = c .before .before .before .before .put-row .ensures in
+    let row = c .before .before .before .before .before .before .before .before .before .read-row .ensures in (
+      search needs,
+      search needs,
+      search needs,
+      search needs,
+      search (needs, next-row),
+      room-told _ _ _ _ (put .0) (c .before .if3 .left) (i .3),
+      so-far-more _ _ _ _ _ _ _ _ _ _ _ (i .4) (i .6) row (put .0) (c .before .if3 .left) (put .1),
+    )
 
 same-length-3 : tie.Need-same-length-3 Inv-loop μ-loop
 same-length-3 c = search needs
 
 returns-3 : tie.Need-returns-3 Inv-loop μ-loop
-returns-3 c = λ e. so-far-end _ _ _ _ _ _ (c .before .before .loop .inv .5) (c .before .before .loop .inv .2) (c .if1 .left)
+returns-3 c =
+    let i = c .before .before .loop .inv in
+    λ e. so-far-end _ _ _ _ _ _ (i .6) (i .2) (c .if1 .left) (all-rows _ _ _ _ _ (i .4) (i .2) (c .if1 .left) (i .5))
 
 pub read-plane-spec : {M : Type 1} → statement M
 read-plane-spec =

@@ -4,8 +4,7 @@ use mathlib.Core.Path.{_≡_}
 use Prim.Native.Nat.{_-_, _*_, _≤_}
 use lib.ListN.{length}
 use Rattle.laws.specs.Choose.{true-not-false}
-use Rattle.pictures.proofs.Packing.{next-row}
-use Rattle.pictures.proofs.Reading.{rows-written}
+use Rattle.pictures.proofs.Places.{next-row, all-rows}
 use Rattle.pictures.proofs.planes.write_plane.Statement.{statement}
 use Rattle.pictures.proofs.planes.write_plane.Tie as tie
 
@@ -55,10 +54,12 @@ loop-less : tie.Need-loop-less Inv-loop μ-loop
 loop-less c = search needs
 
 loop-again : tie.Need-loop-again Inv-loop μ-loop
-loop-again c = (search needs, search needs, search needs, search needs, next-row _ _ _ (c .before .before .before .before .before .before .before .before .before .loop .inv .4))
+loop-again c = (search needs, search needs, search needs, search needs, search (needs, next-row))
 
 returns-3 : tie.Need-returns-3 Inv-loop μ-loop
-returns-3 c = λ e. rows-written _ _ _ _ _ (c .before .before .loop .inv .4) (c .before .before .loop .inv .2) (c .if1 .left) (c .before .before .loop .inv .3)
+returns-3 c =
+    let i = c .before .before .loop .inv in
+    λ e. all-rows _ _ _ _ _ (i .4) (i .2) (c .if1 .left) (i .3)
 
 pub write-plane-spec : {M : Type 1} → statement M
 write-plane-spec =
