@@ -3,4 +3,5 @@ pub mod Numbered
 pub mod Listing
 pub mod Placing
 pub mod Zeroed
+pub mod Refusing
 pub mod Gating

@@ -3,4 +3,5 @@ pub mod Numbers
 pub mod Lists
 pub mod Places
 pub mod Deblocked
+pub mod Framed
 pub mod Offsets

@@ -12,5 +12,8 @@ pub mod places;
 // Deblocking, over grids of its own.
 pub mod deblocking;
 
+// The same by the settings' own lists, and where a frame was refused.
+pub mod framed;
+
 // CCSO over one plane, and over all three.
 pub mod gated;
