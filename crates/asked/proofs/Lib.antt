@@ -2,6 +2,4 @@
 pub mod Numbered
 pub mod Listing
 pub mod Placing
-pub mod Zeroed
-pub mod Refusing
 pub mod Gating

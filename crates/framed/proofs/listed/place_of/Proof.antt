@@ -1,8 +1,8 @@
 -- `place_of` goes by the kind of a refusal. Assumes nothing.
-use Rattle.asked.proofs.Refusing.{refusing}
+use Rattle.framed.proofs.Refusing.{refusing}
 use borrow.Author.Needs.{needs}
-use Rattle.asked.proofs.framed.place_of.Statement.{statement}
-use Rattle.asked.proofs.framed.place_of.Tie as tie
+use Rattle.framed.proofs.listed.place_of.Statement.{statement}
+use Rattle.framed.proofs.listed.place_of.Tie as tie
 
 enum-known-r : tie.Need-enum-known-r
 enum-known-r c = search needs

@@ -11,12 +11,12 @@ use Rattle.rules.specs.declared.refusals.Refusal.{Refusal}
 use Rattle.rules.specs.declared.refusals.Refusal.the-variants.{Depth, Size, Length, Steps, Setting, Cell, Room, Sample, Leaf}
 use Rattle.rules.specs.Refusals.{numberOf}
 use Rattle.rules.specs.Frame.{Planes, Given, given}
 use Rattle.asked.specs.declared.places.Place.{Place}
 use Rattle.asked.specs.declared.lists.Lists.{Lists}
 use Rattle.asked.specs.Numbers.{lumaAlone}
 use Rattle.asked.specs.Lists.{listsAsked, stepsAsked}
 use Rattle.asked.specs.Places.{placeIn, samplePlace, leavesPlace}
-use Rattle.asked.specs.Deblocked.{deblocked, roomPlace}
+use Rattle.framed.specs.Deblocked.{deblocked, roomPlace}
 
 -- how long the short numbers, the steps and the places are at least
 pub record Listed (shorts steps places : ℕ) : Type 0 where

@@ -1,8 +1,8 @@
 -- `deblock_asked` deblocks by the lists that the settings have. Assumes nothing.
-use Rattle.asked.proofs.Refusing.{settled}
+use Rattle.framed.proofs.Refusing.{settled}
 use borrow.Author.Needs.{needs}
-use Rattle.asked.proofs.framed.deblock_asked.Statement.{statement}
-use Rattle.asked.proofs.framed.deblock_asked.Tie as tie
+use Rattle.framed.proofs.listed.deblock_asked.Statement.{statement}
+use Rattle.framed.proofs.listed.deblock_asked.Tie as tie
 
 lists-of-requires : tie.Need-lists-of-requires
 lists-of-requires c κs = search needs

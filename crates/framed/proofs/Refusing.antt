@@ -11,12 +11,12 @@ use Rattle.rules.specs.declared.refusals.Refusal.{Refusal}
 use Rattle.rules.specs.declared.refusals.Refusal.the-variants.{Depth, Size, Length, Steps, Setting, Cell, Room, Sample, Leaf}
 use Rattle.rules.specs.declared.refusals.Answer.{Answer}
 use Rattle.rules.specs.Frame.{Planes, Given, planes, given}
 use Rattle.asked.specs.declared.places.Place.{Place}
 use Rattle.asked.specs.declared.lists.Lists.{Lists}
 use Rattle.asked.specs.Lists.{listsAsked, stepsAsked}
 use Rattle.asked.specs.Places.{placeIn, samplePlace, leavesPlace}
-use Rattle.asked.specs.Deblocked.{Deblocked, RoomPlace}
-use Rattle.asked.specs.Framed.{givenBy, givenAsked, refusalPlace, triedPlanes, RefusedAt}
+use Rattle.framed.specs.Deblocked.{Deblocked, RoomPlace}
+use Rattle.framed.specs.Framed.{givenBy, givenAsked, refusalPlace, triedPlanes, RefusedAt}
 
 module _ (f : Frame) (n : Given) (p : Planes) (r : Refusal) {x : Place} where
   pub at-sample : {k : ℕ} → r ≡ Sample k → x ≡ samplePlace f (p .y) (p .u) k → RefusedAt f n p r x p
