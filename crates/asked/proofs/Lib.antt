@@ -2,5 +2,4 @@
 pub mod Numbered
 pub mod Listing
 pub mod Placing
-pub mod Zeroed
 pub mod Gating

@@ -1,6 +1,5 @@
--- What `specs/` holds: the settings' numbers and lists by their places, places of refusals, and both filters over the planes.
+-- What `specs/` holds: the settings' numbers and lists by their places, places of refusals, and CCSO over the planes.
 pub mod Numbers
 pub mod Lists
 pub mod Places
-pub mod Deblocked
 pub mod Offsets

@@ -1,4 +1,4 @@
-// What the settings of a picture ask for: the filters' own settings, both filters over the planes, and where a refusal stands.
+// What the settings of a picture ask for: the filters' own settings, CCSO over the planes, and where a refusal stands.
 
 // The frame, and the CCSO settings of a plane.
 pub mod told;
@@ -8,9 +8,6 @@ pub mod lists;
 
 // Where a refusal stands, by plane or list, row and column.
 pub mod places;
-
-// Deblocking, over grids of its own.
-pub mod deblocking;
 
 // CCSO over one plane, and over all three.
 pub mod gated;

@@ -1,8 +1,8 @@
 -- `deblock` hands on what the frame's entry gives over lists that are all zero. Assumes nothing.
-use Rattle.asked.proofs.Zeroed.{by-zeros}
+use Rattle.framed.proofs.Zeroed.{by-zeros}
 use borrow.Author.Needs.{needs}
-use Rattle.asked.proofs.deblocking.deblock.Statement.{statement}
-use Rattle.asked.proofs.deblocking.deblock.Tie as tie
+use Rattle.framed.proofs.deblocking.deblock.Statement.{statement}
+use Rattle.framed.proofs.deblocking.deblock.Tie as tie
 
 marks-requires : tie.Need-marks-requires
 marks-requires c κs = search needs

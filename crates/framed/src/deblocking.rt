@@ -1,10 +1,10 @@
 // A frame deblocked over grids of its own, and where an edge of it lacks room.
 ghost use mathlib.Core.Path.{_≡_};
 ghost use Rattle.rules.specs.Frame.{planes, given};
-ghost use Rattle.asked.specs.Deblocked.{zeros, Deblocked, lacksRoom, RoomPlace};
-use crate::places::Place;
-use crate::places::at;
-use crate::told::luma_of;
+ghost use Rattle.framed.specs.Deblocked.{zeros, Deblocked, lacksRoom, RoomPlace};
+use asked::places::Place;
+use asked::places::at;
+use asked::told::luma_of;
 use frame::frame::deblock_frame;
 use rules::refusals::Answer;
 use rules::refusals::number;

@@ -1,8 +1,8 @@
 -- `marks` is all zero. Assumes nothing.
 use mathlib.Core.Path.{refl}
-use Rattle.asked.specs.Deblocked.{zeros}
-use Rattle.asked.proofs.deblocking.marks.Statement.{statement}
-use Rattle.asked.proofs.deblocking.marks.Tie as tie
+use Rattle.framed.specs.Deblocked.{zeros}
+use Rattle.framed.proofs.deblocking.marks.Statement.{statement}
+use Rattle.framed.proofs.deblocking.marks.Tie as tie
 
 returns : tie.Need-returns
 unfolding zeros

@@ -1,8 +1,8 @@
 -- `indices` is all zero. Assumes nothing.
 use mathlib.Core.Path.{refl}
-use Rattle.asked.specs.Deblocked.{zeros}
-use Rattle.asked.proofs.deblocking.indices.Statement.{statement}
-use Rattle.asked.proofs.deblocking.indices.Tie as tie
+use Rattle.framed.specs.Deblocked.{zeros}
+use Rattle.framed.proofs.deblocking.indices.Statement.{statement}
+use Rattle.framed.proofs.deblocking.indices.Tie as tie
 
 returns : tie.Need-returns
 unfolding zeros

@@ -13,10 +13,10 @@ use Rattle.rules.specs.declared.refusals.Answer.the-variants.{Accepted, Refused
 use Rattle.rules.specs.Refusals.{numberOf}
 use Rattle.rules.specs.Plane.{grid}
 use Rattle.rules.specs.Frame.{Planes, Grids, Given, Done, grids, lent, done, frameOf}
 use Rattle.asked.specs.declared.places.Place.{Place}
 use Rattle.asked.specs.Numbers.{lumaAlone}
 use Rattle.asked.specs.Places.{placeIn}
-use Rattle.asked.specs.Deblocked.{zeros, deblocked, Deblocked, lacksRoom, roomPlace, RoomPlace}
+use Rattle.framed.specs.Deblocked.{zeros, deblocked, Deblocked, lacksRoom, roomPlace, RoomPlace}
 
 module _ (f : Frame) (n : Given) (p : Planes) {r : Answer} {left : Planes} {g : Grids} {lv lh lw lt lq cv ch cw ct cq : List ℕ} where
   pub by-zeros : done r (lent left g) ≡ frameOf f n (lent p (grids (grid lv lh lw lt lq) (grid cv ch cw ct cq)))

@@ -1,8 +1,8 @@
 -- `lacks_room` tests the number of a refusal. Assumes nothing.
-use Rattle.asked.proofs.Zeroed.{rooms}
+use Rattle.framed.proofs.Zeroed.{rooms}
 use borrow.Author.Needs.{needs}
-use Rattle.asked.proofs.deblocking.lacks_room.Statement.{statement}
-use Rattle.asked.proofs.deblocking.lacks_room.Tie as tie
+use Rattle.framed.proofs.deblocking.lacks_room.Statement.{statement}
+use Rattle.framed.proofs.deblocking.lacks_room.Tie as tie
 
 enum-told : tie.Need-enum-told
 enum-told c = search needs

@@ -1,8 +1,8 @@
 -- `room_place` deblocks luma alone, and goes by its answer. Assumes nothing.
 use borrow.Author.Needs.{needs}
-use Rattle.asked.proofs.Zeroed.{rooms}
-use Rattle.asked.proofs.deblocking.room_place.Statement.{statement}
-use Rattle.asked.proofs.deblocking.room_place.Tie as tie
+use Rattle.framed.proofs.Zeroed.{rooms}
+use Rattle.framed.proofs.deblocking.room_place.Statement.{statement}
+use Rattle.framed.proofs.deblocking.room_place.Tie as tie
 
 luma-of-requires : tie.Need-luma-of-requires
 luma-of-requires c κs = search needs

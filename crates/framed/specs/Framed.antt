@@ -1,0 +1,60 @@
+-- The frame by the settings' own lists, and where it was refused.
+-- Assumes nothing.
+use mathlib.Core.Path.{_≡_}
+use mathlib.Core.List.{List}
+use Prim.Native.Nat.{ℕ, _-_, _≤_}
+use lib.Dec.{eqb}
+use lib.ListN.{getD, take, drop}
+use Rattle.laws.specs.Choose.{pick}
+use Rattle.rules.specs.declared.settings.Frame.{Frame}
+use Rattle.rules.specs.declared.refusals.Refusal.{Refusal}
+use Rattle.rules.specs.declared.refusals.Refusal.the-variants.{Depth, Size, Length, Steps, Setting, Cell, Room, Sample, Leaf}
+use Rattle.rules.specs.Refusals.{numberOf}
+use Rattle.rules.specs.Frame.{Planes, Given, given}
+use Rattle.asked.specs.declared.places.Place.{Place}
+use Rattle.asked.specs.declared.lists.Lists.{Lists}
+use Rattle.asked.specs.Numbers.{lumaAlone}
+use Rattle.asked.specs.Lists.{listsAsked, stepsAsked}
+use Rattle.asked.specs.Places.{placeIn, samplePlace, leavesPlace}
+use Rattle.framed.specs.Deblocked.{deblocked, roomPlace}
+
+-- how long the short numbers, the steps and the places are at least
+pub record Listed (shorts steps places : ℕ) : Type 0 where
+  pub shorts-long : 12587008 ≤ shorts
+  pub steps-long : 352 ≤ steps
+  pub places-long : 7 ≤ places
+
+-- the numbers from a place to another
+abbrev pub between : List ℕ → ℕ → ℕ → List ℕ
+between xs from end = take (end - from) (drop from xs)
+
+-- the lists of a frame among the short numbers, and n steps
+abbrev pub givenBy : Lists → ℕ → List ℕ → List ℕ → Given
+givenBy l n shorts steps =
+    given (between steps 0 n) (between shorts 0 (l .entries)) (between shorts (l .leaves) (l .leavesend))
+    (between shorts (l .chroma) (l .chromaend))
+    (between shorts (l .skips) (l .skipsend))
+
+-- kind 3 of the settings is the steps
+unfoldable pub givenAsked : List ℕ → List ℕ → List ℕ → Given
+givenAsked shorts steps places = givenBy (listsAsked places) (stepsAsked (getD places 3 0)) shorts steps
+
+-- a sample, a cell, a leaf or a step; any other refusal is of the whole frame
+unfoldable pub refusalPlace : Frame → Given → Planes → Refusal → Place
+refusalPlace f n p Depth = placeIn 8 0 0
+refusalPlace f n p Size = placeIn 8 0 0
+refusalPlace f n p Length = placeIn 8 0 0
+refusalPlace f n p (Steps k) = placeIn 7 k 0
+refusalPlace f n p Setting = placeIn 8 0 0
+refusalPlace f n p (Cell k) = placeIn 8 0 0
+refusalPlace f n p (Room k) = roomPlace f n p k
+refusalPlace f n p (Sample k) = samplePlace f (p .y) (p .u) k
+refusalPlace f n p (Leaf k) = leavesPlace (n .leaves) (n .chromaLeaves) (n .skips) k
+
+-- luma alone was deblocked to see whether it has room, the other planes are as lent
+unfoldable pub triedPlanes : Frame → Given → Planes → Refusal → Planes
+triedPlanes f n p r = pick (eqb (numberOf r) 7) (deblocked (lumaAlone f) n p .lists .planes) p
+
+pub record RefusedAt (f : Frame) (n : Given) (lent : Planes) (r : Refusal) (x : Place) (left : Planes) : Type 0 where
+  pub place : x ≡ refusalPlace f n lent r
+  pub samples : left ≡ triedPlanes f n lent r

@@ -1,0 +1,7 @@
+// A frame deblocked by what the settings of a picture ask for, and where it was refused.
+
+// Over grids of its own.
+pub mod deblocking;
+
+// By the settings' own lists.
+pub mod listed;
