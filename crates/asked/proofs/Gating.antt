@@ -1,24 +1,22 @@
 -- CCSO of a plane, and of three, by what the callees gave. Assumes nothing.
-use mathlib.Core.Path.{_≡_, refl, sym, ap, _∙_}
-use mathlib.Core.Bool.{Bool, true, false}
+use mathlib.Core.Path.{_≡_, refl}
+use mathlib.Core.Bool.{true, false}
 use mathlib.Core.List.{List}
 use Prim.Native.Nat.{ℕ, _+_, _-_, _*_}
 use native.Mathlib.Omega.{arith}
 use borrow.Author.Needs.{needs}
 use lib.ListN.{take, drop}
 use lib.IntN.{ℤ}
-use Rattle.laws.specs.Choose.{pick, pick-yes, pick-no, told-yes-not, told-no-not}
+use Rattle.laws.specs.Choose.{pick-yes, pick-no, told-yes-not, told-no-not}
 use Rattle.rules.specs.declared.settings.Frame.{Frame}
 use Rattle.rules.specs.declared.settings.Ccso.{Ccso}
 use Rattle.rules.specs.declared.refusals.Refusal.{Refusal}
 use Rattle.rules.specs.declared.refusals.Answer.{Answer}
 use Rattle.rules.specs.declared.refusals.Answer.the-variants.{Accepted, Refused}
 use Rattle.rules.specs.Refusals.{orElse, settle}
-use Rattle.rules.specs.Ccso.{ccsoCheck, ccsoAfter}
-use Rattle.rules.specs.Frame.{Planes, planes}
+use Rattle.rules.specs.Frame.{planes}
 use Rattle.scan.proofs.Checks.{only-yes, only-no}
 use Rattle.ccso.specs.Stated.{Stated}
-use Rattle.asked.specs.declared.gated.Applied.{Applied}
 use Rattle.asked.specs.Numbers.{ccsoAsked}
 use Rattle.asked.specs.Offsets.{Asked, wanted, flagsOf, offsetsOf, planeAnswer, planeAfter, PlaneOffset, planesAnswer, refusedPlane, planesAfter, PlanesOffset}
 

@@ -3,14 +3,13 @@ use mathlib.Core.Path.{_≡_, refl}
 use mathlib.Core.List.{List}
 use Prim.Native.Nat.{ℕ}
 use borrow.Author.Needs.{needs}
-use lib.Dec.{eqb}
 use lib.ListN.{getD}
 use Rattle.laws.specs.Choose.{pick}
 use Rattle.rules.specs.declared.settings.Frame.{Frame}
 use Rattle.rules.specs.declared.refusals.Refusal.{Refusal}
 use Rattle.rules.specs.declared.refusals.Refusal.the-variants.{Depth, Size, Length, Steps, Setting, Cell, Room, Sample, Leaf}
 use Rattle.rules.specs.declared.refusals.Answer.{Answer}
-use Rattle.rules.specs.Frame.{Planes, Given, planes, given}
+use Rattle.rules.specs.Frame.{Planes, Given}
 use Rattle.asked.specs.declared.places.Place.{Place}
 use Rattle.asked.specs.declared.lists.Lists.{Lists}
 use Rattle.asked.specs.Lists.{listsAsked, stepsAsked}

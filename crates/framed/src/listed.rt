@@ -1,6 +1,4 @@
 // The frame by the settings' own lists: deblocked, and where it was refused.
-ghost use mathlib.Core.Path.{_≡_};
-ghost use Prim.Native.Nat.{_≤_};
 ghost use lib.ListN.{length};
 ghost use Rattle.rules.specs.Frame.{planes, given};
 ghost use Rattle.framed.specs.Deblocked.{Deblocked};

@@ -1,7 +1,6 @@
 -- `at` divides where there are rows. Assumes nothing.
 use Rattle.laws.specs.Choose.{tests}
 use Rattle.asked.specs.Places.{placeIn}
-use borrow.Author.Needs.{needs}
 use Rattle.asked.proofs.places.at.Statement.{statement}
 use Rattle.asked.proofs.places.at.Tie as tie
 
