@@ -3,10 +3,14 @@
 use Prim.Native.Nat.{ℕ, zero, suc, _≤_}
 use mathlib.Core.Path.{_≡_}
 use mathlib.Core.List.{List}
-use lib.ListN.{length, take}
+use mathlib.Core.Bool.{true, false}
+use lib.Dec.{eqb}
+use lib.ListN.{length, take, getD}
+use Rattle.laws.specs.Choose.{pick}
 use Rattle.laws.specs.Loops.{filled}
 use Rattle.cases.specs.declared.number.Cursor.{Cursor}
 use Rattle.cases.specs.declared.typed.Unsigned.{Unsigned}
+use Rattle.cases.specs.declared.lists.Held.{Held}
 use Rattle.cases.specs.declared.lists.Listed.{Listed}
 use Rattle.cases.specs.declared.lists.Two.{Two}
 use Rattle.cases.specs.declared.lists.Steps.{Steps}
@@ -81,3 +85,16 @@ pub record SetsSteps (text : List ℕ) (c : Cursor) (before after : List ℕ) (r
   pub kept : length after ≡ length before
   pub steps : r ≡ stepsAt text c (length before)
   pub list : after ≡ listAt 4294967295 text c before
+
+-- ---- the next entries held against those of a list
+
+-- from entry i on, of which n are left: up to the first that differs
+unfoldable pub heldFrom : ℕ → List ℕ → List ℕ → ℕ → Cursor → ℕ → Held
+heldFrom most text list i c zero = record { same = true; place = i; rest = c }
+heldFrom most text list i c (suc n) =
+    pick (eqb (unsignedOf most (numberAt text c) .value) (getD list i 0))
+    (heldFrom most text list (suc i) (unsignedOf most (numberAt text c) .rest) n)
+    (record { same = false; place = i; rest = unsignedOf most (numberAt text c) .rest })
+
+unfoldable pub heldAt : ℕ → List ℕ → Cursor → List ℕ → Held
+heldAt most text c list = heldFrom most text list 0 c (length list)

@@ -4,7 +4,7 @@ ghost use Prim.Native.Nat.{_≤_};
 ghost use lib.ListN.{length};
 ghost use Rattle.cases.specs.Numbers.{numberAt};
 ghost use Rattle.cases.specs.Typed.{unsignedOf};
-ghost use Rattle.cases.specs.Lists.{Fills, Entries, Reads, ReadsTwo, SetsSteps, lengthAt};
+ghost use Rattle.cases.specs.Lists.{heldAt, Fills, Entries, Reads, ReadsTwo, SetsSteps, lengthAt};
 use crate::number::Cursor;
 use crate::number::ended;
 use crate::typed::read_signed;
@@ -206,7 +206,9 @@ pub fn read_i32s(text: &[u8], c: Cursor, list: &mut [i32]) -> Listed
 }
 
 // Holds the next entries against those of a list, up to the first that differs.
-pub fn hold_u8s(text: &[u8], c: Cursor, list: &[u8]) -> Held {
+pub fn hold_u8s(text: &[u8], c: Cursor, list: &[u8]) -> Held
+    ensures { λ r. ⌜ r ≡ heldAt 255 (now (text .entry)) c (now (list .entry)) ⌝ }
+{
     let mut at = c;
     let mut i = 0;
     while i < list.len() {
@@ -228,12 +230,16 @@ pub fn hold_u8s(text: &[u8], c: Cursor, list: &[u8]) -> Held {
     }
 }
 
-fn wide_u8(v: u8) -> usize {
+fn wide_u8(v: u8) -> usize
+    ensures { λ r. ⌜ r ≡ v ⌝ }
+{
     v as usize
 }
 
 // Holds the next entries against those of a list, up to the first that differs.
-pub fn hold_u16s(text: &[u8], c: Cursor, list: &[u16]) -> Held {
+pub fn hold_u16s(text: &[u8], c: Cursor, list: &[u16]) -> Held
+    ensures { λ r. ⌜ r ≡ heldAt 65535 (now (text .entry)) c (now (list .entry)) ⌝ }
+{
     let mut at = c;
     let mut i = 0;
     while i < list.len() {
@@ -255,6 +261,8 @@ pub fn hold_u16s(text: &[u8], c: Cursor, list: &[u16]) -> Held {
     }
 }
 
-fn wide_u16(v: u16) -> usize {
+fn wide_u16(v: u16) -> usize
+    ensures { λ r. ⌜ r ≡ v ⌝ }
+{
     v as usize
 }
