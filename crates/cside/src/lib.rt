@@ -1,11 +1,5 @@
 // What C and Rust call: document 01's two exported functions, and the entries.
 
-// Numbers in byte lists, low byte first.
-pub mod bytes;
-
-// The numbers that C is answered.
-pub mod answers;
-
 // Both thresholds of an edge.
 pub mod two_blocks;
 

@@ -1,10 +1,10 @@
 // One segment for C: the window as bytes, the width as the answer.
-use crate::answers::width;
-use crate::bytes;
-use entries::answers::minus;
+use byte_lists::window as lent;
+use numbers::answers::minus;
+use numbers::answers::width;
 use rules::depth::Depth;
+use rules::refusals::Refusal;
 use rules::refusals::Width;
-use rules::settings::Lone;
 use segment::filter_lone;
 ghost use mathlib.Core.Path.{_≡_};
 ghost use Rattle.rules.specs.CSide.{cSegment, cWindow};
@@ -21,27 +21,15 @@ pub extern "C" fn bihargesh_segment(
     ensures { λ r. ⌜ (r ≡ cSegment depth pair q side (now (window .entry))) × (now (window .exit) ≡ cWindow depth pair q side (now (window .entry))) ⌝ }
 {
     if !Depth::is(depth) {
-        return -1;
+        return minus(Refusal::Depth);
     }
     if window.len() != 144 {
-        return -3;
+        return minus(Refusal::Length);
     }
-    let mut l = bytes::samples(window);
-    let s = Lone {
-        columns: 18,
-        rows: 4,
-        stride: 18,
-        depth: depth,
-        q: q,
-        side: side,
-        pair: pair as usize,
-        dir: 0,
-        x: 9,
-        y: 0,
-    };
-    match filter_lone(&mut l, s) {
+    let mut l = lent::samples(window);
+    match filter_lone(&mut l, lent::edge(depth, pair, q, side)) {
         Width::Samples(w) => {
-            bytes::put_samples(window, &l);
+            lent::put_samples(window, &l);
             width(w)
         }
         Width::Refused(r) => minus(r),
