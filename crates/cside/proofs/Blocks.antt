@@ -22,7 +22,7 @@ use Rattle.rules.specs.Thresholds.{qThreshold, sideThreshold, thresholdsCheck, 
 use Rattle.rules.specs.CSide.{cAnswer, stepsIn, cThresholdsCheck, cThresholds}
 use Rattle.scan.proofs.Checks.{else-parts}
 use Rattle.thresholds.proofs.Unique.{q-range, side-range}
-use Rattle.numbers.proofs.Numbers.{held, held-minus, answer-refused, answer-accepted}
+use Rattle.answers.proofs.Numbers.{held, held-minus, answer-refused, answer-accepted}
 
 -- what an answer of both kinds says of the check behind it
 from-both : (a : Answer) (Q S : ℕ) {q s : ℕ} → Both q s ≡ answerThresholds a Q S → (Accepted ≡ a) × (q ≡ Q) × (s ≡ S)

@@ -26,7 +26,7 @@ use Rattle.choice.proofs.Lengths.{pair-facts}
 use Rattle.choice.proofs.Most.{pair-most}
 use Rattle.scan.proofs.Checks.{settle-refused, settle-accepted}
 use Rattle.segment.proofs.Accepted.{passed}
-use Rattle.numbers.proofs.Numbers.{held, held-minus, answer-refused, answer-accepted}
+use Rattle.answers.proofs.Numbers.{held, held-minus, answer-refused, answer-accepted}
 
 -- what an answer of either kind says of the check behind it
 from-samples : (a : Answer) (w : ℕ) {n : ℕ} → Samples n ≡ answerWidth a w → (Accepted ≡ a) × (n ≡ w)

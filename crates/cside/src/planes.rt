@@ -1,8 +1,8 @@
 // A plane for C: its answer as a number, with the place of a refusal.
-use numbers::answers::told;
+use answers::told;
 use entries::planes::deblock;
 ghost use Rattle.rules.specs.Plane.{grid, runPlane};
-ghost use Rattle.numbers.specs.Told.{Reported};
+ghost use Rattle.answers.specs.Told.{Reported};
 ghost use Rattle.numbers.specs.Settings.{planeOf};
 ghost use Rattle.entries.specs.Planes.{cPlaneCheck};
 

@@ -1,7 +1,7 @@
 // Thresholds for C: the step table as bytes, the answer as one number.
 use byte_lists::table;
-use numbers::answers::minus;
-use numbers::answers::packed;
+use answers::minus;
+use answers::packed;
 use rules::depth::Depth;
 use rules::refusals::Refusal;
 use rules::refusals::Thresholds;

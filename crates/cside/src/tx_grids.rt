@@ -1,8 +1,8 @@
 // A TU grid for C: its answer as a number, with the place of a refusal.
-use numbers::answers::told;
+use answers::told;
 use entries::tx_grids::build;
 ghost use Rattle.rules.specs.TuGrid.{marks, txGridCheck, txGridOf};
-ghost use Rattle.numbers.specs.Told.{listed, Reported};
+ghost use Rattle.answers.specs.Told.{listed, Reported};
 ghost use Rattle.numbers.specs.Settings.{tuGridOf};
 
 // 0, or minus the refusal number with its place in the first entry of `place`.

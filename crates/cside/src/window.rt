@@ -1,7 +1,7 @@
 // One segment for C: the window as bytes, the width as the answer.
 use byte_lists::window as lent;
-use numbers::answers::minus;
-use numbers::answers::width;
+use answers::minus;
+use answers::width;
 use rules::depth::Depth;
 use rules::refusals::Refusal;
 use rules::refusals::Width;

@@ -22,10 +22,10 @@ use Rattle.rules.specs.Ccso.{ccsoCheck, ccsoOf, ccsoAfter}
 use Rattle.scan.proofs.Checks.{stop, go-on, unless-bad, unless-good}
 use Rattle.plane.specs.Checked.{Stated as «PlaneStated»}
 use Rattle.ccso.specs.Stated.{Stated as «OffsetsStated»}
-use Rattle.numbers.specs.Told.{listed, Handed}
+use Rattle.answers.specs.Told.{listed, Handed}
 use Rattle.numbers.specs.Settings.{countAt, planeOf, tuGridOf, qindexGridOf, offsetsOf}
 use Rattle.entries.specs.Planes.{cPlaneCheck}
-use Rattle.numbers.proofs.Numbers.{handed-refused, handed-on, short, long-is, long}
+use Rattle.answers.proofs.Numbers.{handed-refused, handed-on, short, long-is, long}
 
 -- ---- a plane
 

@@ -9,7 +9,7 @@ use Rattle.rules.specs.declared.refusals.Answer.{Answer}
 use Rattle.rules.specs.Numbers.{depthOk}
 use Rattle.rules.specs.Refusals.{orElse, unless}
 use Rattle.rules.specs.Plane.{Grid, planeCheck}
-use Rattle.numbers.specs.Told.{listed}
+use Rattle.answers.specs.Told.{listed}
 use Rattle.numbers.specs.Settings.{countAt, planeOf}
 
 -- a chroma other than 0 and 1 is refused by 2, after 1 as in document 01's order

@@ -1,10 +1,10 @@
 // The gated CCSO offsets, by their settings as a list of numbers.
-use numbers::settings::offsets_of;
+use numbers::offsets_of;
 use ccso::apply::apply_edge_gated;
 use rules::refusals::Answer;
 use rules::refusals::Refusal;
 ghost use Rattle.rules.specs.Ccso.{ccsoCheck, ccsoOf};
-ghost use Rattle.numbers.specs.Told.{listed, Handed};
+ghost use Rattle.answers.specs.Told.{listed, Handed};
 ghost use Rattle.numbers.specs.Settings.{offsetsOf};
 
 // Offsets the target, or refuses and leaves it as lent.

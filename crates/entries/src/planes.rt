@@ -1,12 +1,12 @@
 // A plane, by its settings as a list of numbers.
-use numbers::settings::count;
-use numbers::settings::plane_of;
+use numbers::count;
+use numbers::plane_of;
 use plane::deblock_plane;
 use rules::depth::Depth;
 use rules::refusals::Answer;
 use rules::refusals::Refusal;
 ghost use Rattle.rules.specs.Plane.{grid, runPlane};
-ghost use Rattle.numbers.specs.Told.{Handed};
+ghost use Rattle.answers.specs.Told.{Handed};
 ghost use Rattle.numbers.specs.Settings.{planeOf};
 ghost use Rattle.entries.specs.Planes.{cPlaneCheck};
 

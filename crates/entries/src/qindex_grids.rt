@@ -1,10 +1,10 @@
 // A qindex grid, by its settings as a list of numbers.
-use numbers::settings::qindex_grid_of;
+use numbers::qindex_grid_of;
 use grid::qindex_grid::build_qindex_grid;
 use rules::refusals::Answer;
 use rules::refusals::Refusal;
 ghost use Rattle.rules.specs.QindexGrid.{qGridCheck, qGridOf};
-ghost use Rattle.numbers.specs.Told.{listed, Handed};
+ghost use Rattle.answers.specs.Told.{listed, Handed};
 ghost use Rattle.numbers.specs.Settings.{qindexGridOf};
 
 // Fills the list, or refuses and leaves it as lent.

@@ -1,10 +1,10 @@
 // A TU grid, by its settings as a list of numbers.
-use numbers::settings::tu_grid_of;
+use numbers::tu_grid_of;
 use grid::tx_grid::build_tx_grid;
 use rules::refusals::Answer;
 use rules::refusals::Refusal;
 ghost use Rattle.rules.specs.TuGrid.{marks, txGridCheck, txGridOf};
-ghost use Rattle.numbers.specs.Told.{listed, Handed};
+ghost use Rattle.answers.specs.Told.{listed, Handed};
 ghost use Rattle.numbers.specs.Settings.{tuGridOf};
 
 // Builds the four lists, or refuses and leaves them as lent.

@@ -19,8 +19,8 @@ use Rattle.rules.specs.Numbers.{depthOk}
 use Rattle.rules.specs.Frame.{Given, Lent, Done, done, orDone, frameOf}
 use Rattle.scan.proofs.Checks.{stop, go-on, unless-bad, unless-good}
 use Rattle.numbers.specs.Settings.{countAt}
-use Rattle.numbers.specs.Told.{listed, Told}
-use Rattle.numbers.proofs.Numbers.{long-is, told-by}
+use Rattle.answers.specs.Told.{listed, Told}
+use Rattle.answers.proofs.Numbers.{long-is, told-by}
 use Rattle.frame_entry.specs.Listed.{frameSettings, flagsOk, listCheck, cFrameOf, FrameTold}
 
 -- ---- both flags

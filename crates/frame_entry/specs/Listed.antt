@@ -14,7 +14,7 @@ use Rattle.rules.specs.Numbers.{depthOk}
 use Rattle.rules.specs.Refusals.{orElse, unless}
 use Rattle.rules.specs.Frame.{Given, Lent, Done, orDone, frameOf}
 use Rattle.numbers.specs.Settings.{countAt, numberAt}
-use Rattle.numbers.specs.Told.{listed, Told}
+use Rattle.answers.specs.Told.{listed, Told}
 
 -- has_chroma and chroma_deblock are 0 or 1
 unfoldable pub frameSettings : List ℤ → Frame

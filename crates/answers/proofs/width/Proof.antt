@@ -1,0 +1,17 @@
+-- `width` answers the width, which fits. Assumes nothing.
+use mathlib.Core.Path.{refl}
+use native.Mathlib.Omega.{arith}
+use lib.IntN.{pos}
+use Rattle.answers.proofs.Numbers.{held}
+use borrow.Author.Needs.{needs}
+use Rattle.answers.proofs.width.Statement.{statement}
+use Rattle.answers.proofs.width.Tie as tie
+
+cast-result : tie.Need-cast-result
+cast-result c = search needs
+
+returns : tie.Need-returns
+returns c = held (pos (c .args .w)) (c .args .w) refl (omega arith)
+
+pub width-spec : {M : Type 1} → statement M
+width-spec = tie.close (tie.spec cast-result returns)
