@@ -48,8 +48,8 @@ pub fn packed(q: u32, side: u32) -> i32
     (q * 65536 + side) as i32
 }
 
-// A width.
-pub fn width(w: usize) -> i32
+// A count of samples.
+pub fn count(w: usize) -> i32
     requires { ⌜ w ≤ 8 ⌝ }
     ensures { λ n. ⌜ n ≡ pos w ⌝ }
 {

@@ -3,8 +3,8 @@
 use crate::pair::cell_of;
 use crate::pair::is_edge;
 use crate::pair::pair_at;
-use choice::pairs::reach_after;
-use choice::pairs::reach_before;
+use lengths::pairs::reach_after;
+use lengths::pairs::reach_before;
 use rules::refusals::Found;
 use rules::settings::Plane;
 ghost use mathlib.Core.Path.{_≡_};

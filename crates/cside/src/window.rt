@@ -1,7 +1,7 @@
 // One segment for C: the window as bytes, the width as the answer.
 use byte_lists::window as lent;
 use answers::minus;
-use answers::width;
+use answers::count;
 use rules::depth::Depth;
 use rules::refusals::Refusal;
 use rules::refusals::Width;
@@ -30,7 +30,7 @@ pub extern "C" fn bihargesh_segment(
     match filter_lone(&mut l, lent::edge(depth, pair, q, side)) {
         Width::Samples(w) => {
             lent::put_samples(window, &l);
-            width(w)
+            count(w)
         }
         Width::Refused(r) => minus(r),
     }

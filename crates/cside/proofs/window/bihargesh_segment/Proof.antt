@@ -30,8 +30,8 @@ enum-known-w c = search needs
 put-samples-requires : tie.Need-put-samples-requires
 put-samples-requires c κs = search needs
 
-width-requires : tie.Need-width-requires
-width-requires c κs =
+count-requires : tie.Need-count-requires
+count-requires c κs =
     let way = c .before .before .before .before .before .before in
     let filtered = way .before .before .before in
     let read = filtered .before .before in
@@ -66,7 +66,7 @@ returns-3 c =
     (filtered .filter-lone .ensures .0)
     (filtered .filter-lone .ensures .1)
     (way .w .given .1)
-    (c .width .ensures)
+    (c .count .ensures)
     (c .before .before .before .put-samples .ensures)
 
 same-length-2 : tie.Need-same-length-2
@@ -99,7 +99,7 @@ bihargesh-segment-spec =
     filter-lone-requires
     enum-known-w
     put-samples-requires
-    width-requires
+    count-requires
     enum-known-r
     minus-requires
     same-length

@@ -1,0 +1,5 @@
+pub mod Plain
+pub mod Numbered
+pub mod Once
+pub mod Accepts
+pub mod Bands
