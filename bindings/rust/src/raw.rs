@@ -2,6 +2,7 @@
 
 #[link(name = "bihargesh", kind = "static")]
 extern "C" {
+    pub fn bihargesh_steps(steps: *mut u32, steps_len: usize) -> i32;
     pub fn bihargesh_thresholds(curr: u16, prev: u16, delta_q: i32, delta_side: i32, depth: u32, steps: *const u8, steps_len: usize) -> i32;
     pub fn bihargesh_segment(window: *mut u8, window_len: usize, depth: u32, pair: u32, q: u32, side: u32) -> i32;
     pub fn bihargesh_plane(

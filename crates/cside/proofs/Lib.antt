@@ -1,2 +1,4 @@
 pub mod Blocks
 pub mod Windows
+pub mod Table
+pub mod Unique

@@ -1,5 +1,8 @@
 // What C and Rust call: document 01's two exported functions, and the entries.
 
+// The published AC steps.
+pub mod steps;
+
 // Both thresholds of an edge.
 pub mod two_blocks;
 

@@ -1,44 +1,37 @@
-//! Bihargesh, the proved AV2 loop filters, for Rust: safe calls of the static library libcside.a, with a type for each answer.
+//! Bihargesh, the proved AV2 loop filters, for Rust: safe calls of the static library libbihargesh.a, with a type for each answer.
 //!
 //! Every function takes any numbers and lists of any length. It does its work, or says why it does not and leaves every lent list as it was
 //! (but a frame refused by `Room` or `Sample` has built its grids).
 //! include/bihargesh.h says what each number means and which are accepted.
+//!
+//! ```
+//! use bihargesh::{segment, thresholds, Reason, Thresholds};
+//!
+//! // both thresholds of the edge between two blocks of qindex 200, with the published steps
+//! let steps: Vec<u8> = bihargesh::steps().iter().flat_map(|s| s.to_le_bytes()).collect();
+//! let Thresholds { q, side } = thresholds(200, 200, 0, 0, 8, &steps)?;
+//!
+//! // a step from 100 to 108 on four lines of eighteen samples, two bytes a sample
+//! let line = [[100u16; 9], [108; 9]].concat();
+//! let mut window: Vec<u8> = line.repeat(4).iter().flat_map(|s| s.to_le_bytes()).collect();
+//! assert_eq!(segment(&mut window, 8, 3, q, side)?, 8);
+//! assert_eq!(window[16], 104);
+//!
+//! // what can't be done is refused, and the window stays as it was
+//! assert_eq!(segment(&mut window, 9, 3, q, side), Err(Reason::Depth));
+//! # Ok::<(), Reason>(())
+//! ```
 
-#[link(name = "cside", kind = "static")]
-extern "C" {
-    fn bihargesh_thresholds(curr: u16, prev: u16, delta_q: i32, delta_side: i32, depth: u32, steps: *const u8, steps_len: usize) -> i32;
-    fn bihargesh_segment(window: *mut u8, window_len: usize, depth: u32, pair: u32, q: u32, side: u32) -> i32;
-    fn bihargesh_plane(
-        plane: *mut u16, plane_len: usize, vedge: *const u8, vedge_len: usize, hedge: *const u8, hedge_len: usize,
-        sqw: *const u8, sqw_len: usize, sqh: *const u8, sqh_len: usize, qindex: *const u16, qindex_len: usize,
-        steps: *const u32, steps_len: usize, settings: *const i32, settings_len: usize, place: *mut usize, place_len: usize,
-    ) -> i32;
-    fn bihargesh_tx_grid(
-        leaves: *const u16, leaves_len: usize, skips: *const u16, skips_len: usize, vedge: *mut u8, vedge_len: usize,
-        hedge: *mut u8, hedge_len: usize, sqw: *mut u8, sqw_len: usize, sqh: *mut u8, sqh_len: usize,
-        settings: *const i32, settings_len: usize, place: *mut usize, place_len: usize,
-    ) -> i32;
-    fn bihargesh_qindex_grid(
-        superblocks: *const u16, superblocks_len: usize, qindex: *mut u16, qindex_len: usize,
-        settings: *const i32, settings_len: usize, place: *mut usize, place_len: usize,
-    ) -> i32;
-    fn bihargesh_frame(
-        y: *mut u16, y_len: usize, u: *mut u16, u_len: usize, v: *mut u16, v_len: usize,
-        luma_vedge: *mut u8, luma_vedge_len: usize, luma_hedge: *mut u8, luma_hedge_len: usize,
-        luma_sqw: *mut u8, luma_sqw_len: usize, luma_sqh: *mut u8, luma_sqh_len: usize, luma_qindex: *mut u16, luma_qindex_len: usize,
-        chroma_vedge: *mut u8, chroma_vedge_len: usize, chroma_hedge: *mut u8, chroma_hedge_len: usize,
-        chroma_sqw: *mut u8, chroma_sqw_len: usize, chroma_sqh: *mut u8, chroma_sqh_len: usize, chroma_qindex: *mut u16, chroma_qindex_len: usize,
-        steps: *const u32, steps_len: usize, superblocks: *const u16, superblocks_len: usize, leaves: *const u16, leaves_len: usize,
-        chroma_leaves: *const u16, chroma_leaves_len: usize, skips: *const u16, skips_len: usize,
-        settings: *const i32, settings_len: usize, place: *mut usize, place_len: usize,
-    ) -> i32;
-    fn bihargesh_ccso(
-        luma: *const u16, luma_len: usize, target: *mut u16, target_len: usize, flags: *const u8, flags_len: usize,
-        offsets: *const i8, offsets_len: usize, settings: *const i32, settings_len: usize, place: *mut usize, place_len: usize,
-    ) -> i32;
-}
+mod raw;
 
-/// Document 01's refusals by name, in the order of their numbers.
+use raw::*;
+use std::error::Error;
+use std::fmt;
+
+/// The version of the library and of this package.
+pub const VERSION: &str = env!("CARGO_PKG_VERSION");
+
+/// The refusals by name, in the order of their numbers.
 #[derive(Clone, Copy, Debug, PartialEq, Eq)]
 pub enum Reason {
     /// The depth is not 8, 10 or 12.
@@ -74,7 +67,7 @@ const REASONS: [Reason; 9] = [
 ];
 
 impl Reason {
-    /// Document 01's number.
+    /// Its number in include/bihargesh.h.
     pub fn number(self) -> u32 {
         self as u32
     }
@@ -85,12 +78,41 @@ impl Reason {
     }
 }
 
-/// Why an entry did nothing, and at which step, cell, leaf or sample: 0 where document 01 names none.
+impl fmt::Display for Reason {
+    fn fmt(&self, f: &mut fmt::Formatter) -> fmt::Result {
+        f.write_str(match self {
+            Reason::Depth => "the depth is not 8, 10 or 12",
+            Reason::Size => "a size, stride, subsampling or count is out of range",
+            Reason::Length => "a list is shorter than needed, or a list of leaves is cut",
+            Reason::Steps => "the step table is not 352 entries from 64 on, each at most 1048576",
+            Reason::Setting => "a delta, cap, threshold, length pair or CCSO setting is out of range",
+            Reason::Cell => "a grid cell has a bad mark or size index",
+            Reason::Room => "an edge lacks room",
+            Reason::Sample => "a sample exceeds the depth's largest",
+            Reason::Leaf => "a leaf is bad",
+        })
+    }
+}
+
+impl Error for Reason {}
+
+/// Why an entry did nothing, and at which step, cell, leaf or sample: 0 where a refusal has no place.
 #[derive(Clone, Copy, Debug, PartialEq, Eq)]
 pub struct Refusal {
     pub reason: Reason,
     pub place: usize,
 }
+
+impl fmt::Display for Refusal {
+    fn fmt(&self, f: &mut fmt::Formatter) -> fmt::Result {
+        match self.reason {
+            Reason::Steps | Reason::Cell | Reason::Room | Reason::Sample | Reason::Leaf => write!(f, "{}, at place {}", self.reason, self.place),
+            _ => self.reason.fmt(f),
+        }
+    }
+}
+
+impl Error for Refusal {}
 
 /// Both thresholds of an edge.
 #[derive(Clone, Copy, Debug, PartialEq, Eq)]
@@ -230,6 +252,19 @@ fn told(answer: i32, place: [usize; 1]) -> Result<(), Refusal> {
 
 // In each call below every pointer is that of a live list, beside its length, and the borrow checker keeps a `&mut` list apart from the others.
 
+/// The 352 AC steps of the published encoder, for `deblock_plane` and `deblock_frame`.
+///
+/// ```
+/// let steps = bihargesh::steps();
+/// assert_eq!((steps[0], steps[1], steps[25], steps[351]), (64, 40, 80, steps[255]));
+/// ```
+pub fn steps() -> [u32; 352] {
+    let mut list = [0; 352];
+    // SAFETY: as above.
+    unsafe { bihargesh_steps(list.as_mut_ptr(), list.len()) };
+    list
+}
+
 /// Both thresholds of the edge between two blocks; `steps` has four bytes a step, low first.
 pub fn thresholds(curr: u16, prev: u16, delta_q: i32, delta_side: i32, depth: u32, steps: &[u8]) -> Result<Thresholds, Reason> {
     // SAFETY: as above.
@@ -283,6 +318,20 @@ pub fn build_tx_grid(leaves: &[u16], skips: &[u16], marks: Marks, s: TxGrid) -> 
 }
 
 /// Gives each cell of a plane the qindex of its superblock.
+///
+/// ```
+/// use bihargesh::{build_qindex_grid, QindexGrid, Reason, Refusal};
+///
+/// let mut qindex = [0; 4];
+/// let settings = QindexGrid { cols: 2, rows: 2, superblocks_across: 1, ..QindexGrid::default() };
+/// build_qindex_grid(&[200], &mut qindex, settings)?;
+/// assert_eq!(qindex, [200; 4]);
+///
+/// let refusal = build_qindex_grid(&[], &mut qindex, settings).unwrap_err();
+/// assert_eq!(refusal, Refusal { reason: Reason::Length, place: 0 });
+/// assert_eq!(refusal.to_string(), "a list is shorter than needed, or a list of leaves is cut");
+/// # Ok::<(), Refusal>(())
+/// ```
 pub fn build_qindex_grid(superblocks: &[u16], qindex: &mut [u16], s: QindexGrid) -> Result<(), Refusal> {
     let settings = [s.cols, s.rows, s.ssx, s.ssy, s.superblocks_across];
     let mut place = [0];

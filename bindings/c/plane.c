@@ -16,8 +16,12 @@ static int said(const char *what, int32_t answer, size_t place) {
 }
 
 static int32_t deblock(size_t *place) {
-  const int32_t settings[11] = {COLS, ROWS, STRIDE, STRIDE, 4 * ROWS, 16, 16, 0, 8, 0, 0};
-  return bihargesh_plane(plane, SAMPLES, vedge, CELLS, hedge, CELLS, sqw, CELLS, sqh, CELLS, qindex, CELLS, steps, 352, settings, 11, place, 1);
+  const int32_t settings[BIHARGESH_PLANE_SETTINGS] = {
+      [BIHARGESH_PLANE_COLS] = COLS,        [BIHARGESH_PLANE_ROWS] = ROWS,        [BIHARGESH_PLANE_STRIDE] = STRIDE,
+      [BIHARGESH_PLANE_WIDTH] = STRIDE,     [BIHARGESH_PLANE_HEIGHT] = 4 * ROWS,  [BIHARGESH_PLANE_SB_WIDTH] = 16,
+      [BIHARGESH_PLANE_SB_HEIGHT] = 16,     [BIHARGESH_PLANE_CHROMA] = 0,         [BIHARGESH_PLANE_DEPTH] = 8};
+  return bihargesh_plane(plane, SAMPLES, vedge, CELLS, hedge, CELLS, sqw, CELLS, sqh, CELLS, qindex, CELLS, steps, 352, settings,
+                         BIHARGESH_PLANE_SETTINGS, place, 1);
 }
 
 int main(void) {
@@ -30,9 +34,9 @@ int main(void) {
 
   /* 100 in the left half, 108 in the right */
   for (int k = 0; k < SAMPLES; k++) plane[k] = k % STRIDE < STRIDE / 2 ? 100 : 108;
-  for (int k = 0; k < 352; k++) steps[k] = k == 0 ? 64 : 4092;
+  if (said("the steps", bihargesh_steps(steps, 352), place)) return 1;
   if (said("the plane", deblock(&place), place)) return 1;
-  printf("C example:");
+  printf("C, a plane:");
   for (int k = 8; k < 24; k++) printf(" %d", plane[k]);
   printf("\n");
   if (plane[15] <= 100 || plane[16] >= 108) return 1;
@@ -40,5 +44,5 @@ int main(void) {
   /* a sample that is too large is refused with its place, and the plane stays as it was */
   plane[70] = 256;
   memcpy(lent, plane, sizeof lent);
-  return deblock(&place) == -8 && place == 70 && memcmp(lent, plane, sizeof lent) == 0 ? 0 : 1;
+  return deblock(&place) == -BIHARGESH_BAD_SAMPLE && place == 70 && memcmp(lent, plane, sizeof lent) == 0 ? 0 : 1;
 }

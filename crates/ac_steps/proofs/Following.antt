@@ -5,16 +5,14 @@ use mathlib.Core.Bool.{Bool, true, false, _&&_}
 use mathlib.Core.List.{List, [], _∷_}
 use Prim.Native.Nat.{ℕ, zero, suc, _+_, _-_, _*_, _/_, _%_, _^_, _≤_, _<_, min, zero-le}
 use native.Mathlib.Nat.{le-trans, mul-le-mul, pow-le-pow-right, pow-succ', mul-one, mul-left-comm}
-use native.Mathlib.Decide.{ℕ-discrete}
 use native.Mathlib.Omega.{arith}
-use borrow.Author.Needs.{needs}
 use lib.Dec.{T, leb, eqb, leb→le, lit≤}
 use lib.ListN.{length, getD, set}
-use lib.Seq.{getD-set-same, getD-set-other, ext-getD}
+use lib.Seq.{ext-getD}
 use Rattle.laws.specs.Choose.{pick, pick-no, not-eq}
 use Rattle.laws.specs.Tests.{and-l, and-r}
-use Rattle.laws.specs.Loops.{each, singles-at, singles-length}
-use Rattle.pictures.specs.Defaults.{octave, doubling, stepAt, stepTable, StepsTo}
+use Rattle.laws.specs.Loops.{loops, each, filled, filled-at, filled-length, filled-more, singles-at, singles-length}
+use Rattle.ac_steps.specs.Steps.{octave, doubling, stepAt, stepTable, StepsTo, tabled}
 
 first : stepAt 0 ≡ 64
 unfolding stepAt pick
@@ -102,20 +100,19 @@ small (suc j) h = rw (later (suc j) (omega arith)) (small-doubling (min (suc j) 
 
 -- ---- the table as a loop fills it
 
-pub steps-more : (i v : ℕ) (t : List ℕ) → i < length t → StepsTo i t → v ≡ stepAt i → StepsTo (i + 1) (set t i v)
-steps-more i v t b h e k l =
-    elim (ℕ-discrete k i) [
-      | yes q ↦ rw q (getD-set-same t i v 0 b ∙ e)
-      | no q ↦ getD-set-other t i k v 0 q ∙ h k (omega arith)
-    ]
+-- what was filled is right
+pub filled-right : (start : List ℕ) (i : ℕ) {l : List ℕ} → l ≡ filled start stepAt i → i ≤ length start → StepsTo i l
+filled-right start i e h k b = ap (λ (x : List ℕ). getD x k 0) e ∙ filled-at start stepAt 0 i k b (omega arith)
 
-pub steps-none : (t : List ℕ) → StepsTo 0 t
-steps-none t k l = absurd (omega arith)
+pub filled-next : (start : List ℕ) (i : ℕ) {l : List ℕ} {v : ℕ} → l ≡ filled start stepAt i → v ≡ stepAt i → set l i v ≡ filled start stepAt (i + 1)
+filled-next start i {l} e g = filled-more start stepAt i e (ap (λ (x : ℕ). set l i x) g)
 
-pub steps-end : (i : ℕ) (t : List ℕ) → length t ≡ 352 → 352 ≤ i → StepsTo i t → t ≡ stepTable
-unfolding stepTable
-steps-end i t n b h =
-    ext-getD 0 t (each 352 (λ k. stepAt k ∷ [])) (n ∙ sym (singles-length stepAt 352))
-    (λ k l. h k (omega arith) ∙ sym (singles-at stepAt 0 352 k (omega arith)))
+-- a list of 352 entries is then the table
+pub whole : (start : List ℕ) {t : List ℕ} → length start ≡ 352 → t ≡ tabled start → t ≡ stepTable
+unfolding stepTable tabled
+whole start {t} n e =
+    e
+    ∙ ext-getD 0 (filled start stepAt 352) (each 352 (λ k. stepAt k ∷ [])) (filled-length start stepAt 352 ∙ n ∙ sym (singles-length stepAt 352))
+    (λ k l. let b : k < 352 = omega (arith, filled-length start stepAt 352) in filled-at start stepAt 0 352 k b (omega arith) ∙ sym (singles-at stepAt 0 352 k b))
 
-pub ruleset filling = (needs, steps-none, steps-more, steps-end)
+pub ruleset following = (loops, filled-right, filled-next)

@@ -154,7 +154,8 @@ fn window(r: &mut Random, depth: u32) -> Vec<u8> {
     out
 }
 
-fn main() {
+#[test]
+fn as_the_plain_reading() {
     let mut r = Random(20_261_115);
     let (mut failures, mut checks, mut widths) = (0, 0, [0u32; 9]);
     for _ in 0..40_000 {
@@ -196,7 +197,6 @@ fn main() {
         }
     }
     println!("Rust: {checks} checks, {failures} failures; widths 0..8 reached {widths:?} times");
-    if failures != 0 || [0, 1, 2, 3, 4, 6, 8].iter().any(|&w| widths[w] == 0) {
-        std::process::exit(1);
-    }
+    assert_eq!(failures, 0);
+    assert!([0, 1, 2, 3, 4, 6, 8].iter().all(|&w| widths[w] > 0), "not every width was met");
 }

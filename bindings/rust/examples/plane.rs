@@ -36,11 +36,11 @@ fn main() {
 
     // 100 in the left half, 108 in the right
     let mut plane: Vec<u16> = (0..STRIDE * 4 * ROWS).map(|k| if k % STRIDE < STRIDE / 2 { 100 } else { 108 }).collect();
-    let steps: Vec<u32> = (0..352).map(|k| if k == 0 { 64 } else { 4092 }).collect();
+    let steps = bihargesh::steps();
     let grid = Grid { vedge: &vedge, hedge: &hedge, sqw: &sqw, sqh: &sqh, qindex: &qindex };
     assert_eq!(deblock_plane(&mut plane, grid, &steps, settings()), Ok(()));
     let row = &plane[..STRIDE];
-    println!("Rust example: {:?}", &row[8..24]);
+    println!("Rust, a plane: {:?}", &row[8..24]);
     assert!(row.windows(2).all(|w| w[0] <= w[1]), "the step became no ramp");
     assert!(row[15] > 100 && row[16] < 108, "the edge was not filtered");
 
