@@ -54,16 +54,15 @@ struct Due {
 type Compared = Result<i32, String>;
 
 /// The numbers of a case's line, read from the first on.
-struct Numbers {
-    all: Vec<i64>,
+struct Numbers<'a> {
+    all: &'a [i64],
     at: usize,
 }
 
-impl Numbers {
+impl Numbers<'_> {
     /// A line without its kind.
-    fn of(made: &Made) -> Numbers {
-        let text = std::str::from_utf8(made.line.bytes()).expect("a line is decimal");
-        Numbers { all: text.split(' ').map(|n| n.parse().expect("a number")).collect(), at: 1 }
+    fn of(made: &Made) -> Numbers<'_> {
+        Numbers { all: made.line.numbers(), at: 1 }
     }
 
     fn some<T: Entry>(&mut self, n: usize) -> Vec<T> {
@@ -384,24 +383,22 @@ fn of_ccso(random: &Random, made: &Made) -> Compared {
     Ok(due.no)
 }
 
-/// A function: what makes its cases, the kind of their lines where the maker has others too, and how one is compared.
+/// A function: what makes its cases, in turn; the kind of their lines where a maker has others too; and how one is compared.
 struct Part {
     name: &'static str,
-    make: Make,
+    makes: &'static [Make],
     kind: Option<i64>,
     compare: fn(&Random, &Made) -> Compared,
 }
 
-const PARTS: [Part; 9] = [
-    Part { name: "bihargesh_thresholds", make: thresholds::make, kind: None, compare: of_thresholds },
-    Part { name: "bihargesh_segment", make: segment::make_window, kind: None, compare: of_segment },
-    Part { name: "bihargesh_plane", make: plane::make, kind: None, compare: of_plane },
-    Part { name: "bihargesh_plane, bins", make: plane::make_bins, kind: None, compare: of_plane },
-    Part { name: "bihargesh_tx_grid", make: grid::make, kind: Some(1), compare: of_tx_grid },
-    Part { name: "bihargesh_qindex_grid", make: grid::make, kind: Some(2), compare: of_qindex_grid },
-    Part { name: "bihargesh_frame", make: frame::make, kind: None, compare: of_frame },
-    Part { name: "bihargesh_frame, bins", make: frame::make_bins, kind: None, compare: of_frame },
-    Part { name: "bihargesh_ccso", make: ccso::make, kind: None, compare: of_ccso },
+const PARTS: [Part; 7] = [
+    Part { name: "bihargesh_thresholds", makes: &[thresholds::make], kind: None, compare: of_thresholds },
+    Part { name: "bihargesh_segment", makes: &[segment::make_window], kind: None, compare: of_segment },
+    Part { name: "bihargesh_plane", makes: &[plane::make, plane::make_bins], kind: None, compare: of_plane },
+    Part { name: "bihargesh_tx_grid", makes: &[grid::make], kind: Some(1), compare: of_tx_grid },
+    Part { name: "bihargesh_qindex_grid", makes: &[grid::make], kind: Some(2), compare: of_qindex_grid },
+    Part { name: "bihargesh_frame", makes: &[frame::make, frame::make_bins], kind: None, compare: of_frame },
+    Part { name: "bihargesh_ccso", makes: &[ccso::make], kind: None, compare: of_ccso },
 ];
 
 /// How the cases of a part came out.
@@ -427,14 +424,14 @@ fn run(part: &Part, n: u64, seed: u64) -> Result<Counts, String> {
     let mut last: Option<Vec<u32>> = None;
     let mut left = n;
     while left > 0 {
-        let made = (part.make)(&random, random.once_in(3), last.as_deref());
-        last = made.steps.clone();
-        let kind = (made.line.bytes()[0] - b'0') as i64;
-        if part.kind.is_some_and(|k| k != kind) {
+        let make = part.makes[left as usize % part.makes.len()];
+        let made = make(&random, random.once_in(3), last.as_deref());
+        last = made.steps.clone().filter(|_| !random.once_in(20));
+        if part.kind.is_some_and(|kind| kind != made.line.numbers()[0]) {
             continue;
         }
         let no = (part.compare)(&random, &made).map_err(|what| {
-            format!("{}, case {} of seed {seed}: {what}\n{}", part.name, n - left + 1, cut(&String::from_utf8_lossy(made.line.bytes())))
+            format!("{}, case {} of seed {seed}: {what}\n{}", part.name, n - left + 1, cut(&String::from_utf8_lossy(&made.line.text())))
         })?;
         if no == 0 {
             counts.accepted += 1;

@@ -69,11 +69,11 @@ fn run(make: Make, n: u64, seed: u64, only: Option<bool>, out: &mut impl Write) 
         }
         if made.steps != written {
             let steps = made.steps.as_deref().unwrap_or(&[]);
-            out.write_all(Line::new(1).list(steps).bytes())?;
+            out.write_all(&Line::new(1).list(steps).text())?;
             out.write_all(b"\n")?;
             written = made.steps;
         }
-        out.write_all(made.line.bytes())?;
+        out.write_all(&made.line.text())?;
         out.write_all(b"\n")?;
         summary.count(made.refusal, made.width, made.changed);
         left -= 1;
