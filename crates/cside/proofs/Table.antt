@@ -17,16 +17,16 @@ use Rattle.answers.proofs.Numbers.{held-minus, answer-refused, answer-accepted}
 use Rattle.cside.specs.Steps.{stepsCheck, StepsTold}
 
 module _ (l : List ℕ) where
+  short : length l < 352 → Refused Length ≡ stepsCheck l
+  unfolding stepsCheck
+  short h = unless-bad _ _ (not-le 352 (length l) h)
+
   pub too-short : {z : ℤ} → z ≡ negℤ (pos (numberOf Length)) → length l < 352 → StepsTold l (toZ w32 (ofZ w32 z)) l
-  too-short {z} f h = record { answer = held-minus z Length f ∙ answer-refused _ _ (check h); left-is = settle-refused _ _ _ (check h) }
-    where
-      check : length l < 352 → Refused Length ≡ stepsCheck l
-      unfolding stepsCheck
-      check h = unless-bad _ _ (not-le 352 (length l) h)
+  too-short {z} f h = record { answer = held-minus z Length f ∙ answer-refused _ _ (short h); left-is = settle-refused _ _ _ (short h) }
+
+  long : 352 ≤ length l → Accepted ≡ stepsCheck l
+  unfolding stepsCheck
+  long h = unless-good _ _ (is-le 352 (length l) h)
 
   pub taken : {m : List ℕ} → 352 ≤ length l → m ≡ tabled l → StepsTold l (pos 0) m
-  taken {m} h e = record { answer = answer-accepted _ _ (check h) refl; left-is = settle-accepted _ _ _ m (check h) e }
-    where
-      check : 352 ≤ length l → Accepted ≡ stepsCheck l
-      unfolding stepsCheck
-      check h = unless-good _ _ (is-le 352 (length l) h)
+  taken {m} h e = record { answer = answer-accepted _ _ (long h) refl; left-is = settle-accepted _ _ _ m (long h) e }

@@ -1,7 +1,7 @@
 // Thresholds for C: the step table as bytes, the answer as one number.
-use byte_lists::table;
 use answers::minus;
 use answers::packed;
+use byte_lists::table;
 use rules::depth::Depth;
 use rules::refusals::Refusal;
 use rules::refusals::Thresholds;

@@ -1,7 +1,7 @@
 // One segment for C: the window as bytes, the width as the answer.
-use byte_lists::window as lent;
-use answers::minus;
 use answers::count;
+use answers::minus;
+use byte_lists::window as lent;
 use rules::depth::Depth;
 use rules::refusals::Refusal;
 use rules::refusals::Width;
@@ -27,7 +27,8 @@ pub extern "C" fn bihargesh_segment(
         return minus(Refusal::Length);
     }
     let mut l = lent::samples(window);
-    match filter_lone(&mut l, lent::edge(depth, pair, q, side)) {
+    let s = lent::edge(depth, pair, q, side);
+    match filter_lone(&mut l, s) {
         Width::Samples(w) => {
             lent::put_samples(window, &l);
             count(w)

@@ -1,6 +1,6 @@
 // The gated CCSO offsets, by their settings as a list of numbers.
-use numbers::offsets_of;
 use ccso::apply::apply_edge_gated;
+use numbers::offsets_of;
 use rules::refusals::Answer;
 use rules::refusals::Refusal;
 ghost use Rattle.rules.specs.Ccso.{ccsoCheck, ccsoOf};

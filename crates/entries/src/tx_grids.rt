@@ -1,6 +1,6 @@
 // A TU grid, by its settings as a list of numbers.
-use numbers::tu_grid_of;
 use grid::tx_grid::build_tx_grid;
+use numbers::tu_grid_of;
 use rules::refusals::Answer;
 use rules::refusals::Refusal;
 ghost use Rattle.rules.specs.TuGrid.{marks, txGridCheck, txGridOf};
