@@ -181,6 +181,10 @@ static void planes(void) {
   refused_plane("chroma -1", 11, -2, 0);
   plane_settings[2] = -24;
   refused_plane("stride -24", 11, -2, 0);
+  plane_settings[BIHARGESH_PLANE_SB_WIDTH] = 32;
+  refused_plane("a superblock of 32 cells", 11, -BIHARGESH_BAD_SIZE, 0);
+  plane_settings[BIHARGESH_PLANE_COLS] = 1025;
+  refused_plane("1025 cells", 11, -BIHARGESH_BAD_SIZE, 0);
   plane_settings[1] = 2;
   plane_settings[4] = 8;
   refused_plane("a row too few", 11, -3, 0);
@@ -194,6 +198,8 @@ static void planes(void) {
   refused_plane("no room", 11, -7, 1);
   plane[30] = 256;
   refused_plane("sample 256", 11, -8, 30);
+  plane[95] = 300;
+  refused_plane("sample 300", 11, -BIHARGESH_BAD_SAMPLE, 95);
   plane_settings[8] = 9;
   same("no place wanted",
        bihargesh_plane(plane, LEN(plane), vedge, LEN(vedge), hedge, LEN(hedge), sizes, LEN(sizes), sizes, LEN(sizes), qindex, LEN(qindex), table,
