@@ -8,3 +8,4 @@ pub mod Lengths
 pub mod Accepted
 pub mod Everywhere
 pub mod Theorems
+pub mod Exactly

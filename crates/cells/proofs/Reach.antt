@@ -17,7 +17,7 @@ use Rattle.rules.specs.Lengths.{pairOf, reachBefore, reachAfter}
 use Rattle.rules.specs.Refusals.{first, sooner}
 use Rattle.rules.specs.Segment.{hasRoom, roomAlong}
 use Rattle.rules.specs.Plane.{Grid, grid, cellOf, marksOf, indicesOf, indexAt, shortenedAt, isEdge, edgeRoom, lacksRoom, lacksRow, lacksDir, noRoom}
-use Rattle.choice.proofs.Lengths.{pair-facts}
+use Rattle.lengths.proofs.Lengths.{pair-facts}
 use Rattle.scan.proofs.First.{first-found, all-nothing, found-unless, found-unless-not, sooner-first-by, sooner-second-by}
 use Rattle.cells.specs.Fit.{Cell, Inner, oneWay, sized, marked}
 use Rattle.cells.proofs.Places.{pair-below}

@@ -1,7 +1,7 @@
 // The edge of a cell, as far as its grid alone says: whether it is there, the cell before it, its size index and its pair of lengths.
 // Direction 0 is the cell's left side, 1 its upper side; marks and sizes are the direction's own lists.
-use choice::ladder::filter_lengths;
 use laws::least;
+use lengths::ladder::filter_lengths;
 use rules::settings::Plane;
 ghost use mathlib.Core.Path.{_≡_};
 ghost use Prim.Native.Nat.{_+_, _*_, _≤_, _<_};

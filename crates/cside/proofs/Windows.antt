@@ -20,8 +20,8 @@ use Rattle.rules.specs.Refusals.{numberOf, orElse, unless, settle}
 use Rattle.rules.specs.Segment.{placeOf, windowOf, chosenOf, widthAt}
 use Rattle.rules.specs.Lone.{edgeOf, loneCheck, lonePlane, answerWidth, loneWidth}
 use Rattle.rules.specs.CSide.{cAnswer, samplesIn, bytesOf, windowEdge, cSegmentCheck, cSegment, cWindow}
-use Rattle.choice.proofs.Lengths.{pair-facts}
-use Rattle.choice.proofs.Most.{pair-most}
+use Rattle.lengths.proofs.Lengths.{pair-facts}
+use Rattle.width.proofs.Most.{pair-most}
 use Rattle.scan.proofs.Checks.{settle-refused, settle-accepted}
 use Rattle.segment.proofs.Accepted.{passed}
 use Rattle.entries.proofs.Numbers.{held, held-minus, answer-refused, answer-accepted}

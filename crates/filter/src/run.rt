@@ -219,7 +219,7 @@ pub fn run(name: &[u8], settings: &[u8], out: &[u8]) {
     ) {
         return;
     }
-    let fd = os::open_read(name);
+    let fd = files::open_in(name);
     if fd < 0 {
         say::cannot(name, b"the picture can't be read");
         return;

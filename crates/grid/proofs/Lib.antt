@@ -9,3 +9,4 @@ pub mod Covers
 pub mod Beyond
 pub mod Built
 pub mod Unique
+pub mod Exactly

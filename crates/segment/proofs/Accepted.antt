@@ -26,7 +26,7 @@ use Rattle.rules.specs.Refusals.{orElse, unless, found, settle, overBox}
 use Rattle.rules.specs.Lengths.{reachBefore, reachAfter}
 use Rattle.rules.specs.Segment.{roomAlong, hasRoom, widthAt, segmentOf}
 use Rattle.rules.specs.Lone.{edgeOf, sizesOk, settingsOk, overEdge, loneCheck, lonePlane, answerWidth, loneWidth}
-use Rattle.choice.proofs.Lengths.{PairFacts, pair-facts}
+use Rattle.lengths.proofs.Lengths.{PairFacts, pair-facts}
 use Rattle.scan.specs.Rows.{Box}
 use Rattle.scan.proofs.Rows.{box-inner}
 use Rattle.scan.proofs.Ranges.{in-range}

@@ -20,8 +20,8 @@ use Rattle.rules.specs.Lengths.{mostBefore, mostAfter, reachBefore, reachAfter}
 use Rattle.rules.specs.Width.{blank}
 use Rattle.rules.specs.Taps.{mostOf, before, after}
 use Rattle.rules.specs.Segment.{placed, placeOf, hasRoom, pAt, qAt, differenceOf, windowOf, chosenOf, storesOf, fourStores, lineStores, widthAt, segmentOf}
-use Rattle.choice.proofs.Lengths.{PairFacts, pair-facts}
-use Rattle.choice.proofs.Most.{width-most}
+use Rattle.lengths.proofs.Lengths.{PairFacts, pair-facts}
+use Rattle.width.proofs.Most.{width-most}
 use Rattle.segment.specs.Fit.{Room, Spread, Fit, Filtered, InPlane, EdgeFiltered}
 use Rattle.segment.specs.Sides.{differenceIn, lineTaps, fourTaps, Lanes}
 use Rattle.segment.proofs.Window.{window-p, window-q}

@@ -1,8 +1,8 @@
 // A segment alone: any numbers and any plane, the checks of document 01 in their order, and the edge where they all pass.
 use super::room::has_room;
 use super::segment::filter_edge;
-use choice::pairs::reach_after;
-use choice::pairs::reach_before;
+use lengths::pairs::reach_after;
+use lengths::pairs::reach_before;
 use rules::depth::Depth;
 use rules::edge::Edge;
 use rules::refusals::Answer;

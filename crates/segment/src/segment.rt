@@ -1,16 +1,16 @@
 // One edge on a lent plane: the width chosen from its window, and its taps.
 use super::read::read_lines;
 use super::store::filter_lines;
-use choice::choice::filt_choice;
-use choice::pairs::most_after;
-use choice::pairs::most_before;
-use choice::pairs::reach_after;
-use choice::pairs::reach_before;
 use laws::least;
+use lengths::pairs::most_after;
+use lengths::pairs::most_before;
+use lengths::pairs::reach_after;
+use lengths::pairs::reach_before;
 use rules::edge::Edge;
 use rules::edge::Place;
 use taps::tables::limit_of;
 use taps::tables::weight;
+use width::choice::filt_choice;
 ghost use mathlib.Core.Path.{_≡_};
 ghost use Prim.Native.Nat.{_+_, _*_, _<_};
 ghost use lib.ListN.{length};

@@ -1,7 +1,7 @@
 -- One test for both directions, with x and y in each other's place.
 use Rattle.segment.proofs.Accepted.{room-upright, room-level}
 use native.Mathlib.Omega.{arith}
-use Rattle.choice.proofs.Lengths.{pair-facts}
+use Rattle.lengths.proofs.Lengths.{pair-facts}
 use borrow.Author.Needs.{needs}
 use Rattle.segment.proofs.room.has_room.Statement.{statement}
 use Rattle.segment.proofs.room.has_room.Tie as tie
