@@ -2,10 +2,10 @@
 use crate::answers::width;
 use crate::bytes;
 use entries::answers::minus;
+use lone::filter_lone;
 use rules::depth::Depth;
 use rules::refusals::Width;
 use rules::settings::Lone;
-use segment::filter_lone;
 ghost use mathlib.Core.Path.{_≡_};
 ghost use Rattle.rules.specs.CSide.{cSegment, cWindow};
 

@@ -20,8 +20,8 @@ use Rattle.rules.specs.Plane.{Grid}
 use Rattle.rules.specs.TuGrid.{capOk, foursOk}
 use Rattle.rules.specs.Frame.{Given, Lent, lumaPlane, chromaPlane, lumaTu, chromaTu, lumaQ, chromaQ, superblocks, chromaOn, samplesLong, gridLong, frameSizes, frameLengths, frameSettings, frameLeaves, frameEarly}
 use Rattle.scan.proofs.Checks.{else-parts, unless-true, found-nothing, only-part}
-use Rattle.grid.specs.Fit.{AllGood}
-use Rattle.grid.proofs.Checked.{by-cap, all-good}
+use Rattle.tiles.specs.Fit.{AllGood}
+use Rattle.tiles.proofs.Checked.{by-cap, all-good}
 use Rattle.cells.specs.Fit.{Sizes}
 use Rattle.frame_checks.specs.Settings.{Sized, planeOf, tuOf, qOf}
 use Rattle.frame_checks.proofs.Ranges.{superblocks-some, superblocks-most}

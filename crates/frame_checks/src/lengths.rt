@@ -3,10 +3,10 @@
 use super::planes::blocks;
 use super::planes::chroma_on;
 use super::planes::plane_of;
-use grid::checks::fours;
 use rules::refusals::Answer;
 use rules::refusals::Refusal;
 use rules::settings::Frame;
+use tiles::checks::fours;
 ghost use mathlib.Core.Path.{_≡_};
 ghost use mathlib.Core.Bool.{true, false};
 ghost use Prim.Native.Nat.{_*_};
