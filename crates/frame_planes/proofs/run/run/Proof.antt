@@ -13,7 +13,7 @@ same-length : tie.Need-same-length
 same-length c = search needs
 
 returns : tie.Need-returns
-returns c = rw (c .before .before .before .plane-of .ensures) at (c .before .before .run-plane .ensures)
+returns c = rw (c .before .before .before .plane-of .ensures) at (c .before .before .run-plane .ensures .plane)
 
 pub run-spec : {M : Type 1} → statement M
 run-spec = tie.close (tie.spec plane-of-requires run-plane-requires same-length returns)
