@@ -3,24 +3,92 @@
 -- Assumes nothing.
 use mathlib.Core.Path.{_≡_, refl, sym, ap, _∙_}
 use mathlib.Core.Bool.{Bool, true, false}
+use Prim.Native.Nat.{ℕ}
+use native.Mathlib.Omega.{arith}
+use Rattle.laws.specs.Choose.{pick}
 use Rattle.rules.specs.declared.settings.Frame.{Frame}
+use Rattle.rules.specs.declared.lent.FrameLengths.{FrameLengths}
 use Rattle.rules.specs.declared.refusals.Refusal.{Refusal}
+use Rattle.rules.specs.declared.refusals.Refusal.the-variants.{Depth, Size, Length, Steps, Setting, Cell, Room, Sample, Leaf}
 use Rattle.rules.specs.declared.refusals.Answer.{Answer}
 use Rattle.rules.specs.declared.refusals.Answer.the-variants.{Accepted, Refused}
-use Rattle.rules.specs.Refusals.{settle}
-use Rattle.rules.specs.Frame.{Planes, Grids, Given, Lent, Done, lent, done, chromaOn, builtGrids, frameEarly, frameLate, runFrame, frameBuilt, orDone, frameOf}
-use Rattle.frame.proofs.Ways.{luma-alone}
+use Rattle.rules.specs.declared.refusals.Found.{Found}
+use Rattle.rules.specs.declared.refusals.Found.the-variants.{At, Nothing}
+use Rattle.rules.specs.Refusals.{orElse, unless, found, onlyIf, settle}
+use Rattle.rules.specs.Thresholds.{stepsCheck}
+use Rattle.rules.specs.Frame.{Planes, Grids, Given, Lent, Done, lent, done, lengthsOf, chromaOn, builtGrids, frameSizes, frameLengths, frameShape, frameSettings, frameLeaves, frameGiven, frameEarly, frameLate, runFrame, frameBuilt, orDone, frameOf}
 
 -- any two results that the statement allows are equal, every list of them
 pub one-result : (f : Frame) (n : Given) (l : Lent) {r r' : Answer} {a b : Lent} → done r a ≡ frameOf f n l → done r' b ≡ frameOf f n l → (r ≡ r') × (a ≡ b)
 one-result f n l e g = let h = e ∙ sym g in (ap (λ (d : Done). d .answer) h, ap (λ (d : Done). d .lists) h)
 
+-- ---- 7 and 8 are not among the early checks
+
+before7 : Refusal → Bool
+before7 Depth = true
+before7 Size = true
+before7 Length = true
+before7 (Steps k) = true
+before7 Setting = true
+before7 (Cell k) = true
+before7 (Room k) = false
+before7 (Sample k) = false
+before7 (Leaf k) = true
+
+early : Answer → Bool
+early Accepted = true
+early (Refused r) = before7 r
+
+else-early : (a b : Answer) → early a ≡ true → early b ≡ true → early (orElse a b) ≡ true
+unfolding orElse
+else-early Accepted b e g = g
+else-early (Refused r) b e g = e
+
+unless-early : (t : Bool) (r : Refusal) → before7 r ≡ true → early (unless t r) ≡ true
+unfolding unless
+unless-early true r e = refl
+unless-early false r e = e
+
+found-early : (m : Found) (r : ℕ → Refusal) → ((k : ℕ) → before7 (r k) ≡ true) → early (found m r) ≡ true
+unfolding found
+found-early (At k) r e = e k
+found-early Nothing r e = refl
+
+only-early : (t : Bool) (a : Answer) → early a ≡ true → early (onlyIf t a) ≡ true
+unfolding onlyIf
+only-early true a e = e
+only-early false a e = refl
+
+early-checks : (f : Frame) (k : FrameLengths) (n : Given) → early (frameEarly f k n) ≡ true
+unfolding frameEarly
+early-checks f k n = else-early _ _ shape given
+  where
+    sizes : early (frameSizes f) ≡ true
+    unfolding frameSizes
+    sizes = else-early _ _ (unless-early _ Size refl) (only-early _ _ (unless-early _ Size refl))
+
+    lengths : early (frameLengths f k) ≡ true
+    unfolding frameLengths
+    lengths = else-early _ _ (unless-early _ Length refl) (else-early _ _ (only-early _ _ (unless-early _ Length refl)) (unless-early _ Length refl))
+
+    shape : early (frameShape f k) ≡ true
+    unfolding frameShape
+    shape = else-early _ _ (unless-early _ Depth refl) (else-early _ _ sizes lengths)
+
+    leaves : early (frameLeaves n) ≡ true
+    unfolding frameLeaves
+    leaves = else-early _ _ (found-early _ Leaf (λ _. refl)) (else-early _ _ (found-early _ Leaf (λ _. refl)) (found-early _ Leaf (λ _. refl)))
+
+    given : early (frameGiven f n) ≡ true
+    unfolding frameGiven stepsCheck frameSettings
+    given = else-early _ _ (found-early _ Steps (λ _. refl)) (else-early _ _ (unless-early _ Setting refl) leaves)
+
 module _ (f : Frame) (n : Given) (l : Lent) where
-  pub kept-early : {r : Refusal} → frameEarly f n l ≡ Refused r → frameOf f n l ≡ done (Refused r) l
+  pub kept-early : {r : Refusal} → frameEarly f (lengthsOf n l) n ≡ Refused r → frameOf f n l ≡ done (Refused r) l
   unfolding frameOf orDone
   kept-early e = rw e
 
-  module _ (ok : frameEarly f n l ≡ Accepted) where
+  module _ (ok : frameEarly f (lengthsOf n l) n ≡ Accepted) where
     pub kept-late : {r : Refusal} → frameLate f (builtGrids f n (l .grids)) (l .planes) ≡ Refused r → frameOf f n l ≡ done (Refused r) (lent (l .planes) (builtGrids f n (l .grids)))
     unfolding frameOf orDone frameBuilt settle
     kept-late e = rw (ok, e)
@@ -33,10 +101,54 @@ module _ (f : Frame) (n : Given) (l : Lent) where
   abbrev after : Lent
   after = frameOf f n l .lists
 
+  settled : (a : Answer) (p q : Planes) → q .u ≡ p .u → q .v ≡ p .v → (settle a p q .u ≡ p .u) × (settle a p q .v ≡ p .v)
+  unfolding settle
+  settled Accepted p q e g = (e, g)
+  settled (Refused r) p q e g = (refl, refl)
+
   pub chroma-kept : chromaOn f ≡ false → (after .planes .u ≡ l .planes .u) × (after .planes .v ≡ l .planes .v) × (after .grids .chroma ≡ l .grids .chroma)
-  unfolding frameOf orDone
-  chroma-kept off = go (frameEarly f n l)
+  unfolding frameOf
+  chroma-kept off = go (frameEarly f (lengthsOf n l) n)
     where
-      go : (a : Answer) → (orDone a l (frameBuilt f (n .steps) (builtGrids f n (l .grids)) (l .planes)) .lists .planes .u ≡ l .planes .u) × (orDone a l (frameBuilt f (n .steps) (builtGrids f n (l .grids)) (l .planes)) .lists .planes .v ≡ l .planes .v) × (orDone a l (frameBuilt f (n .steps) (builtGrids f n (l .grids)) (l .planes)) .lists .grids .chroma ≡ l .grids .chroma)
+      abbrev late : Done
+      late = frameBuilt f (n .steps) (builtGrids f n (l .grids)) (l .planes)
+
+      planes-kept : (late .lists .planes .u ≡ l .planes .u) × (late .lists .planes .v ≡ l .planes .v)
+      unfolding frameBuilt runFrame pick
+      planes-kept = settled (frameLate f (builtGrids f n (l .grids)) (l .planes)) (l .planes) (runFrame f (n .steps) (builtGrids f n (l .grids)) (l .planes)) (rw off) (rw off)
+
+      grid-kept : late .lists .grids .chroma ≡ l .grids .chroma
+      unfolding frameBuilt builtGrids pick
+      grid-kept = rw off
+
+      go : (a : Answer) → (orDone a l late .lists .planes .u ≡ l .planes .u) × (orDone a l late .lists .planes .v ≡ l .planes .v) × (orDone a l late .lists .grids .chroma ≡ l .grids .chroma)
+      unfolding orDone
       go (Refused r) = (refl, refl, refl)
-      go Accepted = rw (luma-alone f off n l) (refl, refl, refl)
+      go Accepted = (planes-kept .0, planes-kept .1, grid-kept)
+
+  -- a refusal leaves the planes as lent, whatever its number
+  pub refused-kept : {r : Refusal} → frameOf f n l .answer ≡ Refused r → after .planes ≡ l .planes
+  unfolding frameOf orDone frameBuilt
+  refused-kept e = go (frameEarly f (lengthsOf n l) n) e
+    where
+      abbrev late : Answer
+      late = frameLate f (builtGrids f n (l .grids)) (l .planes)
+
+      kept : (a : Answer) (q : Planes) {r : Refusal} → a ≡ Refused r → settle a (l .planes) q ≡ l .planes
+      unfolding settle
+      kept a q h = rw h
+
+      go : (a : Answer) {r : Refusal} → orDone a l (frameBuilt f (n .steps) (builtGrids f n (l .grids)) (l .planes)) .answer ≡ Refused r → orDone a l (frameBuilt f (n .steps) (builtGrids f n (l .grids)) (l .planes)) .lists .planes ≡ l .planes
+      unfolding orDone frameBuilt
+      go (Refused x) h = refl
+      go Accepted h = kept late _ h
+
+  -- one by 7 has passed every early check
+  pub room-early : {k : ℕ} → frameOf f n l .answer ≡ Refused (Room k) → frameEarly f (lengthsOf n l) n ≡ Accepted
+  unfolding frameOf
+  room-early e = go (frameEarly f (lengthsOf n l) n) (early-checks f (lengthsOf n l) n) e
+    where
+      go : (a : Answer) {k : ℕ} → early a ≡ true → orDone a l (frameBuilt f (n .steps) (builtGrids f n (l .grids)) (l .planes)) .answer ≡ Refused (Room k) → a ≡ Accepted
+      unfolding orDone
+      go Accepted h g = refl
+      go (Refused x) h g = let z : true ≡ false = sym h ∙ ap early g in absurd (let y : _≡_ {A = ℕ} 0 1 = cc in omega arith)

@@ -1,10 +1,10 @@
-// A frame's entry: the early checks, then a frame with chroma or one without.
-use super::filter::luma_only;
-use super::filter::with_chroma;
+// A frame's entry: the early checks, both grids built, the late checks, and the planes run.
 use frame_checks::early::frame_early;
-use frame_checks::lengths::GridLengths;
-use frame_checks::lengths::Lengths;
-use frame_checks::planes::chroma_on;
+use frame_planes::build::build;
+use frame_planes::late::late;
+use frame_planes::run::run;
+use rules::lent::FrameLengths;
+use rules::lent::GridLengths;
 use rules::refusals::Answer;
 use rules::settings::Frame;
 ghost use mathlib.Core.Path.{_≡_};
@@ -49,39 +49,29 @@ pub fn deblock_frame(
         sqh: ct.len(),
         qindex: cq.len(),
     };
-    let n = Lengths {
+    let n = FrameLengths {
         y: y.len(),
         u: u.len(),
         v: v.len(),
         luma: luma,
         chroma: chroma,
+        sbq: sbq.len(),
+        leaves: leaves.len(),
+        chromaleaves: chromaleaves.len(),
+        skips: skips.len(),
     };
-    let a = frame_early(steps, sbq, leaves, chromaleaves, skips, f, n);
+    let a = frame_early(steps, leaves, chromaleaves, skips, f, n);
     if let Answer::Refused(r) = a {
         return Answer::Refused(r);
     }
-    if chroma_on(f) {
-        return with_chroma(
-            y,
-            u,
-            v,
-            lv,
-            lh,
-            lw,
-            lt,
-            lq,
-            cv,
-            ch,
-            cw,
-            ct,
-            cq,
-            steps,
-            sbq,
-            leaves,
-            chromaleaves,
-            skips,
-            f,
-        );
+    build(lv, lh, lw, lt, lq, leaves, skips, sbq, f, false);
+    build(cv, ch, cw, ct, cq, chromaleaves, skips, sbq, f, true);
+    let b = late(y, u, v, lv, lh, lw, lt, cv, ch, cw, ct, f);
+    if let Answer::Refused(r) = b {
+        return Answer::Refused(r);
     }
-    luma_only(y, lv, lh, lw, lt, lq, steps, sbq, leaves, skips, f)
+    run(y, lv, lh, lw, lt, lq, steps, f, false);
+    run(u, cv, ch, cw, ct, cq, steps, f, true);
+    run(v, cv, ch, cw, ct, cq, steps, f, true);
+    Answer::Accepted
 }
