@@ -100,7 +100,7 @@ settings f e =
 
 -- ---- a frame whose early checks accept, by the lengths k of its lists
 
-module _ {f : Frame} {k : FrameLengths} {n : Given} (ok : frameEarly f k n ≡ Accepted) where
+module _ (f : Frame) (k : FrameLengths) (n : Given) (ok : frameEarly f k n ≡ Accepted) where
   shape : (unless (depthOk (f .depth)) Depth ≡ Accepted) × (frameSizes f ≡ Accepted) × (frameLengths f k ≡ Accepted)
   unfolding frameEarly frameShape
   shape =

@@ -59,29 +59,25 @@ unfolding onlyIf
 only-early true a e = e
 only-early false a e = refl
 
+early-sizes : (f : Frame) → early (frameSizes f) ≡ true
+unfolding frameSizes
+early-sizes f = else-early _ _ (unless-early _ Size refl) (only-early _ _ (unless-early _ Size refl))
+
+early-lengths : (f : Frame) (k : FrameLengths) → early (frameLengths f k) ≡ true
+unfolding frameLengths
+early-lengths f k =
+    else-early _ _ (unless-early _ Length refl) (else-early _ _ (only-early _ _ (unless-early _ Length refl)) (unless-early _ Length refl))
+
+early-leaves : (n : Given) → early (frameLeaves n) ≡ true
+unfolding frameLeaves
+early-leaves n =
+    else-early _ _ (found-early _ Leaf (λ _. refl)) (else-early _ _ (found-early _ Leaf (λ _. refl)) (found-early _ Leaf (λ _. refl)))
+
 early-checks : (f : Frame) (k : FrameLengths) (n : Given) → early (frameEarly f k n) ≡ true
-unfolding frameEarly
-early-checks f k n = else-early _ _ shape given
-  where
-    sizes : early (frameSizes f) ≡ true
-    unfolding frameSizes
-    sizes = else-early _ _ (unless-early _ Size refl) (only-early _ _ (unless-early _ Size refl))
-
-    lengths : early (frameLengths f k) ≡ true
-    unfolding frameLengths
-    lengths = else-early _ _ (unless-early _ Length refl) (else-early _ _ (only-early _ _ (unless-early _ Length refl)) (unless-early _ Length refl))
-
-    shape : early (frameShape f k) ≡ true
-    unfolding frameShape
-    shape = else-early _ _ (unless-early _ Depth refl) (else-early _ _ sizes lengths)
-
-    leaves : early (frameLeaves n) ≡ true
-    unfolding frameLeaves
-    leaves = else-early _ _ (found-early _ Leaf (λ _. refl)) (else-early _ _ (found-early _ Leaf (λ _. refl)) (found-early _ Leaf (λ _. refl)))
-
-    given : early (frameGiven f n) ≡ true
-    unfolding frameGiven stepsCheck frameSettings
-    given = else-early _ _ (found-early _ Steps (λ _. refl)) (else-early _ _ (unless-early _ Setting refl) leaves)
+unfolding frameEarly frameShape frameGiven stepsCheck frameSettings
+early-checks f k n =
+    else-early _ _ (else-early _ _ (unless-early _ Depth refl) (else-early _ _ (early-sizes f) (early-lengths f k)))
+    (else-early _ _ (found-early _ Steps (λ _. refl)) (else-early _ _ (unless-early _ Setting refl) (early-leaves n)))
 
 module _ (f : Frame) (n : Given) (l : Lent) where
   pub kept-early : {r : Refusal} → frameEarly f (lengthsOf n l) n ≡ Refused r → frameOf f n l ≡ done (Refused r) l
@@ -97,58 +93,59 @@ module _ (f : Frame) (n : Given) (l : Lent) where
     unfolding frameOf orDone frameBuilt settle
     ran e = rw (ok, e)
 
-  -- chroma's lists of a frame without chroma, whatever the answer
   abbrev after : Lent
   after = frameOf f n l .lists
+
+  abbrev built : Done
+  built = frameBuilt f (n .steps) (builtGrids f n (l .grids)) (l .planes)
+
+  -- ---- chroma's lists of a frame without chroma, whatever the answer
 
   settled : (a : Answer) (p q : Planes) → q .u ≡ p .u → q .v ≡ p .v → (settle a p q .u ≡ p .u) × (settle a p q .v ≡ p .v)
   unfolding settle
   settled Accepted p q e g = (e, g)
   settled (Refused r) p q e g = (refl, refl)
 
+  planes-kept : chromaOn f ≡ false → (built .lists .planes .u ≡ l .planes .u) × (built .lists .planes .v ≡ l .planes .v)
+  unfolding frameBuilt runFrame pick
+  planes-kept off =
+      settled (frameLate f (builtGrids f n (l .grids)) (l .planes)) (l .planes) (runFrame f (n .steps) (builtGrids f n (l .grids)) (l .planes)) (rw off) (rw off)
+
+  grid-kept : chromaOn f ≡ false → built .lists .grids .chroma ≡ l .grids .chroma
+  unfolding frameBuilt builtGrids pick
+  grid-kept off = rw off
+
+  chroma-by : chromaOn f ≡ false → (a : Answer) → (orDone a l built .lists .planes .u ≡ l .planes .u) × (orDone a l built .lists .planes .v ≡ l .planes .v) × (orDone a l built .lists .grids .chroma ≡ l .grids .chroma)
+  unfolding orDone
+  chroma-by off (Refused r) = (refl, refl, refl)
+  chroma-by off Accepted = (planes-kept off .0, planes-kept off .1, grid-kept off)
+
   pub chroma-kept : chromaOn f ≡ false → (after .planes .u ≡ l .planes .u) × (after .planes .v ≡ l .planes .v) × (after .grids .chroma ≡ l .grids .chroma)
   unfolding frameOf
-  chroma-kept off = go (frameEarly f (lengthsOf n l) n)
-    where
-      abbrev late : Done
-      late = frameBuilt f (n .steps) (builtGrids f n (l .grids)) (l .planes)
+  chroma-kept off = chroma-by off (frameEarly f (lengthsOf n l) n)
 
-      planes-kept : (late .lists .planes .u ≡ l .planes .u) × (late .lists .planes .v ≡ l .planes .v)
-      unfolding frameBuilt runFrame pick
-      planes-kept = settled (frameLate f (builtGrids f n (l .grids)) (l .planes)) (l .planes) (runFrame f (n .steps) (builtGrids f n (l .grids)) (l .planes)) (rw off) (rw off)
+  -- ---- a refusal leaves the planes as lent, whatever its number
 
-      grid-kept : late .lists .grids .chroma ≡ l .grids .chroma
-      unfolding frameBuilt builtGrids pick
-      grid-kept = rw off
+  kept-by : (a : Answer) (q : Planes) {r : Refusal} → a ≡ Refused r → settle a (l .planes) q ≡ l .planes
+  unfolding settle
+  kept-by a q h = rw h
 
-      go : (a : Answer) → (orDone a l late .lists .planes .u ≡ l .planes .u) × (orDone a l late .lists .planes .v ≡ l .planes .v) × (orDone a l late .lists .grids .chroma ≡ l .grids .chroma)
-      unfolding orDone
-      go (Refused r) = (refl, refl, refl)
-      go Accepted = (planes-kept .0, planes-kept .1, grid-kept)
+  refused-by : (a : Answer) {r : Refusal} → orDone a l built .answer ≡ Refused r → orDone a l built .lists .planes ≡ l .planes
+  unfolding orDone frameBuilt
+  refused-by (Refused x) h = refl
+  refused-by Accepted h = kept-by (frameLate f (builtGrids f n (l .grids)) (l .planes)) _ h
 
-  -- a refusal leaves the planes as lent, whatever its number
   pub refused-kept : {r : Refusal} → frameOf f n l .answer ≡ Refused r → after .planes ≡ l .planes
-  unfolding frameOf orDone frameBuilt
-  refused-kept e = go (frameEarly f (lengthsOf n l) n) e
-    where
-      abbrev late : Answer
-      late = frameLate f (builtGrids f n (l .grids)) (l .planes)
+  unfolding frameOf
+  refused-kept e = refused-by (frameEarly f (lengthsOf n l) n) e
 
-      kept : (a : Answer) (q : Planes) {r : Refusal} → a ≡ Refused r → settle a (l .planes) q ≡ l .planes
-      unfolding settle
-      kept a q h = rw h
+  -- ---- one by 7 has passed every early check
 
-      go : (a : Answer) {r : Refusal} → orDone a l (frameBuilt f (n .steps) (builtGrids f n (l .grids)) (l .planes)) .answer ≡ Refused r → orDone a l (frameBuilt f (n .steps) (builtGrids f n (l .grids)) (l .planes)) .lists .planes ≡ l .planes
-      unfolding orDone frameBuilt
-      go (Refused x) h = refl
-      go Accepted h = kept late _ h
+  room-by : (a : Answer) {k : ℕ} → early a ≡ true → orDone a l built .answer ≡ Refused (Room k) → a ≡ Accepted
+  unfolding orDone
+  room-by Accepted h g = refl
+  room-by (Refused x) h g = let z : true ≡ false = sym h ∙ ap early g in absurd (let y : _≡_ {A = ℕ} 0 1 = cc in omega arith)
 
-  -- one by 7 has passed every early check
   pub room-early : {k : ℕ} → frameOf f n l .answer ≡ Refused (Room k) → frameEarly f (lengthsOf n l) n ≡ Accepted
   unfolding frameOf
-  room-early e = go (frameEarly f (lengthsOf n l) n) (early-checks f (lengthsOf n l) n) e
-    where
-      go : (a : Answer) {k : ℕ} → early a ≡ true → orDone a l (frameBuilt f (n .steps) (builtGrids f n (l .grids)) (l .planes)) .answer ≡ Refused (Room k) → a ≡ Accepted
-      unfolding orDone
-      go Accepted h g = refl
-      go (Refused x) h g = let z : true ≡ false = sym h ∙ ap early g in absurd (let y : _≡_ {A = ℕ} 0 1 = cc in omega arith)
+  room-early e = room-by (frameEarly f (lengthsOf n l) n) (early-checks f (lengthsOf n l) n) e

@@ -1,4 +1,4 @@
--- A frame at each of its ways out: refused by its early checks, refused with its grids built, and run.
+-- A frame at each of its ways out: refused by its early checks, refused by its late ones with its grids built, and run.
 -- Assumes nothing.
 use mathlib.Core.Path.{_≡_, refl, sym, ap, _∙_}
 use mathlib.Core.Bool.{Bool, true, false}
@@ -13,12 +13,12 @@ use Rattle.rules.specs.declared.refusals.Answer.the-variants.{Accepted, Refused
 use Rattle.rules.specs.declared.refusals.Found.the-variants.{Nothing}
 use Rattle.rules.specs.Refusals.{settle}
 use Rattle.rules.specs.Plane.{Grid, runPlane, noRoom}
-use Rattle.rules.specs.Frame.{Planes, Given, Lent, planes, grids, lent, done, lengthsOf, lumaPlane, chromaPlane, lumaTu, chromaTu, lumaQ, chromaQ, chromaOn, builtGrid, builtGrids, frameEarly, frameRoom, frameLate, runFrame, frameBuilt, orDone, frameOf}
+use Rattle.rules.specs.Frame.{Planes, Given, Done, planes, grids, lent, done, lengthsOf, lumaPlane, chromaPlane, lumaTu, chromaTu, lumaQ, chromaQ, chromaOn, builtGrid, builtGrids, frameEarly, frameRoom, frameLate, runFrame, frameBuilt, orDone, frameOf}
 use Rattle.scan.proofs.Checks.{else-parts, found-nothing, only-part}
 
 -- ---- room, by the accepted late checks
 
-module _ {f : Frame} {l c : Grid} {p : Planes} {a : Answer} (is : a ≡ frameLate f (grids l c) p) (ok : a ≡ Accepted) where
+module _ (f : Frame) (l c : Grid) (p : Planes) {a : Answer} (is : a ≡ frameLate f (grids l c) p) (ok : a ≡ Accepted) where
   rooms : frameRoom f (grids l c) ≡ Accepted
   unfolding frameLate
   rooms = else-parts _ _ (sym is ∙ ok) .0
@@ -31,7 +31,18 @@ module _ {f : Frame} {l c : Grid} {p : Planes} {a : Answer} (is : a ≡ frameLat
   unfolding frameRoom
   chroma-room on = found-nothing _ Room (only-part _ _ (else-parts _ _ rooms .1) on)
 
--- ---- the ways out
+-- ---- the ways out of a frame whose grids are built
+
+module _ (f : Frame) (steps : List ℕ) (l c : Grid) (p : Planes) {a : Answer} (is : a ≡ frameLate f (grids l c) p) where
+  pub late-stop : {r : Refusal} → a ≡ Refused r → done (Refused r) (lent p (grids l c)) ≡ frameBuilt f steps (grids l c) p
+  unfolding frameBuilt settle
+  late-stop e = rw (sym is ∙ e)
+
+  pub late-run : {y u v : List ℕ} → a ≡ Accepted → y ≡ pick true (runPlane (lumaPlane f) steps l (p .y)) (p .y) → u ≡ pick (chromaOn f) (runPlane (chromaPlane f) steps c (p .u)) (p .u) → v ≡ pick (chromaOn f) (runPlane (chromaPlane f) steps c (p .v)) (p .v) → done Accepted (lent (planes y u v) (grids l c)) ≡ frameBuilt f steps (grids l c) p
+  unfolding frameBuilt settle runFrame pick
+  late-run e ry ru rv = rw (sym is ∙ e, ry, ru, rv)
+
+-- ---- the ways out of the entry
 
 module _ (f : Frame) (n : Given) (p : Planes) (l c : Grid) {a : Answer} (is : a ≡ frameEarly f (lengthsOf n (lent p (grids l c))) n) where
   pub frame-refused : {r : Refusal} → a ≡ Refused r → done (Refused r) (lent p (grids l c)) ≡ frameOf f n (lent p (grids l c))
@@ -39,19 +50,6 @@ module _ (f : Frame) (n : Given) (p : Planes) (l c : Grid) {a : Answer} (is : a 
   frame-refused e = rw (sym is ∙ e)
 
   -- both grids built, as l' and c'
-  module _ (ok : a ≡ Accepted) {l' c' : Grid} (luma : l' ≡ pick true (builtGrid (lumaTu f) (lumaQ f) (n .leaves) (n .skips) (n .sbq) l) l) (chroma : c' ≡ pick (chromaOn f) (builtGrid (chromaTu f) (chromaQ f) (n .chromaLeaves) (n .skips) (n .sbq) c) c) {b : Answer} (late : b ≡ frameLate f (grids l' c') p) where
-    built : grids l' c' ≡ builtGrids f n (grids l c)
-    unfolding builtGrids pick
-    built = rw (luma, chroma)
-
-    accepted : frameOf f n (lent p (grids l c)) ≡ frameBuilt f (n .steps) (grids l' c') p
-    unfolding frameOf orDone
-    accepted = rw (built, sym is ∙ ok)
-
-    pub frame-late : {r : Refusal} → b ≡ Refused r → done (Refused r) (lent p (grids l' c')) ≡ frameOf f n (lent p (grids l c))
-    unfolding frameBuilt settle
-    frame-late e = rw (accepted, sym late ∙ e)
-
-    pub frame-run : {y u v : List ℕ} → b ≡ Accepted → y ≡ pick true (runPlane (lumaPlane f) (n .steps) l' (p .y)) (p .y) → u ≡ pick (chromaOn f) (runPlane (chromaPlane f) (n .steps) c' (p .u)) (p .u) → v ≡ pick (chromaOn f) (runPlane (chromaPlane f) (n .steps) c' (p .v)) (p .v) → done Accepted (lent (planes y u v) (grids l' c')) ≡ frameOf f n (lent p (grids l c))
-    unfolding frameBuilt settle runFrame pick
-    frame-run e ry ru rv = rw (accepted, sym late ∙ e, ry, ru, rv)
+  pub frame-built : {l' c' : Grid} {d : Done} → a ≡ Accepted → l' ≡ pick true (builtGrid (lumaTu f) (lumaQ f) (n .leaves) (n .skips) (n .sbq) l) l → c' ≡ pick (chromaOn f) (builtGrid (chromaTu f) (chromaQ f) (n .chromaLeaves) (n .skips) (n .sbq) c) c → d ≡ frameBuilt f (n .steps) (grids l' c') p → d ≡ frameOf f n (lent p (grids l c))
+  unfolding frameOf orDone builtGrids pick
+  frame-built ok luma chroma e = rw (sym is ∙ ok, ← luma, ← chroma) e

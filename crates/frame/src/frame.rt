@@ -1,8 +1,7 @@
-// A frame's entry: the early checks, both grids built, the late checks, and the planes run.
+// A frame's entry: the early checks, both grids built, and the planes filtered by them.
+use super::filter::filter;
 use frame_checks::early::frame_early;
 use frame_planes::build::build;
-use frame_planes::late::late;
-use frame_planes::run::run;
 use rules::lent::FrameLengths;
 use rules::lent::GridLengths;
 use rules::refusals::Answer;
@@ -66,12 +65,5 @@ pub fn deblock_frame(
     }
     build(lv, lh, lw, lt, lq, leaves, skips, sbq, f, false);
     build(cv, ch, cw, ct, cq, chromaleaves, skips, sbq, f, true);
-    let b = late(y, u, v, lv, lh, lw, lt, cv, ch, cw, ct, f);
-    if let Answer::Refused(r) = b {
-        return Answer::Refused(r);
-    }
-    run(y, lv, lh, lw, lt, lq, steps, f, false);
-    run(u, cv, ch, cw, ct, cq, steps, f, true);
-    run(v, cv, ch, cw, ct, cq, steps, f, true);
-    Answer::Accepted
+    filter(y, u, v, lv, lh, lw, lt, lq, cv, ch, cw, ct, cq, steps, f)
 }

@@ -67,7 +67,7 @@ module _ {f : Frame} {n : Given} {p left : Planes} {a : Answer} (d : Deblocked f
   unfolding deblocked
   luma-fit e is =
       let ok = room-early f n (lent p (grids zeroGrid zeroGrid)) (sym (d .answer) ∙ e ∙ ap Refused is) in
-      record { size = length (p .y); sampled = luma-sampled ok; built = luma-built ok }
+      record { size = length (p .y); sampled = luma-sampled _ _ _ ok; built = luma-built _ _ _ ok }
 
   -- a refused one has its planes as lent
   kept : {r : Refusal} → a ≡ Refused r → left ≡ p

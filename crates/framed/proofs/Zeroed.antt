@@ -32,6 +32,11 @@ module _ (f : Frame) (n : Given) (p : Planes) {r : Answer} {left : Planes} {g : 
 
 -- ---- where an edge lacks room
 
+found-first : (m : Found) (a b : Place) {x : Refusal} → found m Room ≡ Refused x → a ≡ ifFound m a b
+unfolding found ifFound
+found-first (At j) a b e = refl
+found-first Nothing a b e = refused-not (sym e)
+
 module _ {f : Frame} {leaves skips sbq : List ℕ} where
   -- luma's grid by lists that were all zero when it was built
   pub luma-room-is : {v h w t q v' h' w' t' q' : List ℕ} {r : Answer} → ((p : List ℕ) → r ≡ onlyIf true (found (noRoom (lumaPlane f) (grid v' h' w' t' p)) Room)) → grid v' h' w' t' q' ≡ pick true (builtGrid (lumaTu f) (lumaQ f) leaves skips sbq (grid v h w t q)) (grid v h w t q) → v ≡ zeros → h ≡ zeros → w ≡ zeros → t ≡ zeros → q ≡ zeros → r ≡ found (noRoom (lumaPlane f) (lumaGrid f leaves skips sbq)) Room
@@ -41,12 +46,7 @@ module _ {f : Frame} {leaves skips sbq : List ℕ} where
   module _ (k : ℕ) {a : Answer} {r : Place} (is : a ≡ found (noRoom (lumaPlane f) (lumaGrid f leaves skips sbq)) Room) where
     pub in-luma : {x : Refusal} → a ≡ Refused x → r ≡ placeIn 0 k (f .lumastride / 4) → r ≡ roomPlace f leaves skips sbq k
     unfolding roomPlace
-    in-luma e g = g ∙ go (noRoom (lumaPlane f) (lumaGrid f leaves skips sbq)) (sym is ∙ e)
-      where
-        go : (m : Found) {x : Refusal} {a b : Place} → found m Room ≡ Refused x → a ≡ ifFound m a b
-        unfolding found ifFound
-        go (At j) e = refl
-        go Nothing e = refused-not (sym e)
+    in-luma e g = g ∙ found-first (noRoom (lumaPlane f) (lumaGrid f leaves skips sbq)) _ _ (sym is ∙ e)
 
     pub in-chroma : a ≡ Accepted → r ≡ placeIn 3 k (f .chromastride / 4) → r ≡ roomPlace f leaves skips sbq k
     unfolding roomPlace ifFound

@@ -1,0 +1,6 @@
+-- The laws of a frame's answer, one file a subject.
+pub mod Chain
+pub mod Answers
+pub mod Lengths
+pub mod Planes
+pub mod Accepts
