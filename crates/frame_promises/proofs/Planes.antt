@@ -29,7 +29,7 @@ use Rattle.frame.specs.Fit.{Stepped, Gridded}
 use Rattle.frame.proofs.Given.{luma-sampled, u-sampled, v-sampled, luma-stepped, chroma-stepped, luma-built, chroma-built}
 use Rattle.frame.proofs.Grids.{gridded}
 use Rattle.frame.proofs.Ways.{luma-room, chroma-room}
-use Rattle.frame.proofs.Theorems.{ran}
+use Rattle.frame_promises.proofs.Theorems.{ran}
 use Rattle.frame_promises.proofs.Answers.{answer-is}
 use Rattle.frame_promises.proofs.Lengths.{tx-lengths, q-length}
 

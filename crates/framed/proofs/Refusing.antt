@@ -11,7 +11,7 @@ use Rattle.rules.specs.declared.refusals.Answer.{Answer}
 use Rattle.rules.specs.declared.refusals.Answer.the-variants.{Accepted, Refused}
 use Rattle.rules.specs.Frame.{Planes, Given, lent, grids}
 use Rattle.frame.proofs.Given.{luma-sampled, luma-built}
-use Rattle.frame.proofs.Theorems.{refused-kept, room-early}
+use Rattle.frame_promises.proofs.Theorems.{refused-kept, room-early}
 use Rattle.asked.specs.declared.places.Place.{Place}
 use Rattle.asked.specs.declared.lists.Lists.{Lists}
 use Rattle.asked.specs.Lists.{listsAsked, stepsAsked}

@@ -24,7 +24,7 @@ one-result f n l e g = let h = e ∙ sym g in (ap (λ (d : Done). d .answer) h, 
 
 -- ---- 7 and 8 are not among the early checks
 
-before7 : Refusal → Bool
+abbrev before7 : Refusal → Bool
 before7 Depth = true
 before7 Size = true
 before7 Length = true
@@ -35,7 +35,7 @@ before7 (Room k) = false
 before7 (Sample k) = false
 before7 (Leaf k) = true
 
-early : Answer → Bool
+abbrev early : Answer → Bool
 early Accepted = true
 early (Refused r) = before7 r
 
