@@ -83,14 +83,16 @@ module _ {f : Frame} {chroma : Bool} {v h w t q : List ℕ} {size : ℕ} (k : Gr
       record { sized = k .sampled .sized; vert = r .0; horz = r .1 }
 
   pub checked : {steps : List ℕ} → Stepped f chroma steps → noRoom (planeOf f chroma) (grid v h w t q) ≡ Nothing → Sized f × Checked (planeOf f chroma) steps (grid v h w t q) size
-  checked s room =
-      (k .sampled .sized, record {
-        depth = k .sampled .depth;
-        sizes-ok = k .sampled .sizes-ok;
-        lengths = k .lengths;
-        steps-ok = s .steps-ok;
-        deltaq-ok = s .deltaq-ok;
-        deltaside-ok = s .deltaside-ok;
-        cells = k .cells;
-        room = room;
-      })
+  checked s room = (
+    k .sampled .sized,
+    record {
+      depth = k .sampled .depth;
+      sizes-ok = k .sampled .sizes-ok;
+      lengths = k .lengths;
+      steps-ok = s .steps-ok;
+      deltaq-ok = s .deltaq-ok;
+      deltaside-ok = s .deltaside-ok;
+      cells = k .cells;
+      room = room;
+    },
+  )

@@ -32,7 +32,16 @@ fn luma_room(leaves: &[u16], skips: &[u16], sbq: &[u16], f: Frame) -> Answer
     let mut t = marks();
     let mut q = indices();
     build(
-        &mut v, &mut h, &mut w, &mut t, &mut q, leaves, skips, sbq, f, false,
+        &mut v,
+        &mut h,
+        &mut w,
+        &mut t,
+        &mut q,
+        leaves,
+        skips,
+        sbq,
+        f,
+        false,
     );
     room(&v, &h, &w, &t, f, false)
 }

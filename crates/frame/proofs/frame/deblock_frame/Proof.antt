@@ -43,12 +43,14 @@ filter-requires c κs =
     let ok = sym (s3 .frame-early .ensures []) ∙ s2 .enum-told .given .1 in
     let k = s1 .build .kept in
     let luma = gridded _ _ (luma-sampled _ _ _ ok) (luma-built _ _ _ ok) (k .0) (k .1 .0) (k .1 .1 .0) (k .1 .1 .1 .0) (k .1 .1 .1 .1 .0) refl (s1 .build .ensures) in
-    let k = s0 .build2 .kept in
-    ((luma-stepped _ _ _ ok, luma), λ on. (
-      chroma-stepped _ _ _ ok,
-      gridded _ _ (u-sampled _ _ _ ok on) (chroma-built _ _ _ ok on) (k .0) (k .1 .0) (k .1 .1 .0) (k .1 .1 .1 .0) (k .1 .1 .1 .1 .0) on (s0 .build2 .ensures),
-      gridded _ _ (v-sampled _ _ _ ok on) (chroma-built _ _ _ ok on) (k .0) (k .1 .0) (k .1 .1 .0) (k .1 .1 .1 .0) (k .1 .1 .1 .1 .0) on (s0 .build2 .ensures),
-    ))
+    let k = s0 .build2 .kept in (
+      (luma-stepped _ _ _ ok, luma),
+      λ on. (
+        chroma-stepped _ _ _ ok,
+        gridded _ _ (u-sampled _ _ _ ok on) (chroma-built _ _ _ ok on) (k .0) (k .1 .0) (k .1 .1 .0) (k .1 .1 .1 .0) (k .1 .1 .1 .1 .0) on (s0 .build2 .ensures),
+        gridded _ _ (v-sampled _ _ _ ok on) (chroma-built _ _ _ ok on) (k .0) (k .1 .0) (k .1 .1 .0) (k .1 .1 .1 .0) (k .1 .1 .1 .1 .0) on (s0 .build2 .ensures),
+      ),
+    )
 
 same-length : tie.Need-same-length
 same-length c =
