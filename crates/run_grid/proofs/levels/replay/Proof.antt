@@ -1,8 +1,8 @@
 -- `replay` lends the fronts of both lists. Assumes nothing.
 use borrow.Author.Needs.{needs}
 use Rattle.laws.specs.Lists.{front}
-use Rattle.run_grid.proofs.qindex.replay.Statement.{statement}
-use Rattle.run_grid.proofs.qindex.replay.Tie as tie
+use Rattle.run_grid.proofs.levels.replay.Statement.{statement}
+use Rattle.run_grid.proofs.levels.replay.Tie as tie
 
 slice-aggregate-read : tie.Need-slice-aggregate-read
 slice-aggregate-read c = search needs
