@@ -59,7 +59,7 @@ superblock-requires c κs = ((c .before .before .before .before .before .before 
 
 sweep-requires : tie.Need-sweep-requires Inv-loop μ-loop
 unfolding sbCols
-sweep-requires c κs = (field-same (c .before .before .before .loop .inv .2) (c .before .before .before .before .before .before .before .before .before .before .before .before .pre .1), sb-part (c .before .before .before .before .before .before .before .before .before .before .before .before .pre .0 .ready .sizes-ok) _ (c .superblock .ensures) (sb-last (c .before .before .before .before .before .before .before .before .before .before .before .before .pre .0 .ready .sizes-ok)))
+sweep-requires c κs = (field-same (c .before .before .before .loop .inv .2) (c .before .before .before .before .before .before .before .before .before .before .before .before .pre .1), sb-part (c .before .before .before .before .before .before .before .before .before .before .before .before .pre .0 .ready .sizes-ok) _ (c .superblock .ensures) (sb-last (c .before .before .before .before .before .before .before .before .before .before .before .before .pre .0 .ready .sizes-ok)), omega arith)
 
 plus-requires-2 : tie.Need-plus-requires-2 Inv-loop μ-loop
 unfolding sbCols

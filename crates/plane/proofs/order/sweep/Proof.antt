@@ -26,7 +26,7 @@ loop-holds : tie.Need-loop-holds Inv-loop μ-loop
 loop-holds c = (search needs, ran-none _ _ refl, refl, search needs)
 
 line-requires : tie.Need-line-requires Inv-loop μ-loop
-line-requires c κs = (field-same (c .before .before .loop .inv .2) (c .before .before .before .before .before .before .before .before .pre .0), (c .before .before .before .before .before .before .before .before .pre .1), omega (arith, (c .before .before .before .by-dir .ensures)))
+line-requires c κs = (field-same (c .before .before .loop .inv .2) (c .before .before .before .before .before .before .before .before .pre .0), (c .before .before .before .before .before .before .before .before .pre .1), (c .before .before .before .before .before .before .before .before .pre .2), omega (arith, (c .before .before .before .by-dir .ensures)))
 
 plus-requires : tie.Need-plus-requires Inv-loop μ-loop
 plus-requires c κs = (omega (arith, (c .before .before .before .before .before .loop .inv .3), (c .before .before .before .before .before .loop .inv .0), lines-most (c .before .before .before .before .before .before .before .before .before .before .before .args .dir) (c .before .before .before .before .before .before .before .before .before .before .before .pre .0 .ready .sizes-ok) (c .before .before .before .before .before .before .before .before .before .before .before .pre .1) (c .before .before .before .before .before .before .by-dir .ensures)), omega (arith, (c .before .before .line .ensures .1)))

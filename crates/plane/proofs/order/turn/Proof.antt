@@ -11,7 +11,7 @@ superblock-requires : tie.Need-superblock-requires
 superblock-requires c κs = ((c .before .before .before .before .before .before .before .pre .0 .ready .sizes-ok), (c .before .before .before .before .before .before .before .pre .2))
 
 sweep-requires : tie.Need-sweep-requires
-sweep-requires c κs = ((c .before .before .before .before .before .before .before .before .pre .0), sb-part (c .before .before .before .before .before .before .before .before .pre .0 .ready .sizes-ok) _ (c .superblock .ensures) (c .before .before .before .before .before .before .before .before .pre .2))
+sweep-requires c κs = ((c .before .before .before .before .before .before .before .before .pre .0), sb-part (c .before .before .before .before .before .before .before .before .pre .0 .ready .sizes-ok) _ (c .superblock .ensures) (c .before .before .before .before .before .before .before .before .pre .2), omega arith)
 
 same-length : tie.Need-same-length
 same-length c = search needs
@@ -26,7 +26,7 @@ superblock-requires-2 : tie.Need-superblock-requires-2
 superblock-requires-2 c κs = ((c .before .before .before .before .before .before .before .before .before .before .before .before .before .pre .0 .ready .sizes-ok), omega (arith, (c .before .before .before .before .before .before .before .before .before .before .before .before .before .pre .2)))
 
 sweep-requires-2 : tie.Need-sweep-requires-2
-sweep-requires-2 c κs = (field-same (search needs) (c .before .before .before .before .before .before .before .before .before .before .before .before .before .before .pre .1), sb-part (c .before .before .before .before .before .before .before .before .before .before .before .before .before .before .pre .0 .ready .sizes-ok) _ (c .superblock2 .ensures) (omega (arith, (c .before .before .before .before .before .before .before .before .before .before .before .before .before .before .pre .2))))
+sweep-requires-2 c κs = (field-same (search needs) (c .before .before .before .before .before .before .before .before .before .before .before .before .before .before .pre .1), sb-part (c .before .before .before .before .before .before .before .before .before .before .before .before .before .before .pre .0 .ready .sizes-ok) _ (c .superblock2 .ensures) (omega (arith, (c .before .before .before .before .before .before .before .before .before .before .before .before .before .before .pre .2))), omega arith)
 
 plus-requires : tie.Need-plus-requires
 plus-requires c κs = (omega (arith, (c .before .before .before .before .before .before .before .before .sweep .ensures .1)), omega (arith, (c .before .before .sweep2 .ensures .1)))
