@@ -10,7 +10,6 @@ use cells::pair::shortened_at;
 use rules::depth::Depth;
 use rules::settings::Plane;
 use segment::filter_edge;
-ghost use mathlib.Core.Path.{_≡_};
 ghost use Prim.Native.Nat.{_+_, _*_, _≤_, _<_};
 ghost use lib.Dec.{eqb};
 ghost use lib.ListN.{length};
