@@ -6,7 +6,10 @@ use Rattle.plane.proofs.order.cell.Statement.{statement}
 use Rattle.plane.proofs.order.cell.Tie as tie
 
 in-row-requires : tie.Need-in-row-requires
-in-row-requires c κs = (field-as (c .before .if1 .taken) (c .before .before .before .before .before .before .pre .0), (c .before .before .before .before .before .before .pre .1), row-in (c .before .before .before .before .before .before .pre .2) (c .before .if1 .taken) .0, row-in (c .before .before .before .before .before .before .pre .2) (c .before .if1 .taken) .1)
+in-row-requires c κs =
+    let given = c .before .before .before .before .before .before .pre in
+    let branch = c .before .if1 in
+    (field-as (branch .taken) (given .0), (given .1), row-in (given .2) (branch .taken) .0, row-in (given .2) (branch .taken) .1)
 
 same-length : tie.Need-same-length
 same-length c = search needs
@@ -15,7 +18,10 @@ returns : tie.Need-returns
 returns c = (row-visit _ (c .before .before .before .before .before .before .before .before .before .args .p) _ _ (c .before .before .before .before .if1 .taken) (c .before .before .in-row .ensures .0), (c .before .before .in-row .ensures .1))
 
 in-column-requires : tie.Need-in-column-requires
-in-column-requires c κs = (field-as (is-one (c .before .before .before .before .before .before .pre .2 .two) (c .before .if1 .left)) (c .before .before .before .before .before .before .pre .0), (c .before .before .before .before .before .before .pre .1), column-in (c .before .before .before .before .before .before .pre .2) (c .before .if1 .left) .0, column-in (c .before .before .before .before .before .before .pre .2) (c .before .if1 .left) .1)
+in-column-requires c κs =
+    let given = c .before .before .before .before .before .before .pre in
+    let branch = c .before .if1 in
+    (field-as (is-one (given .2 .two) (branch .left)) (given .0), (given .1), column-in (given .2) (branch .left) .0, column-in (given .2) (branch .left) .1)
 
 same-length-2 : tie.Need-same-length-2
 same-length-2 c = search needs

@@ -11,7 +11,9 @@ add-visit-2 : tie.Need-add-visit-2
 add-visit-2 c = col-fits (c .before .before .before .before .before .before .before .pre .0 .ready .sizes-ok) (c .before .before .before .before .before .before .before .pre .1) (c .before .before .before .before .before .before .before .pre .2)
 
 visit-requires : tie.Need-visit-requires
-visit-requires c κs = ((c .before .before .before .before .before .before .before .pre .0), part-cell (c .before .before .before .before .before .before .before .pre .1) (c .before .before .before .before .before .before .before .pre .3) (c .before .before .before .before .before .before .before .pre .2))
+visit-requires c κs =
+    let given = c .before .before .before .before .before .before .before .pre in
+    ((given .0), part-cell (given .1) (given .3) (given .2))
 
 same-length : tie.Need-same-length
 same-length c = search needs
