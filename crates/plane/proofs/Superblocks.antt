@@ -2,7 +2,7 @@
 -- Assumes nothing.
 use mathlib.Core.Path.{_≡_, refl, sym}
 use mathlib.Core.Bool.{Bool, true, false}
-use mathlib.Core.List.{List, [], append-nil}
+use mathlib.Core.List.{List, append-nil}
 use Prim.Native.Nat.{ℕ, suc, _+_, _*_, _-_, _≤_, _<_, min}
 use native.Mathlib.Nat.{suc-mul, one-mul, le-div-iff-mul-le, div-le-self}
 use native.Mathlib.Omega.{arith}
@@ -18,8 +18,8 @@ use Rattle.rules.specs.Plane.{Grid, grid, marksOf, indicesOf, indexAt, isEdge, 
 use Rattle.cells.specs.Fit.{Sizes, Cell, oneWay}
 use Rattle.plane.specs.declared.part.Part.{Part}
 use Rattle.plane.specs.declared.visited.Visited.{Visited}
-use Rattle.plane.specs.Run.{Ran, PartOf, superblockOf, lineOf}
-use Rattle.plane.proofs.Runs.{ran-same, ran-then, ran-more, ran-end}
+use Rattle.plane.specs.Run.{Ran, PartOf, InPart, superblockOf, lineOf}
+use Rattle.plane.proofs.Runs.{ran-same, ran-then, ran-end}
 
 -- ---- where they stand
 
@@ -78,25 +78,39 @@ module _ {s : Plane} (dir : ℕ) {p : Part} {n : ℕ} (z : Sizes s) (i : PartOf 
   pub line-most : n ≡ pick (eqb dir 0) (p .cols) (p .rows) → n ≤ 1024
   line-most e = pick-most (eqb dir 0) e (omega (arith, i .cols-in, z .cols-most)) (omega (arith, i .rows-in, z .rows-most))
 
--- the cells of a line
-module _ {s : Plane} (dir : ℕ) {p : Part} {k n j a b : ℕ} (i : PartOf s p) (h : k < pick (eqb dir 0) (p .rows) (p .cols)) (of : n ≡ pick (eqb dir 0) (p .cols) (p .rows)) where
-  line-in : a ≡ pick (eqb dir 0) k j → b ≡ pick (eqb dir 0) j k → j < n → Cell s (p .row + a) (p .col + b)
+-- the cells of a line, in each direction
+module _ {dir : ℕ} {p : Part} {k j : ℕ} (l : InPart dir p k j) where
+  pub row-in : dir ≡ 0 → (k < p .rows) × (j < p .cols)
   unfolding pick
-  line-in = go (eqb dir 0) h of
-    where
-      go : (t : Bool) → k < pick t (p .rows) (p .cols) → n ≡ pick t (p .cols) (p .rows) → a ≡ pick t k j → b ≡ pick t j k → j < n → Cell s (p .row + a) (p .col + b)
-      go true h of is-a is-b l = record { in-rows = omega (arith, i .rows-in); in-cols = omega (arith, i .cols-in) }
-      go false h of is-a is-b l = record { in-rows = omega (arith, i .rows-in); in-cols = omega (arith, i .cols-in) }
+  row-in e = (rw (eq-eqb _ _ e) at (l .line-in), rw (eq-eqb _ _ e) at (l .cell-in))
 
-  pub line-cell : {r c : ℕ} → a ≡ pick (eqb dir 0) k j → b ≡ pick (eqb dir 0) j k → r ≡ p .row + a → c ≡ p .col + b → j < n → Cell s r c
-  line-cell is-a is-b at-r at-c l = rw (at-r, at-c) (line-in is-a is-b l)
+  pub column-in : (dir ≡ 0 → ⊥) → (k < p .cols) × (j < p .rows)
+  unfolding pick
+  column-in e = (rw (ne-eqb _ _ e) at (l .line-in), rw (ne-eqb _ _ e) at (l .cell-in))
 
-module _ {s : Plane} (dir : ℕ) {p : Part} {k n j a : ℕ} (z : Sizes s) (i : PartOf s p) (h : k < pick (eqb dir 0) (p .rows) (p .cols)) (of : n ≡ pick (eqb dir 0) (p .cols) (p .rows)) (l : j < n) where
-  pub line-row-fits : a ≡ pick (eqb dir 0) k j → Fits w64 (p .row + a)
-  line-row-fits is = record { fits = omega (arith, line-in dir i h of is refl l .in-rows, z .rows-most) }
+pub part-cell : {s : Plane} {p : Part} {i j : ℕ} → PartOf s p → i < p .rows → j < p .cols → Cell s (p .row + i) (p .col + j)
+part-cell h a b = record { in-rows = omega (arith, h .rows-in); in-cols = omega (arith, h .cols-in) }
 
-  pub line-col-fits : a ≡ pick (eqb dir 0) j k → Fits w64 (p .col + a)
-  line-col-fits is = record { fits = omega (arith, line-in dir i h of refl is l .in-cols, z .cols-most) }
+module _ {s : Plane} {p : Part} {i : ℕ} (z : Sizes s) (h : PartOf s p) where
+  pub row-fits : i < p .rows → Fits w64 (p .row + i)
+  row-fits l = record { fits = omega (arith, h .rows-in, z .rows-most) }
+
+  pub col-fits : i < p .cols → Fits w64 (p .col + i)
+  col-fits l = record { fits = omega (arith, h .cols-in, z .cols-most) }
+
+-- a direction that is not 0 is 1
+pub is-one : {dir : ℕ} → dir ≤ 1 → (dir ≡ 0 → ⊥) → dir ≡ 1
+is-one {dir} h e = omega arith
+
+-- the visit of a cell, as each direction calls it
+module _ {s : Plane} {t : List ℕ} (g : Grid) {dir : ℕ} (p : Part) (k j : ℕ) {x : Visited} {l m : List ℕ} where
+  pub row-visit : dir ≡ 0 → Ran s t (λ steps. visitOf s steps g 0 (p .row + k) (p .col + j)) l x m → Ran s t (λ steps. visitOf s steps g dir (p .row + pick (eqb dir 0) k j) (p .col + pick (eqb dir 0) j k)) l x m
+  unfolding pick
+  row-visit e r = rw e r
+
+  pub column-visit : dir ≡ 1 → Ran s t (λ steps. visitOf s steps g 1 (p .row + j) (p .col + k)) l x m → Ran s t (λ steps. visitOf s steps g dir (p .row + pick (eqb dir 0) k j) (p .col + pick (eqb dir 0) j k)) l x m
+  unfolding pick
+  column-visit e r = rw e r
 
 module _ (s : Plane) (steps : List ℕ) (g : Grid) (dir : ℕ) (p : Part) where
   -- the lines are the part
@@ -110,14 +124,6 @@ module _ (s : Plane) (steps : List ℕ) (g : Grid) (dir : ℕ) (p : Part) where
       go false = refl
 
 module _ {s : Plane} {t : List ℕ} (g : Grid) (dir : ℕ) (p : Part) where
-  -- one more cell of a line
-  pub line-more : (k j : ℕ) {a b r c : ℕ} {x y z : Visited} {l m o : List ℕ} → a ≡ pick (eqb dir 0) k j → b ≡ pick (eqb dir 0) j k → r ≡ p .row + a → c ≡ p .col + b
-      → Ran s t (λ steps. each j (λ i. visitOf s steps g dir (p .row + pick (eqb dir 0) k i) (p .col + pick (eqb dir 0) i k))) l x m
-      → Ran s t (λ steps. visitOf s steps g dir r c) m y o → z .edges ≡ x .edges + y .edges
-      → Ran s t (λ steps. each (j + 1) (λ i. visitOf s steps g dir (p .row + pick (eqb dir 0) k i) (p .col + pick (eqb dir 0) i k))) l z o
-  line-more k j is-a is-b at-r at-c one two sum =
-      ran-more (λ steps i. visitOf s steps g dir (p .row + pick (eqb dir 0) k i) (p .col + pick (eqb dir 0) i k)) j one (rw (at-r, at-c, is-a, is-b) at two) sum
-
   pub line-is : (k : ℕ) {j n : ℕ} {x : Visited} {l m : List ℕ} → Ran s t (λ steps. each j (λ i. visitOf s steps g dir (p .row + pick (eqb dir 0) k i) (p .col + pick (eqb dir 0) i k))) l x m
       → n ≡ pick (eqb dir 0) (p .cols) (p .rows) → j ≤ n → n ≤ j → Ran s t (λ steps. lineOf s steps g dir p k) l x m
   unfolding lineOf
@@ -156,4 +162,4 @@ edges-are {s} g {k} one l m two sum =
     ran-then (λ steps. each (sbCols s) (λ sb. turnOf s steps g sb)) (λ steps. columnOf s steps g 1 (sbCols s - 1))
     (ran-end (λ steps sb. turnOf s steps g sb) k (sbCols s) one l m) two sum
 
-pub ruleset blocks = (needs, sb-some, sb-last, sb-most, sb-start, sb-start-fits, sb-part, sb-is, lines-most, line-most, line-cell, line-row-fits, line-col-fits)
+pub ruleset blocks = (needs, sb-some, sb-last, sb-most, sb-start, sb-start-fits, sb-part, sb-is, lines-most, line-most)

@@ -3,7 +3,7 @@
 use mathlib.Core.Path.{_≡_}
 use mathlib.Core.Bool.{true}
 use mathlib.Core.List.{List, []}
-use Prim.Native.Nat.{ℕ, _+_, _*_, _/_, _%_, _≤_}
+use Prim.Native.Nat.{ℕ, _+_, _*_, _/_, _%_, _≤_, _<_}
 use lib.Dec.{eqb}
 use lib.ListN.{length, getD}
 use Rattle.laws.specs.Choose.{pick}
@@ -56,6 +56,12 @@ pub record Ran (s : Plane) (t : List ℕ) (edges : List ℕ → List Edge) (p : 
 pub record PartOf (s : Plane) (p : Part) : Type 0 where
   pub rows-in : p .row + p .rows ≤ s .rows
   pub cols-in : p .col + p .cols ≤ s .cols
+
+-- the j-th cell of the k-th line of a part is there, in direction 0 or 1
+pub record InPart (dir : ℕ) (p : Part) (k j : ℕ) : Type 0 where
+  pub two : dir ≤ 1
+  pub line-in : k < pick (eqb dir 0) (p .rows) (p .cols)
+  pub cell-in : j < pick (eqb dir 0) (p .cols) (p .rows)
 
 unfoldable pub superblockOf : Plane → ℕ → Part
 superblockOf s sb = record { row = 0; rows = s .rows; col = startOf s sb; cols = countOf s sb }

@@ -10,14 +10,13 @@ use cells::pair::shortened_at;
 use rules::depth::Depth;
 use rules::settings::Plane;
 use segment::filter_edge;
-ghost use mathlib.Core.Path.{_≡_};
 ghost use Prim.Native.Nat.{_+_, _*_, _≤_, _<_};
 ghost use lib.Dec.{eqb};
 ghost use lib.ListN.{length};
 ghost use Rattle.laws.specs.Choose.{pick};
 ghost use Rattle.rules.specs.Plane.{grid, visitOf, sbCols, sweepOf, turnOf, edgesOf};
 ghost use Rattle.cells.specs.Fit.{Cell, oneWay};
-ghost use Rattle.plane.specs.Run.{Field, PartOf, lineOf, Ran};
+ghost use Rattle.plane.specs.Run.{Field, PartOf, InPart, lineOf, Ran};
 
 // The edge of one cell, where it has one.
 fn visit(
@@ -44,6 +43,84 @@ fn visit(
     Visited { edges: 1 }
 }
 
+// The vertical edge of the j-th cell of a part's k-th row. Each direction has a visit of its own, which the compiler makes for it.
+fn in_row(
+    plane: &mut [u16],
+    marks: &[u8],
+    sizes: &[u8],
+    qindex: &[u16],
+    table: &[u32; 1416],
+    s: Plane,
+    p: Part,
+    k: usize,
+    j: usize,
+) -> Visited
+    requires { ⌜ Field s (now marks) (now sizes) (now qindex) (now table) (length (now plane)) 0 × PartOf s p × (k < p .rows) × (j < p .cols) ⌝ }
+    ensures { λ a. ⌜ Ran s (now (table .entry)) (λ steps. visitOf s steps (oneWay (now (marks .entry)) (now (sizes .entry)) (now (qindex .entry))) 0 (p .row + k) (p .col + j)) (now (plane .entry)) a (now (plane .exit)) × (a .edges ≤ 1) ⌝ }
+{
+    visit(
+        plane,
+        marks,
+        sizes,
+        qindex,
+        table,
+        s,
+        0,
+        p.row + k,
+        p.col + j,
+    )
+}
+
+// The horizontal edge of the j-th cell of a part's k-th column.
+fn in_column(
+    plane: &mut [u16],
+    marks: &[u8],
+    sizes: &[u8],
+    qindex: &[u16],
+    table: &[u32; 1416],
+    s: Plane,
+    p: Part,
+    k: usize,
+    j: usize,
+) -> Visited
+    requires { ⌜ Field s (now marks) (now sizes) (now qindex) (now table) (length (now plane)) 1 × PartOf s p × (k < p .cols) × (j < p .rows) ⌝ }
+    ensures { λ a. ⌜ Ran s (now (table .entry)) (λ steps. visitOf s steps (oneWay (now (marks .entry)) (now (sizes .entry)) (now (qindex .entry))) 1 (p .row + j) (p .col + k)) (now (plane .entry)) a (now (plane .exit)) × (a .edges ≤ 1) ⌝ }
+{
+    visit(
+        plane,
+        marks,
+        sizes,
+        qindex,
+        table,
+        s,
+        1,
+        p.row + j,
+        p.col + k,
+    )
+}
+
+// The edge of the j-th cell of a part's k-th line.
+fn cell(
+    plane: &mut [u16],
+    marks: &[u8],
+    sizes: &[u8],
+    qindex: &[u16],
+    table: &[u32; 1416],
+    s: Plane,
+    dir: usize,
+    p: Part,
+    k: usize,
+    j: usize,
+) -> Visited
+    requires { ⌜ Field s (now marks) (now sizes) (now qindex) (now table) (length (now plane)) dir × PartOf s p × InPart dir p k j ⌝ }
+    ensures { λ a. ⌜ Ran s (now (table .entry)) (λ steps. visitOf s steps (oneWay (now (marks .entry)) (now (sizes .entry)) (now (qindex .entry))) dir (p .row + pick (eqb dir 0) k j) (p .col + pick (eqb dir 0) j k)) (now (plane .entry)) a (now (plane .exit)) × (a .edges ≤ 1) ⌝ }
+{
+    if dir == 0 {
+        return in_row(plane, marks, sizes, qindex, table, s, p, k, j);
+    }
+    in_column(plane, marks, sizes, qindex, table, s, p, k, j)
+}
+
 // One line of a part: its k-th row in direction 0, its k-th column in direction 1.
 fn line(
     plane: &mut [u16],
@@ -56,15 +133,13 @@ fn line(
     p: Part,
     k: usize,
 ) -> Visited
-    requires { ⌜ Field s (now marks) (now sizes) (now qindex) (now table) (length (now plane)) dir × PartOf s p × (k < pick (eqb dir 0) (p .rows) (p .cols)) ⌝ }
+    requires { ⌜ Field s (now marks) (now sizes) (now qindex) (now table) (length (now plane)) dir × PartOf s p × (dir ≤ 1) × (k < pick (eqb dir 0) (p .rows) (p .cols)) ⌝ }
     ensures { λ a. ⌜ Ran s (now (table .entry)) (λ steps. lineOf s steps (oneWay (now (marks .entry)) (now (sizes .entry)) (now (qindex .entry))) dir p k) (now (plane .entry)) a (now (plane .exit)) × (a .edges ≤ 1024) ⌝ }
 {
     let n = by_dir(dir, p.cols, p.rows);
     let mut done = Visited { edges: 0 };
     for j in 0..n {
-        let r = p.row + by_dir(dir, k, j);
-        let c = p.col + by_dir(dir, j, k);
-        done = done.plus(visit(plane, marks, sizes, qindex, table, s, dir, r, c));
+        done = done.plus(cell(plane, marks, sizes, qindex, table, s, dir, p, k, j));
     }
     done
 }
@@ -80,7 +155,7 @@ fn sweep(
     dir: usize,
     p: Part,
 ) -> Visited
-    requires { ⌜ Field s (now marks) (now sizes) (now qindex) (now table) (length (now plane)) dir × PartOf s p ⌝ }
+    requires { ⌜ Field s (now marks) (now sizes) (now qindex) (now table) (length (now plane)) dir × PartOf s p × (dir ≤ 1) ⌝ }
     ensures { λ a. ⌜ Ran s (now (table .entry)) (λ steps. sweepOf s steps (oneWay (now (marks .entry)) (now (sizes .entry)) (now (qindex .entry))) dir (p .row) (p .rows) (p .col) (p .cols)) (now (plane .entry)) a (now (plane .exit)) × (a .edges ≤ 1024 * 1024) ⌝ }
 {
     let n = by_dir(dir, p.rows, p.cols);

@@ -6,7 +6,6 @@ use rules::depth::Depth;
 use rules::refusals::Answer;
 use rules::settings::Plane;
 use thresholds::by_qindex::thresholds_by_qindex;
-ghost use mathlib.Core.Path.{_≡_};
 ghost use lib.ListN.{length};
 ghost use Rattle.rules.specs.Plane.{grid};
 ghost use Rattle.plane.specs.Checked.{Checked, Filtered, Stated};

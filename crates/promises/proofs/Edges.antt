@@ -15,7 +15,6 @@ use Rattle.rules.specs.Refusals.{settle}
 use Rattle.rules.specs.Segment.{segmentOf, runEdges}
 use Rattle.rules.specs.Plane.{Grid, edgesOf, runPlane, planeCheck, planeAfter}
 use Rattle.segment.specs.Fit.{InPlane}
-use Rattle.segment.specs.Promises.{Outside}
 use Rattle.segment.proofs.Demand.{demand-3, edge-kept}
 use Rattle.segment.proofs.Local.{Untouched, run-frame}
 use Rattle.plane.specs.Checked.{Stated}

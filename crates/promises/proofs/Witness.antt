@@ -1,11 +1,10 @@
 -- A plane that is accepted and changed, computed from the rules: two cells, 100 | 108, with a marked vertical edge between them.
 -- Assumes nothing.
 use mathlib.Core.Path.{_≡_, refl, sym, ap, _∙_}
-use mathlib.Core.Bool.{true, false}
+use mathlib.Core.Bool.{false}
 use mathlib.Core.List.{List, [], _∷_, _++_}
 use Prim.Native.Nat.{ℕ}
 use lib.IntN.{pos}
-use lib.ListN.{getD}
 use Rattle.laws.specs.Choose.{pick, either, both, all}
 use Rattle.laws.specs.Loops.{each, filled}
 use Rattle.laws.specs.Stores.{puts}
@@ -18,8 +17,7 @@ use Rattle.rules.specs.Refusals.{orElse, unless, found, settle, first, sooner, 
 use Rattle.rules.specs.Thresholds.{indexOf, stepOf, quantOf, lowered, sideOf, bothOf, qThreshold, sideThreshold, stepGood, badStep, stepsCheck, deltasCheck}
 use Rattle.rules.specs.Lengths.{lengthBefore, lengthAfter, mostBefore, mostAfter, reachOf, reachBefore, reachAfter, pairOf}
 use Rattle.rules.specs.Width.{bendOf, slopeOf, steepOf, atDistance, failsOf, fromOf, farOf, wideOf, gradeOf, widthOf}
-use Rattle.rules.specs.Taps.{rounded}
-use Rattle.rules.specs.Segment.{placeOf, hasRoom, lineOf, linesOf, windowOf, chosenOf, lineStores, fourStores, storesOf, widthAt, segmentOf, runEdges}
+use Rattle.rules.specs.Segment.{placeOf, hasRoom, lineOf, linesOf, windowOf, chosenOf, lineStores, fourStores, storesOf, segmentOf, runEdges}
 use Rattle.rules.specs.Plane.{Grid, grid, cellOf, cellBefore, marksOf, indicesOf, cappedOf, indexAt, shortenedAt, edgeAt, isEdge, visitOf, startOf, countOf, sbCols, sweepOf, columnOf, turnOf, edgesOf, runPlane, planeSizesOk, planeLengthsOk, cellGood, badCell, edgeRoom, lacksRoom, lacksRow, lacksDir, noRoom, overPlane, planeCheck, planeAfter}
 
 -- eight by four samples

@@ -33,11 +33,16 @@ loop-holds c = (search needs, ran-none _ _ refl, refl, search needs)
 
 turn-requires : tie.Need-turn-requires Inv-loop μ-loop
 unfolding sbCols
-turn-requires c κs = (field-same (c .before .before .loop .inv .2) (c .before .before .before .before .before .before .before .before .before .before .before .pre .0), field-same (c .before .before .loop .inv .2) (c .before .before .before .before .before .before .before .before .before .before .before .pre .1), search needs)
+turn-requires c κs =
+    let given = c .before .before .before .before .before .before .before .before .before .before .before .pre in
+    let turns = c .before .before .loop in
+    (field-same (turns .inv .2) (given .0), field-same (turns .inv .2) (given .1), search needs)
 
 plus-requires : tie.Need-plus-requires Inv-loop μ-loop
 unfolding sbCols
-plus-requires c κs = (omega (arith, (c .before .before .before .before .before .loop .inv .3), (c .before .before .before .before .before .loop .inv .0), sb-most (c .before .before .before .before .before .before .before .before .before .before .before .before .before .before .pre .0 .ready .sizes-ok)), omega (arith, (c .before .before .turn .ensures .1)))
+plus-requires c κs =
+    let turns = c .before .before .before .before .before .loop in
+    (omega (arith, (turns .inv .3), (turns .inv .0), sb-most (c .before .before .before .before .before .before .before .before .before .before .before .before .before .before .pre .0 .ready .sizes-ok)), omega (arith, (c .before .before .turn .ensures .1)))
 
 add-sb : tie.Need-add-sb Inv-loop μ-loop
 unfolding sbCols
@@ -47,7 +52,9 @@ loop-less : tie.Need-loop-less Inv-loop μ-loop
 loop-less c = search needs
 
 loop-again : tie.Need-loop-again Inv-loop μ-loop
-loop-again c = (search needs, ran-more _ _ (c .before .before .before .before .before .before .loop .inv .1) (c .before .before .before .turn .ensures .0) (c .plus .ensures), search needs, omega (arith, c .plus .ensures, (c .before .before .before .before .before .before .loop .inv .3), (c .before .before .before .turn .ensures .1)))
+loop-again c =
+    let turns = c .before .before .before .before .before .before .loop in
+    (search needs, ran-more _ _ (turns .inv .1) (c .before .before .before .turn .ensures .0) (c .plus .ensures), search needs, omega (arith, c .plus .ensures, (turns .inv .3), (c .before .before .before .turn .ensures .1)))
 
 sub-superblock : tie.Need-sub-superblock Inv-loop μ-loop
 unfolding sbCols
@@ -59,18 +66,24 @@ superblock-requires c κs = ((c .before .before .before .before .before .before 
 
 sweep-requires : tie.Need-sweep-requires Inv-loop μ-loop
 unfolding sbCols
-sweep-requires c κs = (field-same (c .before .before .before .loop .inv .2) (c .before .before .before .before .before .before .before .before .before .before .before .before .pre .1), sb-part (c .before .before .before .before .before .before .before .before .before .before .before .before .pre .0 .ready .sizes-ok) _ (c .superblock .ensures) (sb-last (c .before .before .before .before .before .before .before .before .before .before .before .before .pre .0 .ready .sizes-ok)))
+sweep-requires c κs =
+    let given = c .before .before .before .before .before .before .before .before .before .before .before .before .pre in
+    (field-same (c .before .before .before .loop .inv .2) (given .1), sb-part (given .0 .ready .sizes-ok) _ (c .superblock .ensures) (sb-last (given .0 .ready .sizes-ok)), omega arith)
 
 plus-requires-2 : tie.Need-plus-requires-2 Inv-loop μ-loop
 unfolding sbCols
-plus-requires-2 c κs = (omega (arith, (c .before .before .before .before .before .before .loop .inv .3), (c .before .before .before .before .before .before .loop .inv .0), sb-most (c .before .before .before .before .before .before .before .before .before .before .before .before .before .before .before .pre .0 .ready .sizes-ok)), omega (arith, (c .before .before .sweep .ensures .1)))
+plus-requires-2 c κs =
+    let turns = c .before .before .before .before .before .before .loop in
+    (omega (arith, (turns .inv .3), (turns .inv .0), sb-most (c .before .before .before .before .before .before .before .before .before .before .before .before .before .before .before .pre .0 .ready .sizes-ok)), omega (arith, (c .before .before .sweep .ensures .1)))
 
 same-length : tie.Need-same-length Inv-loop μ-loop
 same-length c = search needs
 
 returns : tie.Need-returns Inv-loop μ-loop
 unfolding sbCols
-returns c = edges-are _ (c .before .before .before .before .before .before .before .loop .inv .1) (c .before .before .before .before .before .before .before .loop .inv .0) (search needs) (horz-of _ _ _ _ _ _ (c .before .before .before .before .superblock .ensures) (c .before .before .before .sweep .ensures .0)) (c .plus2 .ensures)
+returns c =
+    let turns = c .before .before .before .before .before .before .before .loop in
+    edges-are _ (turns .inv .1) (turns .inv .0) (search needs) (horz-of _ _ _ _ _ _ (c .before .before .before .before .superblock .ensures) (c .before .before .before .sweep .ensures .0)) (c .plus2 .ensures)
 
 pub run-spec : {M : Type 1} → statement M
 run-spec =

@@ -26,10 +26,15 @@ loop-holds : tie.Need-loop-holds Inv-loop μ-loop
 loop-holds c = (search needs, ran-none _ _ refl, refl, search needs)
 
 line-requires : tie.Need-line-requires Inv-loop μ-loop
-line-requires c κs = (field-same (c .before .before .loop .inv .2) (c .before .before .before .before .before .before .before .before .pre .0), (c .before .before .before .before .before .before .before .before .pre .1), omega (arith, (c .before .before .before .by-dir .ensures)))
+line-requires c κs =
+    let given = c .before .before .before .before .before .before .before .before .pre in
+    (field-same (c .before .before .loop .inv .2) (given .0), (given .1), (given .2), omega (arith, (c .before .before .before .by-dir .ensures)))
 
 plus-requires : tie.Need-plus-requires Inv-loop μ-loop
-plus-requires c κs = (omega (arith, (c .before .before .before .before .before .loop .inv .3), (c .before .before .before .before .before .loop .inv .0), lines-most (c .before .before .before .before .before .before .before .before .before .before .before .args .dir) (c .before .before .before .before .before .before .before .before .before .before .before .pre .0 .ready .sizes-ok) (c .before .before .before .before .before .before .before .before .before .before .before .pre .1) (c .before .before .before .before .before .before .by-dir .ensures)), omega (arith, (c .before .before .line .ensures .1)))
+plus-requires c κs =
+    let given = c .before .before .before .before .before .before .before .before .before .before .before .pre in
+    let turns = c .before .before .before .before .before .loop in
+    (omega (arith, (turns .inv .3), (turns .inv .0), lines-most (c .before .before .before .before .before .before .before .before .before .before .before .args .dir) (given .0 .ready .sizes-ok) (given .1) (c .before .before .before .before .before .before .by-dir .ensures)), omega (arith, (c .before .before .line .ensures .1)))
 
 add-k : tie.Need-add-k Inv-loop μ-loop
 add-k c = search needs
@@ -38,13 +43,18 @@ loop-less : tie.Need-loop-less Inv-loop μ-loop
 loop-less c = search needs
 
 loop-again : tie.Need-loop-again Inv-loop μ-loop
-loop-again c = (search needs, ran-more _ _ (c .before .before .before .before .before .before .loop .inv .1) (c .before .before .before .line .ensures .0) (c .plus .ensures), search needs, omega (arith, c .plus .ensures, (c .before .before .before .before .before .before .loop .inv .3), (c .before .before .before .line .ensures .1)))
+loop-again c =
+    let turns = c .before .before .before .before .before .before .loop in
+    (search needs, ran-more _ _ (turns .inv .1) (c .before .before .before .line .ensures .0) (c .plus .ensures), search needs, omega (arith, c .plus .ensures, (turns .inv .3), (c .before .before .before .line .ensures .1)))
 
 same-length : tie.Need-same-length Inv-loop μ-loop
 same-length c = search needs
 
 returns : tie.Need-returns Inv-loop μ-loop
-returns c = (sweep-is _ _ _ (c .before .loop .inv .1) (c .before .before .by-dir .ensures) (c .before .loop .inv .0) (search needs), omega (arith, (c .before .loop .inv .3), (c .before .loop .inv .0), lines-most (c .before .before .before .before .before .before .before .args .dir) (c .before .before .before .before .before .before .before .pre .0 .ready .sizes-ok) (c .before .before .before .before .before .before .before .pre .1) (c .before .before .by-dir .ensures)))
+returns c =
+    let given = c .before .before .before .before .before .before .before .pre in
+    let turns = c .before .loop in
+    (sweep-is _ _ _ (turns .inv .1) (c .before .before .by-dir .ensures) (turns .inv .0) (search needs), omega (arith, (turns .inv .3), (turns .inv .0), lines-most (c .before .before .before .before .before .before .before .args .dir) (given .0 .ready .sizes-ok) (given .1) (c .before .before .by-dir .ensures)))
 
 pub sweep-spec : {M : Type 1} → statement M
 sweep-spec =

@@ -37,7 +37,9 @@ same-length : tie.Need-same-length
 same-length c = search visits
 
 returns-2 : tie.Need-returns-2
-returns-2 c = (visit-edge _ _ _ _ _ _ _ (c .before .before .before .before .before .before .before .before .before .before .is-edge .ensures) (c .before .before .before .before .before .before .before .before .before .if1 .left) (c .before .before .before .before .before .before .before .edge-at .ensures) (c .before .before .before .top .ensures) (c .before .before .filter-edge .ensures) refl, search visits)
+returns-2 c =
+    let asked-of = c .before .before .before .before .before .before .before .before .before .before .is-edge .ensures in
+    (visit-edge _ _ _ _ _ _ _ asked-of (c .before .before .before .before .before .before .before .before .before .if1 .left) (c .before .before .before .before .before .before .before .edge-at .ensures) (c .before .before .before .top .ensures) (c .before .before .filter-edge .ensures) refl, search visits)
 
 pub visit-spec : {M : Type 1} → statement M
 visit-spec =
