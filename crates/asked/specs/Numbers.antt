@@ -1,6 +1,6 @@
 -- The settings' numbers by their places, as the filters' own settings.
 -- Assumes nothing.
-use mathlib.Core.Bool.{false, not}
+use mathlib.Core.Bool.{not}
 use mathlib.Core.List.{List}
 use Prim.Native.Nat.{ℕ, _+_, _*_}
 use lib.Dec.{eqb}
@@ -29,26 +29,6 @@ frameAsked h numbers stride chromastride = record {
   caph = countAt numbers 4;
   ccapw = countAt numbers 5;
   ccaph = countAt numbers 6;
-}
-
--- a frame without its chroma
-unfoldable pub lumaAlone : Frame → Frame
-lumaAlone f = record {
-  width = f .width;
-  height = f .height;
-  ssx = f .ssx;
-  ssy = f .ssy;
-  haschroma = false;
-  chromadeblock = f .chromadeblock;
-  depth = f .depth;
-  deltay = f .deltay;
-  deltauv = f .deltauv;
-  lumastride = f .lumastride;
-  chromastride = f .chromastride;
-  capw = f .capw;
-  caph = f .caph;
-  ccapw = f .ccapw;
-  ccaph = f .ccaph;
 }
 
 -- where the eleven numbers of plane p begin: luma is 0, U is 1, V is 2

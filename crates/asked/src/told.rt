@@ -4,7 +4,7 @@ ghost use Prim.Native.Nat.{_≤_};
 ghost use lib.Dec.{eqb};
 ghost use lib.ListN.{length};
 ghost use Rattle.laws.specs.Choose.{pick};
-ghost use Rattle.asked.specs.Numbers.{frameAsked, lumaAlone, ccsoAsked};
+ghost use Rattle.asked.specs.Numbers.{frameAsked, ccsoAsked};
 use numbers::count;
 use numbers::number;
 use numbers::size;
@@ -35,15 +35,6 @@ pub fn frame_of(h: Header, numbers: &[i32], stride: usize, chromastride: usize) 
         ccapw: size(numbers, 5),
         ccaph: size(numbers, 6),
     }
-}
-
-// The same frame's luma alone.
-pub fn luma_of(f: Frame) -> Frame
-    ensures { λ r. ⌜ r ≡ lumaAlone f ⌝ }
-{
-    let mut luma = f;
-    luma.haschroma = false;
-    luma
 }
 
 // A plane's subsampling: luma has none.

@@ -22,7 +22,7 @@ pub exactly-when : (s : Ccso) (luma flags : List ℕ) (offsets : List ℤ) (t : 
 unfolding ccsoCheck
 exactly-when s luma flags offsets t e = exactly (tests s luma flags offsets t) refl (e ∙ rw else-joined)
 
--- one sample, its block on, no offsets
+-- one sample, its block on, all offsets 0
 pub accepts : ccsoCheck record { width = 1; height = 1; ssx = 0; ssy = 0; depth = 8; scale = 1; lo = pos 0; hi = pos 0; below = 0; within = 1; above = 2; dx0 = pos 1; dy0 = pos 0; dx1 = pos 0; dy1 = pos 1; bandlog = 0 } (100 ∷ []) (1 ∷ []) (replicate 16 (pos 0)) (108 ∷ []) ≡ Accepted
 unfolding pick either both all depthOk topOf inRange inRangeZ subsamplingOk orElse unless found sooner first foundIf foundUnless over overRow halved superblocks targetWidth targetHeight ccsoSizesOk bandOk offsetCount ccsoLengthsOk ccsoSettingsOk offsetOk badOffset ccsoCheck down
 accepts = refl

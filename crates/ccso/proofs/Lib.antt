@@ -1,7 +1,3 @@
-pub mod Signed
-pub mod Classes
-pub mod Offsets
-pub mod Places
 pub mod Blocks
 pub mod Ranged
 pub mod Lengths

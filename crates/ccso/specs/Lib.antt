@@ -1,4 +1,3 @@
-pub mod Ranges
 pub mod Lists
 pub mod Checks
 pub mod Stated

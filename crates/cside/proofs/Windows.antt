@@ -25,7 +25,7 @@ use Rattle.rules.specs.CSide.{cAnswer, samplesIn, bytesOf, windowEdge, cSegment
 use Rattle.lengths.proofs.Lengths.{pair-facts}
 use Rattle.width.proofs.Most.{pair-most}
 use Rattle.scan.proofs.Checks.{settle-refused, settle-accepted}
-use Rattle.segment.proofs.Accepted.{passed}
+use Rattle.lone.proofs.Accepted.{passed}
 use Rattle.answers.proofs.Numbers.{held, held-minus, answer-refused, answer-accepted}
 
 -- what an answer of either kind says of the check behind it

@@ -2,10 +2,10 @@
 use answers::count;
 use answers::minus;
 use byte_lists::window as lent;
+use lone::filter_lone;
 use rules::depth::Depth;
 use rules::refusals::Refusal;
 use rules::refusals::Width;
-use segment::filter_lone;
 ghost use mathlib.Core.Path.{_≡_};
 ghost use Rattle.rules.specs.CSide.{cSegment, cWindow};
 

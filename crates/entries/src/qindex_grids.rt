@@ -1,6 +1,6 @@
 // A qindex grid, by its settings as a list of numbers.
-use grid::qindex_grid::build_qindex_grid;
 use numbers::qindex_grid_of;
+use qindex::qindex_grid::build_qindex_grid;
 use rules::refusals::Answer;
 use rules::refusals::Refusal;
 ghost use Rattle.rules.specs.QindexGrid.{qGridCheck, qGridOf};

@@ -8,7 +8,6 @@ use crate::say;
 use asked::gated::offset_planes;
 use asked::places::at;
 use framed::listed::deblock_asked;
-use framed::listed::place_asked;
 use pictures::planes;
 use pictures::planes::Shape;
 use rules::refusals::Answer;
@@ -26,11 +25,12 @@ fn deblocked(
 ) -> bool
     requires { ⌜ Listed (length (now shorts)) (length (now steps)) (length (now places)) ⌝ }
 {
-    let a = deblock_asked(y, u, v, shorts, steps, places, f);
+    let o = deblock_asked(y, u, v, shorts, steps, places, f);
+    let a = o.answer;
     match a {
         Answer::Accepted => true,
         Answer::Refused(r) => {
-            say::refused(r, place_asked(r, y, u, v, shorts, steps, places, f));
+            say::refused(r, o.place);
             false
         }
     }

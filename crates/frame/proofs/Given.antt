@@ -8,20 +8,21 @@ use native.Mathlib.Nat.{mul-le-mul}
 use native.Mathlib.Omega.{arith}
 use borrow.Author.Tests.{leb-true}
 use lib.Dec.{leb}
-use lib.ListN.{length}
 use Rattle.laws.specs.Choose.{both, all, both-parts, all-parts}
 use Rattle.rules.specs.declared.settings.Frame.{Frame}
+use Rattle.rules.specs.declared.settings.Plane.{Plane}
 use Rattle.rules.specs.declared.refusals.Refusal.the-variants.{Depth, Length, Setting, Leaf}
 use Rattle.rules.specs.declared.refusals.Answer.the-variants.{Accepted}
 use Rattle.rules.specs.Numbers.{depthOk, deltaOk}
 use Rattle.rules.specs.Refusals.{unless, onlyIf, found}
 use Rattle.rules.specs.Thresholds.{stepsCheck}
-use Rattle.rules.specs.Plane.{Grid}
+use Rattle.rules.specs.declared.lent.GridLengths.{GridLengths}
+use Rattle.rules.specs.declared.lent.FrameLengths.{FrameLengths}
 use Rattle.rules.specs.TuGrid.{capOk, foursOk}
-use Rattle.rules.specs.Frame.{Given, Lent, lumaPlane, chromaPlane, lumaTu, chromaTu, lumaQ, chromaQ, superblocks, chromaOn, samplesLong, gridLong, frameSizes, frameLengths, frameSettings, frameLeaves, frameEarly}
+use Rattle.rules.specs.Frame.{Given, lumaPlane, chromaPlane, lumaTu, chromaTu, lumaQ, chromaQ, superblocks, chromaOn, samplesLong, gridLong, lumaLong, chromaLong, givenLong, frameSizes, frameLengths, frameShape, frameSettings, frameLeaves, frameGiven, frameEarly}
 use Rattle.scan.proofs.Checks.{else-parts, unless-true, found-nothing, only-part}
-use Rattle.grid.specs.Fit.{AllGood}
-use Rattle.grid.proofs.Checked.{by-cap, all-good}
+use Rattle.tiles.specs.Fit.{AllGood}
+use Rattle.tiles.proofs.Checked.{by-cap, all-good}
 use Rattle.cells.specs.Fit.{Sizes}
 use Rattle.frame_checks.specs.Settings.{Sized, planeOf, tuOf, qOf}
 use Rattle.frame_checks.proofs.Ranges.{superblocks-some, superblocks-most}
@@ -34,16 +35,16 @@ cap-some = by-cap (λ n. 1 ≤ n) (omega arith) (omega arith) (omega arith) (ome
 
 -- ---- a grid's lists and leaves
 
-record Lists (n : ℕ) (g : Grid) : Type 0 where
-  pub vedge : n ≤ length (g .vedge)
-  pub hedge : n ≤ length (g .hedge)
-  pub sqw : n ≤ length (g .sqw)
-  pub sqh : n ≤ length (g .sqh)
-  pub qindex : n ≤ length (g .qindex)
+record Lists (n : ℕ) (g : GridLengths) : Type 0 where
+  pub vedge : n ≤ g .vedge
+  pub hedge : n ≤ g .hedge
+  pub sqw : n ≤ g .sqw
+  pub sqh : n ≤ g .sqh
+  pub qindex : n ≤ g .qindex
 
-lists : (n : ℕ) (g : Grid) → gridLong n g ≡ true → Lists n g
+lists : (s : Plane) (g : GridLengths) → gridLong s g ≡ true → Lists (s .rows * s .cols) g
 unfolding gridLong
-lists n g e =
+lists s g e =
     let p1 = all-parts _ _ e in
     let p2 = all-parts _ _ (p1 .1) in
     let p3 = all-parts _ _ (p2 .1) in
@@ -51,8 +52,8 @@ lists n g e =
     let p5 = all-parts _ _ (p4 .1) in
     record { vedge = leb-true _ _ (p1 .0); hedge = leb-true _ _ (p2 .0); sqw = leb-true _ _ (p3 .0); sqh = leb-true _ _ (p4 .0); qindex = leb-true _ _ (p5 .0) }
 
-module _ (f : Frame) (leaves skips : List ℕ) (count : ℕ) (g : Grid) (z : Sized f) (a : AllGood leaves) (b : AllGood skips) (some : 1 ≤ count) where
-  luma-buildable : Sizes (lumaPlane f) → capOk (f .capw) ≡ true → capOk (f .caph) ≡ true → Lists (lumaPlane f .rows * lumaPlane f .cols) g → Buildable f false leaves skips count (length (g .vedge)) (length (g .hedge)) (length (g .sqw)) (length (g .sqh)) (length (g .qindex))
+module _ (f : Frame) (leaves skips : List ℕ) (count : ℕ) (g : GridLengths) (z : Sized f) (a : AllGood leaves) (b : AllGood skips) (some : 1 ≤ count) where
+  luma-buildable : Sizes (lumaPlane f) → capOk (f .capw) ≡ true → capOk (f .caph) ≡ true → Lists (lumaPlane f .rows * lumaPlane f .cols) g → Buildable f false leaves skips count (g .vedge) (g .hedge) (g .sqw) (g .sqh) (g .qindex)
   unfolding lumaTu lumaQ
   luma-buildable s w h l =
       record {
@@ -64,7 +65,7 @@ module _ (f : Frame) (leaves skips : List ℕ) (count : ℕ) (g : Grid) (z : Siz
         q-fit = record { cols-most = s .cols-most; rows-most = s .rows-most; ssx-most = omega arith; ssy-most = omega arith; sbcols-most = omega (arith, superblocks-most (f .width) (z .width-most)); some = some; long = l .qindex };
       }
 
-  chroma-buildable : Sizes (chromaPlane f) → capOk (f .ccapw) ≡ true → capOk (f .ccaph) ≡ true → Lists (chromaPlane f .rows * chromaPlane f .cols) g → Buildable f true leaves skips count (length (g .vedge)) (length (g .hedge)) (length (g .sqw)) (length (g .sqh)) (length (g .qindex))
+  chroma-buildable : Sizes (chromaPlane f) → capOk (f .ccapw) ≡ true → capOk (f .ccaph) ≡ true → Lists (chromaPlane f .rows * chromaPlane f .cols) g → Buildable f true leaves skips count (g .vedge) (g .hedge) (g .sqw) (g .sqh) (g .qindex)
   unfolding chromaTu chromaQ
   chroma-buildable s w h l =
       record {
@@ -97,59 +98,63 @@ settings f e =
     let p6 = all-parts _ _ (p5 .1) in
     record { deltay = p1 .0; capw = p2 .0; caph = p3 .0; deltauv = p4 .0; ccapw = p5 .0; ccaph = p6 .0 }
 
--- ---- an accepted frame
+-- ---- a frame whose early checks accept, by the lengths k of its lists
 
-module _ (f : Frame) (n : Given) (l : Lent) (ok : frameEarly f n l ≡ Accepted) where
-  parts : (unless (depthOk (f .depth)) Depth ≡ Accepted) × (frameSizes f ≡ Accepted) × (frameLengths f n l ≡ Accepted) × (stepsCheck (n .steps) ≡ Accepted) × (frameSettings f ≡ Accepted) × (frameLeaves n ≡ Accepted)
-  unfolding frameEarly
-  parts =
-      let e1 = else-parts _ _ ok in
+module _ (f : Frame) (k : FrameLengths) (n : Given) (ok : frameEarly f k n ≡ Accepted) where
+  shape : (unless (depthOk (f .depth)) Depth ≡ Accepted) × (frameSizes f ≡ Accepted) × (frameLengths f k ≡ Accepted)
+  unfolding frameEarly frameShape
+  shape =
+      let e1 = else-parts _ _ (else-parts _ _ ok .0) in
       let e2 = else-parts _ _ (e1 .1) in
-      let e3 = else-parts _ _ (e2 .1) in
-      let e4 = else-parts _ _ (e3 .1) in
-      let e5 = else-parts _ _ (e4 .1) in
-      (e1 .0, e2 .0, e3 .0, e4 .0, e5 .0, e5 .1)
+      (e1 .0, e2 .0, e2 .1)
+
+  rest : (stepsCheck (n .steps) ≡ Accepted) × (frameSettings f ≡ Accepted) × (frameLeaves n ≡ Accepted)
+  unfolding frameEarly frameGiven
+  rest =
+      let e1 = else-parts _ _ (else-parts _ _ ok .1) in
+      let e2 = else-parts _ _ (e1 .1) in
+      (e1 .0, e2 .0, e2 .1)
 
   pub early-sized : Sized f
-  early-sized = frame-sized f (parts .1)
+  early-sized = frame-sized f (shape .1)
 
-  luma-long : (samplesLong (lumaPlane f) (length (l .planes .y)) ≡ true) × (gridLong (lumaPlane f .rows * lumaPlane f .cols) (l .grids .luma) ≡ true)
-  unfolding frameLengths
-  luma-long = both-parts _ _ (unless-true _ Length (else-parts _ _ (parts .2) .0))
+  luma-long : (samplesLong (lumaPlane f) (k .y) ≡ true) × (gridLong (lumaPlane f) (k .luma) ≡ true)
+  unfolding frameLengths lumaLong
+  luma-long = both-parts _ _ (unless-true _ Length (else-parts _ _ (shape .2) .0))
 
-  chroma-long : chromaOn f ≡ true → (samplesLong (chromaPlane f) (length (l .planes .u)) ≡ true) × (samplesLong (chromaPlane f) (length (l .planes .v)) ≡ true) × (gridLong (chromaPlane f .rows * chromaPlane f .cols) (l .grids .chroma) ≡ true)
-  unfolding frameLengths
+  chroma-long : chromaOn f ≡ true → (samplesLong (chromaPlane f) (k .u) ≡ true) × (samplesLong (chromaPlane f) (k .v) ≡ true) × (gridLong (chromaPlane f) (k .chroma) ≡ true)
+  unfolding frameLengths chromaLong
   chroma-long on =
-      let p1 = all-parts _ _ (unless-true _ Length (only-part _ _ (else-parts _ _ (else-parts _ _ (parts .2) .1) .0) on)) in
+      let p1 = all-parts _ _ (unless-true _ Length (only-part _ _ (else-parts _ _ (else-parts _ _ (shape .2) .1) .0) on)) in
       let p2 = all-parts _ _ (p1 .1) in
       let p3 = all-parts _ _ (p2 .1) in
       (p1 .0, p2 .0, p3 .0)
 
-  some : 1 ≤ length (n .sbq)
-  unfolding frameLengths
+  some : 1 ≤ k .sbq
+  unfolding frameLengths givenLong
   some =
-      let p = all-parts _ _ (unless-true _ Length (else-parts _ _ (else-parts _ _ (parts .2) .1) .1)) in
+      let p = all-parts _ _ (unless-true _ Length (else-parts _ _ (else-parts _ _ (shape .2) .1) .1)) in
       let z = early-sized in
-      let long : superblocks (f .width) * superblocks (f .height) ≤ length (n .sbq) = leb-true _ _ (p .0) in
+      let long : superblocks (f .width) * superblocks (f .height) ≤ k .sbq = leb-true _ _ (p .0) in
       omega (arith, mul-le-mul (superblocks-some (f .width) (z .some-width)) (superblocks-some (f .height) (z .some-height)))
 
   leaves : AllGood (n .leaves) × AllGood (n .chromaLeaves) × AllGood (n .skips)
   unfolding frameLeaves
   leaves =
-      let e1 = else-parts _ _ (parts .5) in
+      let e1 = else-parts _ _ (rest .2) in
       let e2 = else-parts _ _ (e1 .1) in
       (all-good false _ (found-nothing _ Leaf (e1 .0)), all-good false _ (found-nothing _ Leaf (e2 .0)), all-good true _ (found-nothing _ Leaf (e2 .1)))
 
   deep : depthOk (f .depth) ≡ true
-  deep = unless-true _ Depth (parts .0)
+  deep = unless-true _ Depth (shape .0)
 
   pub luma-stepped : Stepped f false (n .steps)
   unfolding lumaPlane
-  luma-stepped = let s = settings f (parts .4) in record { steps-ok = parts .3; deltaq-ok = s .deltay; deltaside-ok = s .deltay }
+  luma-stepped = let s = settings f (rest .1) in record { steps-ok = rest .0; deltaq-ok = s .deltay; deltaside-ok = s .deltay }
 
   pub chroma-stepped : Stepped f true (n .steps)
   unfolding chromaPlane
-  chroma-stepped = let s = settings f (parts .4) in record { steps-ok = parts .3; deltaq-ok = s .deltauv; deltaside-ok = s .deltauv }
+  chroma-stepped = let s = settings f (rest .1) in record { steps-ok = rest .0; deltaq-ok = s .deltauv; deltaside-ok = s .deltauv }
 
   luma-deep : depthOk (lumaPlane f .depth) ≡ true
   unfolding lumaPlane
@@ -159,21 +164,23 @@ module _ (f : Frame) (n : Given) (l : Lent) (ok : frameEarly f n l ≡ Accepted)
   unfolding chromaPlane
   chroma-deep = deep
 
-  pub luma-sampled : Sampled f false (length (l .planes .y))
-  luma-sampled = record { sized = early-sized; depth = luma-deep; sizes-ok = luma-sizes f (parts .1); plane-long = leb-true _ _ (luma-long .0) }
+  pub luma-sampled : Sampled f false (k .y)
+  luma-sampled = record { sized = early-sized; depth = luma-deep; sizes-ok = luma-sizes f (shape .1); plane-long = leb-true _ _ (luma-long .0) }
 
-  pub u-sampled : chromaOn f ≡ true → Sampled f true (length (l .planes .u))
-  u-sampled on = record { sized = early-sized; depth = chroma-deep; sizes-ok = chroma-sizes f (parts .1) on; plane-long = leb-true _ _ (chroma-long on .0) }
-
-  pub v-sampled : chromaOn f ≡ true → Sampled f true (length (l .planes .v))
-  v-sampled on = record { sized = early-sized; depth = chroma-deep; sizes-ok = chroma-sizes f (parts .1) on; plane-long = leb-true _ _ (chroma-long on .1) }
-
-  pub luma-built : Buildable f false (n .leaves) (n .skips) (length (n .sbq)) (length (l .grids .luma .vedge)) (length (l .grids .luma .hedge)) (length (l .grids .luma .sqw)) (length (l .grids .luma .sqh)) (length (l .grids .luma .qindex))
+  pub luma-built : Buildable f false (n .leaves) (n .skips) (k .sbq) (k .luma .vedge) (k .luma .hedge) (k .luma .sqw) (k .luma .sqh) (k .luma .qindex)
   luma-built =
-      let s = settings f (parts .4) in
-      luma-buildable f (n .leaves) (n .skips) _ (l .grids .luma) early-sized (leaves .0) (leaves .2) some (luma-sizes f (parts .1)) (s .capw) (s .caph) (lists _ _ (luma-long .1))
+      let s = settings f (rest .1) in
+      luma-buildable f (n .leaves) (n .skips) _ (k .luma) early-sized (leaves .0) (leaves .2) some (luma-sizes f (shape .1)) (s .capw) (s .caph) (lists _ _ (luma-long .1))
 
-  pub chroma-built : chromaOn f ≡ true → Buildable f true (n .chromaLeaves) (n .skips) (length (n .sbq)) (length (l .grids .chroma .vedge)) (length (l .grids .chroma .hedge)) (length (l .grids .chroma .sqw)) (length (l .grids .chroma .sqh)) (length (l .grids .chroma .qindex))
-  chroma-built on =
-      let s = settings f (parts .4) in
-      chroma-buildable f (n .chromaLeaves) (n .skips) _ (l .grids .chroma) early-sized (leaves .1) (leaves .2) some (chroma-sizes f (parts .1) on) (s .ccapw) (s .ccaph) (lists _ _ (chroma-long on .2))
+  -- chroma's, where it is filtered
+  module _ (on : chromaOn f ≡ true) where
+    pub u-sampled : Sampled f true (k .u)
+    u-sampled = record { sized = early-sized; depth = chroma-deep; sizes-ok = chroma-sizes f (shape .1) on; plane-long = leb-true _ _ (chroma-long on .0) }
+
+    pub v-sampled : Sampled f true (k .v)
+    v-sampled = record { sized = early-sized; depth = chroma-deep; sizes-ok = chroma-sizes f (shape .1) on; plane-long = leb-true _ _ (chroma-long on .1) }
+
+    pub chroma-built : Buildable f true (n .chromaLeaves) (n .skips) (k .sbq) (k .chroma .vedge) (k .chroma .hedge) (k .chroma .sqw) (k .chroma .sqh) (k .chroma .qindex)
+    chroma-built =
+        let s = settings f (rest .1) in
+        chroma-buildable f (n .chromaLeaves) (n .skips) _ (k .chroma) early-sized (leaves .1) (leaves .2) some (chroma-sizes f (shape .1) on) (s .ccapw) (s .ccaph) (lists _ _ (chroma-long on .2))

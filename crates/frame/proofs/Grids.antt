@@ -7,7 +7,7 @@ use Prim.Native.Nat.{ℕ, _*_, _≤_}
 use borrow.Author.Tests.{le-leb}
 use lib.Dec.{leb}
 use lib.ListN.{length}
-use Rattle.laws.specs.Choose.{all}
+use Rattle.laws.specs.Choose.{pick, all}
 use Rattle.rules.specs.declared.settings.Frame.{Frame}
 use Rattle.rules.specs.declared.settings.Plane.{Plane}
 use Rattle.rules.specs.declared.refusals.Found.the-variants.{Nothing}
@@ -18,7 +18,7 @@ use Rattle.rules.specs.Frame.{lumaPlane, chromaPlane, lumaTu, chromaTu, lumaQ, 
 use Rattle.grid.proofs.Built.{no-bad-cell}
 use Rattle.plane.specs.Checked.{Checked}
 use Rattle.plane.proofs.Accepting.{lengths, readies-by}
-use Rattle.frame_checks.specs.Settings.{Sized, planeOf, tuOf, qOf}
+use Rattle.frame_checks.specs.Settings.{Sized, kindOn, planeOf, tuOf, qOf}
 use Rattle.frame_planes.specs.Fit.{Sampled, Marked, Buildable}
 use Rattle.frame.specs.Fit.{Stepped, Gridded}
 
@@ -53,12 +53,12 @@ unfolding planeLengthsOk all
 long-enough s n v h w t q a b c d e f = rw (le-leb _ _ a, le-leb _ _ b, le-leb _ _ c, le-leb _ _ d, le-leb _ _ e, le-leb _ _ f)
 
 -- lists of the same lengths that hold the built grid
-module _ {f : Frame} {chroma : Bool} {steps ls ks : List ℕ} (sbq : List ℕ) (g : Grid) {size : ℕ} {v h w t q : List ℕ} {lv lh lw lt lq : ℕ} where
-  pub gridded : Sampled f chroma size → Stepped f chroma steps → Buildable f chroma ls ks (length sbq) lv lh lw lt lq → length v ≡ lv → length h ≡ lh → length w ≡ lw → length t ≡ lt → length q ≡ lq → grid v h w t q ≡ builtGrid (tuOf f chroma) (qOf f chroma) ls ks sbq g → Gridded f chroma steps (grid v h w t q) size
-  gridded sampled stepped b ev eh ew et eq is =
+module _ {f : Frame} {chroma : Bool} {ls ks : List ℕ} (sbq : List ℕ) (g : Grid) {size count : ℕ} {v h w t q : List ℕ} {lv lh lw lt lq : ℕ} where
+  pub gridded : Sampled f chroma size → Buildable f chroma ls ks count lv lh lw lt lq → length v ≡ lv → length h ≡ lh → length w ≡ lw → length t ≡ lt → length q ≡ lq → kindOn f chroma ≡ true → grid v h w t q ≡ pick (kindOn f chroma) (builtGrid (tuOf f chroma) (qOf f chroma) ls ks sbq g) g → Gridded f chroma (grid v h w t q) size
+  unfolding pick
+  gridded sampled b ev eh ew et eq on is =
       record {
         sampled = sampled;
-        stepped = stepped;
         lengths =
             long-enough (planeOf f chroma) size v h w t q (sampled .plane-long)
             (rw ev (tu-long f chroma _ (b .fit .long-v)))
@@ -66,12 +66,12 @@ module _ {f : Frame} {chroma : Bool} {steps ls ks : List ℕ} (sbq : List ℕ) (
             (rw ew (tu-long f chroma _ (b .fit .long-w)))
             (rw et (tu-long f chroma _ (b .fit .long-t)))
             (rw eq (q-long f chroma _ (b .q-fit .long)));
-        cells = rw is (good-cells f chroma ls ks sbq g);
+        cells = rw (rw on at is) (good-cells f chroma ls ks sbq g);
       }
 
 -- ---- what the checks and the run of a plane with such a grid ask
 
-module _ {f : Frame} {chroma : Bool} {steps v h w t q : List ℕ} {size : ℕ} (k : Gridded f chroma steps (grid v h w t q) size) where
+module _ {f : Frame} {chroma : Bool} {v h w t q : List ℕ} {size : ℕ} (k : Gridded f chroma (grid v h w t q) size) where
   same-cells : (p : List ℕ) → Nothing ≡ badCell (planeOf f chroma) (grid v h w t p)
   unfolding badCell cellGood
   same-cells p = sym (k .cells)
@@ -82,15 +82,17 @@ module _ {f : Frame} {chroma : Bool} {steps v h w t q : List ℕ} {size : ℕ} (
       let r = readies-by v h w t (record { depth = k .sampled .depth; sizes-ok = k .sampled .sizes-ok; plane-long = l .samples; lists-long = l .lists }) same-cells refl in
       record { sized = k .sampled .sized; vert = r .0; horz = r .1 }
 
-  pub checked : noRoom (planeOf f chroma) (grid v h w t q) ≡ Nothing → Checked (planeOf f chroma) steps (grid v h w t q) size
-  checked room =
-      record {
-        depth = k .sampled .depth;
-        sizes-ok = k .sampled .sizes-ok;
-        lengths = k .lengths;
-        steps-ok = k .stepped .steps-ok;
-        deltaq-ok = k .stepped .deltaq-ok;
-        deltaside-ok = k .stepped .deltaside-ok;
-        cells = k .cells;
-        room = room;
-      }
+  pub checked : {steps : List ℕ} → Stepped f chroma steps → noRoom (planeOf f chroma) (grid v h w t q) ≡ Nothing → Sized f × Checked (planeOf f chroma) steps (grid v h w t q) size
+  checked s room = (
+    k .sampled .sized,
+    record {
+      depth = k .sampled .depth;
+      sizes-ok = k .sampled .sizes-ok;
+      lengths = k .lengths;
+      steps-ok = s .steps-ok;
+      deltaq-ok = s .deltaq-ok;
+      deltaside-ok = s .deltaside-ok;
+      cells = k .cells;
+      room = room;
+    },
+  )

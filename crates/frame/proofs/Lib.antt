@@ -2,4 +2,3 @@
 pub mod Given
 pub mod Grids
 pub mod Ways
-pub mod Theorems

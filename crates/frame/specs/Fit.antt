@@ -19,9 +19,8 @@ pub record Stepped (f : Frame) (chroma : Bool) (steps : List ℕ) : Type 0 where
   pub deltaq-ok : deltaOk (planeOf f chroma .deltaq) ≡ true
   pub deltaside-ok : deltaOk (planeOf f chroma .deltaside) ≡ true
 
--- a plane with a grid that is long enough and whose cells are good
-pub record Gridded (f : Frame) (chroma : Bool) (steps : List ℕ) (g : Grid) (size : ℕ) : Type 0 where
+-- a plane of size samples with a grid that is long enough and whose cells are good
+pub record Gridded (f : Frame) (chroma : Bool) (g : Grid) (size : ℕ) : Type 0 where
   pub sampled : Sampled f chroma size
-  pub stepped : Stepped f chroma steps
   pub lengths : planeLengthsOk (planeOf f chroma) g size ≡ true
   pub cells : badCell (planeOf f chroma) g ≡ Nothing

@@ -1,10 +1,9 @@
-// A frame's entry: the early checks, then a frame with chroma or one without.
-use super::filter::luma_only;
-use super::filter::with_chroma;
+// A frame's entry: the early checks, both grids built, and the planes filtered by them.
+use super::filter::filter;
 use frame_checks::early::frame_early;
-use frame_checks::lengths::GridLengths;
-use frame_checks::lengths::Lengths;
-use frame_checks::planes::chroma_on;
+use frame_planes::build::build;
+use rules::lent::FrameLengths;
+use rules::lent::GridLengths;
 use rules::refusals::Answer;
 use rules::settings::Frame;
 ghost use mathlib.Core.Path.{_≡_};
@@ -49,39 +48,22 @@ pub fn deblock_frame(
         sqh: ct.len(),
         qindex: cq.len(),
     };
-    let n = Lengths {
+    let n = FrameLengths {
         y: y.len(),
         u: u.len(),
         v: v.len(),
         luma: luma,
         chroma: chroma,
+        sbq: sbq.len(),
+        leaves: leaves.len(),
+        chromaleaves: chromaleaves.len(),
+        skips: skips.len(),
     };
-    let a = frame_early(steps, sbq, leaves, chromaleaves, skips, f, n);
+    let a = frame_early(steps, leaves, chromaleaves, skips, f, n);
     if let Answer::Refused(r) = a {
         return Answer::Refused(r);
     }
-    if chroma_on(f) {
-        return with_chroma(
-            y,
-            u,
-            v,
-            lv,
-            lh,
-            lw,
-            lt,
-            lq,
-            cv,
-            ch,
-            cw,
-            ct,
-            cq,
-            steps,
-            sbq,
-            leaves,
-            chromaleaves,
-            skips,
-            f,
-        );
-    }
-    luma_only(y, lv, lh, lw, lt, lq, steps, sbq, leaves, skips, f)
+    build(lv, lh, lw, lt, lq, leaves, skips, sbq, f, false);
+    build(cv, ch, cw, ct, cq, chromaleaves, skips, sbq, f, true);
+    filter(y, u, v, lv, lh, lw, lt, lq, cv, ch, cw, ct, cq, steps, f)
 }

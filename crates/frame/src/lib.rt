@@ -1,6 +1,6 @@
 // A whole frame: its early checks, its grids built, checked and used to filter luma, then U and V.
 
-// A frame with chroma, and one without.
+// The planes filtered by built grids.
 mod filter;
 
 // The entry.

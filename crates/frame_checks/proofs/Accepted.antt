@@ -5,7 +5,6 @@ use mathlib.Core.Bool.{Bool, true, false, not}
 use mathlib.Core.List.{List, [], _∷_}
 use Prim.Native.Nat.{ℕ, _+_, _*_, _≤_, _<_}
 use native.Mathlib.Omega.{arith}
-use native.Mathlib.Nat.{mul-le-mul}
 use mir.Val.{Fits}
 use mir.Syntax.{w64}
 use Rattle.laws.specs.Choose.{both, all, all-parts, both-bad, both-ok, told-yes, told-yes-not}
@@ -17,10 +16,9 @@ use Rattle.rules.specs.Numbers.{inRange, subsamplingOk}
 use Rattle.rules.specs.Refusals.{unless, onlyIf}
 use Rattle.rules.specs.Frame.{lumaPlane, chromaPlane, chromaOn, strideOk, frameSizes}
 use Rattle.scan.proofs.Checks.{else-parts, unless-true, only-part}
-use Rattle.grid.proofs.Checked.{ssx-most, ssy-most}
+use Rattle.tiles.proofs.Checked.{ssx-most, ssy-most}
 use Rattle.cells.specs.Fit.{Sizes}
 use Rattle.scan.proofs.Ranges.{in-range}
-use Rattle.cells.proofs.Accepted.{rows-fit, area-fits, cells-fit}
 use Rattle.frame_checks.specs.Settings.{Sized, planeOf}
 use Rattle.frame_checks.proofs.Ranges.{cells, blocks}
 
@@ -80,21 +78,9 @@ module _ (f : Frame) (ok : frameSizes f ≡ Accepted) where
   unfolding frameSizes
   chroma-sizes on = plane-sizes f true frame-sized (unless-true _ Size (only-part _ _ (else-parts _ _ ok .1) on))
 
--- ---- products of a plane's sizes fit a word, as the code has its settings
-
-module _ (f : Frame) (chroma : Bool) {s : Plane} (is : s ≡ planeOf f chroma) where
-  pub four-cols-fit : Sized f → Fits w64 (4 * s .cols)
-  four-cols-fit z = let n = cells f chroma z in rw is (record { fits = omega (arith, n .cols-most) })
-
-  module _ (z : Sizes (planeOf f chroma)) where
-    pub four-rows-fit : Fits w64 (4 * s .rows)
-    four-rows-fit = rw is (rows-fit z)
-
-    pub samples-fit : Fits w64 (4 * s .rows * s .stride)
-    samples-fit = rw is (area-fits z)
-
-    pub grid-fits : Fits w64 (s .rows * s .cols)
-    grid-fits = rw is (cells-fit z)
+-- four times a plane's columns fit a word, as the code has its settings
+pub four-cols-fit : (f : Frame) (chroma : Bool) {s : Plane} → s ≡ planeOf f chroma → Sized f → Fits w64 (4 * s .cols)
+four-cols-fit f chroma is z = let n = cells f chroma z in rw is (record { fits = omega (arith, n .cols-most) })
 
 -- chroma's plane where the code's test on it came out true
 pub chroma-by : (f : Frame) {t : Bool} → frameSizes f ≡ Accepted → t ≡ chromaOn f → not t ≡ false → Sizes (chromaPlane f)

@@ -6,7 +6,7 @@ use Rattle.rules.specs.declared.settings.Frame.{Frame}
 use Rattle.rules.specs.declared.settings.Plane.{Plane}
 use Rattle.rules.specs.declared.settings.TuGrid.{TuGrid}
 use Rattle.rules.specs.declared.settings.QindexGrid.{QindexGrid}
-use Rattle.rules.specs.Frame.{lumaPlane, chromaPlane, lumaTu, chromaTu, lumaQ, chromaQ}
+use Rattle.rules.specs.Frame.{lumaPlane, chromaPlane, lumaTu, chromaTu, lumaQ, chromaQ, chromaOn}
 
 -- luma's or chroma's
 abbrev pub planeOf : Frame → Bool → Plane
@@ -20,6 +20,11 @@ tuOf f true = chromaTu f
 abbrev pub qOf : Frame → Bool → QindexGrid
 qOf f false = lumaQ f
 qOf f true = chromaQ f
+
+-- luma is always filtered
+abbrev pub kindOn : Frame → Bool → Bool
+kindOn f false = true
+kindOn f true = chromaOn f
 
 -- a picture's size and subsampling in range, so that no sum of them wraps
 pub record Sized (f : Frame) : Type 0 where

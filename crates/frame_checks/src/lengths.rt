@@ -3,56 +3,40 @@
 use super::planes::blocks;
 use super::planes::chroma_on;
 use super::planes::plane_of;
-use grid::checks::fours;
+use rules::lent::FrameLengths;
+use rules::lent::GridLengths;
 use rules::refusals::Answer;
 use rules::refusals::Refusal;
 use rules::settings::Frame;
+use rules::settings::Plane;
+use tiles::checks::fours;
 ghost use mathlib.Core.Path.{_≡_};
-ghost use mathlib.Core.Bool.{true, false};
+ghost use mathlib.Core.List.{[], _∷_};
 ghost use Prim.Native.Nat.{_*_};
 ghost use lib.Dec.{leb};
-ghost use lib.ListN.{length};
-ghost use mathlib.Core.List.{[], _∷_};
 ghost use Rattle.laws.specs.Choose.{all};
-ghost use Rattle.rules.specs.TuGrid.{foursOk};
-ghost use Rattle.rules.specs.Frame.{superblocks, samplesLong, chromaOn, frameSizes};
-ghost use Rattle.frame_checks.specs.Settings.{Sized, planeOf};
-ghost use Rattle.frame_checks.specs.Lengths.{gridLongBy, lumaLong, chromaLong, givenLong, lengthsBy};
-ghost use Rattle.cells.specs.Fit.{Sizes};
 ghost use Rattle.rules.specs.declared.refusals.Refusal.the-variants.{Length};
 ghost use Rattle.rules.specs.declared.refusals.Answer.the-variants.{Accepted};
 ghost use Rattle.rules.specs.Refusals.{unless, onlyIf};
-
-// How long the five lists of a grid are.
-pub struct GridLengths {
-    pub vedge: usize,
-    pub hedge: usize,
-    pub sqw: usize,
-    pub sqh: usize,
-    pub qindex: usize,
-}
-
-// How long the lists are that a frame writes.
-pub struct Lengths {
-    pub y: usize,
-    pub u: usize,
-    pub v: usize,
-    pub luma: GridLengths,
-    pub chroma: GridLengths,
-}
+ghost use Rattle.rules.specs.TuGrid.{foursOk};
+ghost use Rattle.rules.specs.Frame.{superblocks, lumaPlane, chromaPlane, chromaOn, frameSizes, samplesLong, gridLong, lumaLong, chromaLong, givenLong, frameLengths};
+ghost use Rattle.cells.specs.Fit.{Sizes};
+ghost use Rattle.frame_checks.specs.Settings.{Sized};
 
 // A plane of n samples.
-fn samples_long(f: Frame, chroma: bool, n: usize) -> bool
-    requires { ⌜ Sized f × Sizes (planeOf f chroma) ⌝ }
-    ensures { λ r. ⌜ r ≡ samplesLong (planeOf f chroma) n ⌝ }
+fn samples_long(s: Plane, n: usize) -> bool
+    requires { ⌜ Sizes s ⌝ }
+    ensures { λ r. ⌜ r ≡ samplesLong s n ⌝ }
 {
-    let s = plane_of(f, chroma);
     4 * s.rows * s.stride <= n
 }
 
-fn lists_long(cells: usize, g: GridLengths) -> bool
-    ensures { λ r. ⌜ r ≡ gridLongBy cells g ⌝ }
+// A grid of a plane's cells.
+fn grid_long(s: Plane, g: GridLengths) -> bool
+    requires { ⌜ Sizes s ⌝ }
+    ensures { λ r. ⌜ r ≡ gridLong s g ⌝ }
 {
+    let cells = s.rows * s.cols;
     if g.vedge < cells {
         return false;
     }
@@ -68,38 +52,31 @@ fn lists_long(cells: usize, g: GridLengths) -> bool
     cells <= g.qindex
 }
 
-// A grid of a plane's cells.
-fn grid_long(f: Frame, chroma: bool, g: GridLengths) -> bool
-    requires { ⌜ Sized f × Sizes (planeOf f chroma) ⌝ }
-    ensures { λ r. ⌜ r ≡ gridLongBy (planeOf f chroma .rows * planeOf f chroma .cols) g ⌝ }
-{
-    let s = plane_of(f, chroma);
-    lists_long(s.rows * s.cols, g)
-}
-
-fn luma_long(f: Frame, n: Lengths) -> bool
-    requires { ⌜ Sized f × Sizes (planeOf f false) ⌝ }
+fn luma_long(f: Frame, n: FrameLengths) -> bool
+    requires { ⌜ Sized f × Sizes (lumaPlane f) ⌝ }
     ensures { λ r. ⌜ r ≡ lumaLong f n ⌝ }
 {
-    if !samples_long(f, false, n.y) {
+    let s = plane_of(f, false);
+    if !samples_long(s, n.y) {
         return false;
     }
     let g = n.luma;
-    grid_long(f, false, g)
+    grid_long(s, g)
 }
 
-fn chroma_long(f: Frame, n: Lengths) -> bool
-    requires { ⌜ Sized f × Sizes (planeOf f true) ⌝ }
+fn chroma_long(f: Frame, n: FrameLengths) -> bool
+    requires { ⌜ Sized f × Sizes (chromaPlane f) ⌝ }
     ensures { λ r. ⌜ r ≡ chromaLong f n ⌝ }
 {
-    if !samples_long(f, true, n.u) {
+    let s = plane_of(f, true);
+    if !samples_long(s, n.u) {
         return false;
     }
-    if !samples_long(f, true, n.v) {
+    if !samples_long(s, n.v) {
         return false;
     }
     let g = n.chroma;
-    grid_long(f, true, g)
+    grid_long(s, g)
 }
 
 // An entry for each superblock.
@@ -123,19 +100,19 @@ fn leaves_long(leaves: usize, chromaleaves: usize, skips: usize) -> bool
     fours(skips)
 }
 
-// The superblocks' list and the leaf lists, by their lengths.
-fn given_long(f: Frame, count: usize, leaves: usize, chromaleaves: usize, skips: usize) -> bool
+// The superblocks' list and the leaf lists.
+fn given_long(f: Frame, n: FrameLengths) -> bool
     requires { ⌜ Sized f ⌝ }
-    ensures { λ r. ⌜ r ≡ givenLong f count leaves chromaleaves skips ⌝ }
+    ensures { λ r. ⌜ r ≡ givenLong f n ⌝ }
 {
-    if !count_ok(f, count) {
+    if !count_ok(f, n.sbq) {
         return false;
     }
-    leaves_long(leaves, chromaleaves, skips)
+    leaves_long(n.leaves, n.chromaleaves, n.skips)
 }
 
 // Refusal 3 of chroma's lists, where they are used.
-fn chroma_lengths(f: Frame, n: Lengths) -> Answer
+fn chroma_lengths(f: Frame, n: FrameLengths) -> Answer
     requires { ⌜ frameSizes f ≡ Accepted ⌝ }
     ensures { λ r. ⌜ r ≡ onlyIf (chromaOn f) (unless (chromaLong f n) Length) ⌝ }
 {
@@ -149,16 +126,9 @@ fn chroma_lengths(f: Frame, n: Lengths) -> Answer
 }
 
 // Refusal 3.
-pub fn frame_lengths(
-    sbq: &[u16],
-    leaves: &[u16],
-    chromaleaves: &[u16],
-    skips: &[u16],
-    f: Frame,
-    n: Lengths,
-) -> Answer
+pub fn frame_lengths(f: Frame, n: FrameLengths) -> Answer
     requires { ⌜ frameSizes f ≡ Accepted ⌝ }
-    ensures { λ r. ⌜ r ≡ lengthsBy f (length (now (sbq .entry))) (length (now (leaves .entry))) (length (now (chromaleaves .entry))) (length (now (skips .entry))) n ⌝ }
+    ensures { λ r. ⌜ r ≡ frameLengths f n ⌝ }
 {
     if !luma_long(f, n) {
         return Answer::Refused(Refusal::Length);
@@ -167,7 +137,7 @@ pub fn frame_lengths(
     if let Answer::Refused(r) = a {
         return Answer::Refused(r);
     }
-    if !given_long(f, sbq.len(), leaves.len(), chromaleaves.len(), skips.len()) {
+    if !given_long(f, n) {
         return Answer::Refused(Refusal::Length);
     }
     Answer::Accepted

@@ -7,7 +7,7 @@ pub mod planes;
 mod sizes;
 
 // Lengths of the lent lists: refusal 3.
-pub mod lengths;
+mod lengths;
 
 // Deltas and caps: refusal 5.
 mod deltas;

@@ -7,7 +7,7 @@ ghost use mathlib.Core.Path.{_≡_};
 ghost use Prim.Native.Nat.{_≤_};
 ghost use Rattle.rules.specs.Numbers.{down};
 ghost use Rattle.rules.specs.Frame.{eighths, halved, superblocks, lumaPlane, chromaPlane, chromaOn};
-ghost use Rattle.frame_checks.specs.Settings.{Sized, planeOf, tuOf, qOf};
+ghost use Rattle.frame_checks.specs.Settings.{Sized, kindOn, planeOf, tuOf, qOf};
 
 // Rounded up to 8.
 fn eights(n: usize) -> usize
@@ -154,4 +154,14 @@ pub fn chroma_on(f: Frame) -> bool
         return f.chromadeblock;
     }
     false
+}
+
+// Whether planes of a kind are filtered: luma always, chroma where it is on.
+pub fn kind_on(f: Frame, chroma: bool) -> bool
+    ensures { λ r. ⌜ r ≡ kindOn f chroma ⌝ }
+{
+    if chroma {
+        return chroma_on(f);
+    }
+    true
 }

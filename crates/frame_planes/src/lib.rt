@@ -1,10 +1,10 @@
-// The planes of a frame whose early checks are accepted: their grids built, checked and used.
+// The planes of a frame whose early checks are accepted: their grids built, checked and used, where they are filtered.
 
-// A plane's grid from the leaves and the superblocks.
+// The grid of luma or of chroma from the leaves and the superblocks.
 pub mod build;
 
 // The checks of built grids and planes: refusals 7 and 8.
 pub mod late;
 
-// The planes run in their order.
+// One plane run.
 pub mod run;

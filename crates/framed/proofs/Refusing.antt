@@ -1,69 +1,90 @@
 -- The place of each kind of refusal, and the settings' own lists as those that a frame is lent. Assumes nothing.
-use mathlib.Core.Path.{_≡_, refl}
+use mathlib.Core.Path.{_≡_, sym, ap, _∙_}
 use mathlib.Core.List.{List}
 use Prim.Native.Nat.{ℕ}
 use borrow.Author.Needs.{needs}
-use lib.ListN.{getD}
-use Rattle.laws.specs.Choose.{pick}
+use lib.ListN.{length, getD}
 use Rattle.rules.specs.declared.settings.Frame.{Frame}
 use Rattle.rules.specs.declared.refusals.Refusal.{Refusal}
 use Rattle.rules.specs.declared.refusals.Refusal.the-variants.{Depth, Size, Length, Steps, Setting, Cell, Room, Sample, Leaf}
 use Rattle.rules.specs.declared.refusals.Answer.{Answer}
-use Rattle.rules.specs.Frame.{Planes, Given}
+use Rattle.rules.specs.declared.refusals.Answer.the-variants.{Accepted, Refused}
+use Rattle.rules.specs.Frame.{Planes, Given, lent, grids}
+use Rattle.frame.proofs.Given.{luma-sampled, luma-built}
+use Rattle.frame_promises.proofs.Theorems.{refused-kept, room-early}
 use Rattle.asked.specs.declared.places.Place.{Place}
 use Rattle.asked.specs.declared.lists.Lists.{Lists}
 use Rattle.asked.specs.Lists.{listsAsked, stepsAsked}
 use Rattle.asked.specs.Places.{placeIn, samplePlace, leavesPlace}
-use Rattle.framed.specs.Deblocked.{Deblocked, RoomPlace}
-use Rattle.framed.specs.Framed.{givenBy, givenAsked, refusalPlace, triedPlanes, RefusedAt}
+use Rattle.framed.specs.declared.listed.Outcome.{Outcome}
+use Rattle.framed.specs.Deblocked.{zeroGrid, deblocked, Deblocked, LumaFit, roomPlace}
+use Rattle.framed.specs.Framed.{givenBy, givenAsked, refusalPlace, answerPlace, Told}
 
 module _ (f : Frame) (n : Given) (p : Planes) (r : Refusal) {x : Place} where
-  pub at-sample : {k : ℕ} → r ≡ Sample k → x ≡ samplePlace f (p .y) (p .u) k → RefusedAt f n p r x p
-  unfolding refusalPlace triedPlanes pick
-  at-sample e g = rw e (record { place = g; samples = refl })
+  pub at-sample : {k : ℕ} → r ≡ Sample k → x ≡ samplePlace f (p .y) (p .u) k → x ≡ refusalPlace f n p r
+  unfolding refusalPlace
+  at-sample e g = rw e g
 
-  pub at-room : {k : ℕ} {left : Planes} → r ≡ Room k → RoomPlace f n p k x left → RefusedAt f n p r x left
-  unfolding refusalPlace triedPlanes pick
-  at-room e g = rw e (record { place = g .place; samples = g .samples })
+  pub at-room : {k : ℕ} → r ≡ Room k → x ≡ roomPlace f (n .leaves) (n .skips) (n .sbq) k → x ≡ refusalPlace f n p r
+  unfolding refusalPlace
+  at-room e g = rw e g
 
-  pub at-leaf : {k : ℕ} → r ≡ Leaf k → x ≡ leavesPlace (n .leaves) (n .chromaLeaves) (n .skips) k → RefusedAt f n p r x p
-  unfolding refusalPlace triedPlanes pick
-  at-leaf e g = rw e (record { place = g; samples = refl })
+  pub at-leaf : {k : ℕ} → r ≡ Leaf k → x ≡ leavesPlace (n .leaves) (n .chromaLeaves) (n .skips) k → x ≡ refusalPlace f n p r
+  unfolding refusalPlace
+  at-leaf e g = rw e g
 
-  pub at-step : {k : ℕ} → r ≡ Steps k → x ≡ placeIn 7 k 0 → RefusedAt f n p r x p
-  unfolding refusalPlace triedPlanes pick
-  at-step e g = rw e (record { place = g; samples = refl })
+  pub at-step : {k : ℕ} → r ≡ Steps k → x ≡ placeIn 7 k 0 → x ≡ refusalPlace f n p r
+  unfolding refusalPlace
+  at-step e g = rw e g
 
-  pub of-depth : r ≡ Depth → x ≡ placeIn 8 0 0 → RefusedAt f n p r x p
-  unfolding refusalPlace triedPlanes pick
-  of-depth e g = rw e (record { place = g; samples = refl })
+  pub of-depth : r ≡ Depth → x ≡ placeIn 8 0 0 → x ≡ refusalPlace f n p r
+  unfolding refusalPlace
+  of-depth e g = rw e g
 
-  pub of-size : r ≡ Size → x ≡ placeIn 8 0 0 → RefusedAt f n p r x p
-  unfolding refusalPlace triedPlanes pick
-  of-size e g = rw e (record { place = g; samples = refl })
+  pub of-size : r ≡ Size → x ≡ placeIn 8 0 0 → x ≡ refusalPlace f n p r
+  unfolding refusalPlace
+  of-size e g = rw e g
 
-  pub of-length : r ≡ Length → x ≡ placeIn 8 0 0 → RefusedAt f n p r x p
-  unfolding refusalPlace triedPlanes pick
-  of-length e g = rw e (record { place = g; samples = refl })
+  pub of-length : r ≡ Length → x ≡ placeIn 8 0 0 → x ≡ refusalPlace f n p r
+  unfolding refusalPlace
+  of-length e g = rw e g
 
-  pub of-setting : r ≡ Setting → x ≡ placeIn 8 0 0 → RefusedAt f n p r x p
-  unfolding refusalPlace triedPlanes pick
-  of-setting e g = rw e (record { place = g; samples = refl })
+  pub of-setting : r ≡ Setting → x ≡ placeIn 8 0 0 → x ≡ refusalPlace f n p r
+  unfolding refusalPlace
+  of-setting e g = rw e g
 
-  pub of-cell : {k : ℕ} → r ≡ Cell k → x ≡ placeIn 8 0 0 → RefusedAt f n p r x p
-  unfolding refusalPlace triedPlanes pick
-  of-cell e g = rw e (record { place = g; samples = refl })
+  pub of-cell : {k : ℕ} → r ≡ Cell k → x ≡ placeIn 8 0 0 → x ≡ refusalPlace f n p r
+  unfolding refusalPlace
+  of-cell e g = rw e g
 
 pub ruleset refusing = (needs, at-sample, at-room, at-leaf, at-step, of-depth, of-size, of-length, of-setting, of-cell)
 
+-- ---- what a deblocked frame tells
+
+module _ {f : Frame} {n : Given} {p left : Planes} {a : Answer} (d : Deblocked f n p a left) where
+  -- a frame that lacks room has passed its early checks
+  pub luma-fit : {r : Refusal} {k : ℕ} → a ≡ Refused r → r ≡ Room k → LumaFit f (n .leaves) (n .skips) (length (n .sbq))
+  unfolding deblocked
+  luma-fit e is =
+      let ok = room-early f n (lent p (grids zeroGrid zeroGrid)) (sym (d .answer) ∙ e ∙ ap Refused is) in
+      record { size = length (p .y); sampled = luma-sampled _ _ _ ok; built = luma-built _ _ _ ok }
+
+  -- a refused one has its planes as lent
+  kept : {r : Refusal} → a ≡ Refused r → left ≡ p
+  unfolding deblocked
+  kept e = d .samples ∙ refused-kept f n (lent p (grids zeroGrid zeroGrid)) (sym (d .answer) ∙ e)
+
+  pub told-refused : {r : Refusal} {x : Place} → a ≡ Refused r → x ≡ refusalPlace f n left r → Told f n p (record { answer = Refused r; place = x }) left
+  unfolding answerPlace
+  told-refused e g = record { deblocked = rw e at d; place = rw (kept e) at g }
+
+  pub told-accepted : {x : Place} → a ≡ Accepted → x ≡ placeIn 8 0 0 → Told f n p (record { answer = Accepted; place = x }) left
+  unfolding answerPlace
+  told-accepted e g = record { deblocked = rw e at d; place = g }
+
 -- the lists l and m steps, as the settings have them
-module _ (f : Frame) (shorts steps places : List ℕ) (p : Planes) (l : Lists) (m : ℕ) (is-l : l ≡ listsAsked places) (is-m : m ≡ stepsAsked (getD places 3 0)) where
-  pub deblocked-so : {r : Answer} {left : Planes} → Deblocked f (givenBy l m shorts steps) p r left → Deblocked f (givenAsked shorts steps places) p r left
-  unfolding givenAsked
-  deblocked-so d = rw (is-l, is-m) at d
+pub told-so : (f : Frame) (shorts steps places : List ℕ) (p : Planes) (l : Lists) (m : ℕ) → l ≡ listsAsked places → m ≡ stepsAsked (getD places 3 0) → {o : Outcome} {left : Planes} → Told f (givenBy l m shorts steps) p o left → Told f (givenAsked shorts steps places) p o left
+unfolding givenAsked
+told-so f shorts steps places p l m is-l is-m d = rw (is-l, is-m) at d
 
-  pub refused-so : {r : Refusal} {x : Place} {left : Planes} → RefusedAt f (givenBy l m shorts steps) p r x left → RefusedAt f (givenAsked shorts steps places) p r x left
-  unfolding givenAsked
-  refused-so d = rw (is-l, is-m) at d
-
-pub ruleset settled = (needs, deblocked-so, refused-so)
+pub ruleset settled = (needs, told-so)

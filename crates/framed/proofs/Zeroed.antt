@@ -1,22 +1,24 @@
--- A frame deblocked over lists that are all zero. Assumes nothing.
-use mathlib.Core.Path.{_≡_, ap}
-use mathlib.Core.Bool.{Bool, true, false}
+-- A frame deblocked over lists that are all zero, and luma asked for room over them. Assumes nothing.
+use mathlib.Core.Path.{_≡_, refl, sym, ap, _∙_}
+use mathlib.Core.Bool.{true}
 use mathlib.Core.List.{List}
 use Prim.Native.Nat.{ℕ, _/_}
-use lib.Dec.{eqb}
 use Rattle.laws.specs.Choose.{pick}
 use borrow.Author.Needs.{needs}
 use Rattle.rules.specs.declared.settings.Frame.{Frame}
 use Rattle.rules.specs.declared.refusals.Refusal.{Refusal}
 use Rattle.rules.specs.declared.refusals.Answer.{Answer}
 use Rattle.rules.specs.declared.refusals.Answer.the-variants.{Accepted, Refused}
-use Rattle.rules.specs.Refusals.{numberOf}
-use Rattle.rules.specs.Plane.{grid}
-use Rattle.rules.specs.Frame.{Planes, Grids, Given, Done, grids, lent, done, frameOf}
+use Rattle.rules.specs.declared.refusals.Refusal.the-variants.{Room}
+use Rattle.rules.specs.declared.refusals.Found.{Found}
+use Rattle.rules.specs.declared.refusals.Found.the-variants.{At, Nothing}
+use Rattle.rules.specs.Refusals.{found, onlyIf}
+use Rattle.rules.specs.Plane.{grid, noRoom}
+use Rattle.rules.specs.Frame.{Planes, Grids, Given, Done, grids, lent, done, lumaPlane, lumaTu, lumaQ, builtGrid, frameOf}
+use Rattle.scan.proofs.Checks.{refused-not, found-nothing}
 use Rattle.asked.specs.declared.places.Place.{Place}
-use Rattle.asked.specs.Numbers.{lumaAlone}
-use Rattle.asked.specs.Places.{placeIn}
-use Rattle.framed.specs.Deblocked.{zeros, deblocked, Deblocked, lacksRoom, roomPlace, RoomPlace}
+use Rattle.asked.specs.Places.{placeIn, ifFound}
+use Rattle.framed.specs.Deblocked.{zeros, deblocked, Deblocked, lumaGrid, roomPlace}
 
 module _ (f : Frame) (n : Given) (p : Planes) {r : Answer} {left : Planes} {g : Grids} {lv lh lw lt lq cv ch cw ct cq : List ℕ} where
   pub by-zeros : done r (lent left g) ≡ frameOf f n (lent p (grids (grid lv lh lw lt lq) (grid cv ch cw ct cq)))
@@ -30,25 +32,24 @@ module _ (f : Frame) (n : Given) (p : Planes) {r : Answer} {left : Planes} {g : 
 
 -- ---- where an edge lacks room
 
-pub room-none : (a : Answer) → a ≡ Accepted → false ≡ lacksRoom a
-unfolding lacksRoom
-room-none a e = rw e
+found-first : (m : Found) (a b : Place) {x : Refusal} → found m Room ≡ Refused x → a ≡ ifFound m a b
+unfolding found ifFound
+found-first (At j) a b e = refl
+found-first Nothing a b e = refused-not (sym e)
 
-pub room-number : (a : Answer) {r : Refusal} {n : ℕ} → a ≡ Refused r → n ≡ numberOf r → eqb n 7 ≡ lacksRoom a
-unfolding lacksRoom
-room-number a e h = rw (e, h)
+module _ {f : Frame} {leaves skips sbq : List ℕ} where
+  -- luma's grid by lists that were all zero when it was built
+  pub luma-room-is : {v h w t q v' h' w' t' q' : List ℕ} {r : Answer} → ((p : List ℕ) → r ≡ onlyIf true (found (noRoom (lumaPlane f) (grid v' h' w' t' p)) Room)) → grid v' h' w' t' q' ≡ pick true (builtGrid (lumaTu f) (lumaQ f) leaves skips sbq (grid v h w t q)) (grid v h w t q) → v ≡ zeros → h ≡ zeros → w ≡ zeros → t ≡ zeros → q ≡ zeros → r ≡ found (noRoom (lumaPlane f) (lumaGrid f leaves skips sbq)) Room
+  unfolding onlyIf pick lumaGrid
+  luma-room-is {q' = q'} e is e0 e1 e2 e3 e4 = rw (rw (e0, e1, e2, e3, e4) at is) at (e q')
 
-module _ (f : Frame) (n : Given) (p : Planes) (k : ℕ) {m : Frame} {a : Answer} {left : Planes} {t : Bool} {r : Place} where
-  pub in-luma : Deblocked m n p a left → m ≡ lumaAlone f → t ≡ lacksRoom a → t ≡ true → r ≡ placeIn 0 k (f .lumastride / 4) → RoomPlace f n p k r left
-  unfolding roomPlace pick
-  in-luma d e h is g =
-      let w : Deblocked (lumaAlone f) n p a left = rw e at d in
-      record { place = rw (← w .answer, ← h, is) g; samples = w .samples }
+  module _ (k : ℕ) {a : Answer} {r : Place} (is : a ≡ found (noRoom (lumaPlane f) (lumaGrid f leaves skips sbq)) Room) where
+    pub in-luma : {x : Refusal} → a ≡ Refused x → r ≡ placeIn 0 k (f .lumastride / 4) → r ≡ roomPlace f leaves skips sbq k
+    unfolding roomPlace
+    in-luma e g = g ∙ found-first (noRoom (lumaPlane f) (lumaGrid f leaves skips sbq)) _ _ (sym is ∙ e)
 
-  pub in-chroma : Deblocked m n p a left → m ≡ lumaAlone f → t ≡ lacksRoom a → t ≡ false → r ≡ placeIn 3 k (f .chromastride / 4) → RoomPlace f n p k r left
-  unfolding roomPlace pick
-  in-chroma d e h isnt g =
-      let w : Deblocked (lumaAlone f) n p a left = rw e at d in
-      record { place = rw (← w .answer, ← h, isnt) g; samples = w .samples }
+    pub in-chroma : a ≡ Accepted → r ≡ placeIn 3 k (f .chromastride / 4) → r ≡ roomPlace f leaves skips sbq k
+    unfolding roomPlace ifFound
+    in-chroma e g = rw (found-nothing _ Room (sym is ∙ e)) g
 
-pub ruleset rooms = (needs, room-none, room-number, in-luma, in-chroma)
+pub ruleset rooms = (needs, in-luma, in-chroma)

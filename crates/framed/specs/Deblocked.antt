@@ -1,21 +1,17 @@
--- A frame deblocked over grids that are all zero, and where it was refused.
+-- A frame deblocked over grids that are all zero, and where an edge of it lacks room.
 -- Assumes nothing.
 use mathlib.Core.Path.{_≡_}
-use mathlib.Core.Bool.{Bool, false}
+use mathlib.Core.Bool.{false}
 use mathlib.Core.List.{List}
 use Prim.Native.Nat.{ℕ, _/_}
-use lib.Dec.{eqb}
-use lib.ListN.{replicate}
-use Rattle.laws.specs.Choose.{pick}
+use lib.ListN.{length, replicate}
 use Rattle.rules.specs.declared.settings.Frame.{Frame}
 use Rattle.rules.specs.declared.refusals.Answer.{Answer}
-use Rattle.rules.specs.declared.refusals.Answer.the-variants.{Accepted, Refused}
-use Rattle.rules.specs.Refusals.{numberOf}
-use Rattle.rules.specs.Plane.{Grid, grid}
-use Rattle.rules.specs.Frame.{Planes, Given, Done, grids, lent, frameOf}
+use Rattle.rules.specs.Plane.{Grid, grid, noRoom}
+use Rattle.rules.specs.Frame.{Planes, Given, Done, grids, lent, lumaPlane, lumaTu, lumaQ, builtGrid, frameOf}
+use Rattle.frame_planes.specs.Fit.{Sampled, Buildable}
 use Rattle.asked.specs.declared.places.Place.{Place}
-use Rattle.asked.specs.Numbers.{lumaAlone}
-use Rattle.asked.specs.Places.{placeIn}
+use Rattle.asked.specs.Places.{placeIn, ifFound}
 
 -- one entry for each cell of the largest plane
 unfoldable pub zeros : List ℕ
@@ -32,16 +28,17 @@ pub record Deblocked (f : Frame) (n : Given) (lent : Planes) (r : Answer) (left 
   pub answer : r ≡ deblocked f n lent .answer
   pub samples : left ≡ deblocked f n lent .lists .planes
 
--- an answer that an edge lacks room
-unfoldable pub lacksRoom : Answer → Bool
-lacksRoom Accepted = false
-lacksRoom (Refused r) = eqb (numberOf r) 7
+-- luma's grid over zeros, from leaves, skip leaves and superblocks
+unfoldable pub lumaGrid : Frame → List ℕ → List ℕ → List ℕ → Grid
+lumaGrid f leaves skips sbq = builtGrid (lumaTu f) (lumaQ f) leaves skips sbq zeroGrid
 
--- cell k of luma where luma alone lacks room, else of chroma
-unfoldable pub roomPlace : Frame → Given → Planes → ℕ → Place
-roomPlace f n p k =
-    pick (lacksRoom (deblocked (lumaAlone f) n p .answer)) (placeIn 0 k (f .lumastride / 4)) (placeIn 3 k (f .chromastride / 4))
+-- what building it and asking it for room want
+pub record LumaFit (f : Frame) (leaves skips : List ℕ) (count : ℕ) : Type 0 where
+  pub size : ℕ
+  pub sampled : Sampled f false size
+  pub built : Buildable f false leaves skips count (length zeros) (length zeros) (length zeros) (length zeros) (length zeros)
 
-pub record RoomPlace (f : Frame) (n : Given) (lent : Planes) (k : ℕ) (r : Place) (left : Planes) : Type 0 where
-  pub place : r ≡ roomPlace f n lent k
-  pub samples : left ≡ deblocked (lumaAlone f) n lent .lists .planes
+-- cell k of luma where luma lacks room, else of chroma
+unfoldable pub roomPlace : Frame → List ℕ → List ℕ → List ℕ → ℕ → Place
+roomPlace f leaves skips sbq k =
+    ifFound (noRoom (lumaPlane f) (lumaGrid f leaves skips sbq)) (placeIn 0 k (f .lumastride / 4)) (placeIn 3 k (f .chromastride / 4))

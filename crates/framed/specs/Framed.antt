@@ -3,20 +3,19 @@
 use mathlib.Core.Path.{_≡_}
 use mathlib.Core.List.{List}
 use Prim.Native.Nat.{ℕ, _-_, _≤_}
-use lib.Dec.{eqb}
 use lib.ListN.{getD, take, drop}
-use Rattle.laws.specs.Choose.{pick}
 use Rattle.rules.specs.declared.settings.Frame.{Frame}
 use Rattle.rules.specs.declared.refusals.Refusal.{Refusal}
 use Rattle.rules.specs.declared.refusals.Refusal.the-variants.{Depth, Size, Length, Steps, Setting, Cell, Room, Sample, Leaf}
-use Rattle.rules.specs.Refusals.{numberOf}
+use Rattle.rules.specs.declared.refusals.Answer.{Answer}
+use Rattle.rules.specs.declared.refusals.Answer.the-variants.{Accepted, Refused}
 use Rattle.rules.specs.Frame.{Planes, Given, given}
 use Rattle.asked.specs.declared.places.Place.{Place}
 use Rattle.asked.specs.declared.lists.Lists.{Lists}
-use Rattle.asked.specs.Numbers.{lumaAlone}
 use Rattle.asked.specs.Lists.{listsAsked, stepsAsked}
 use Rattle.asked.specs.Places.{placeIn, samplePlace, leavesPlace}
-use Rattle.framed.specs.Deblocked.{deblocked, roomPlace}
+use Rattle.framed.specs.Deblocked.{Deblocked, roomPlace}
+use Rattle.framed.specs.declared.listed.Outcome.{Outcome}
 
 -- how long the short numbers, the steps and the places are at least
 pub record Listed (shorts steps places : ℕ) : Type 0 where
@@ -47,14 +46,16 @@ refusalPlace f n p Length = placeIn 8 0 0
 refusalPlace f n p (Steps k) = placeIn 7 k 0
 refusalPlace f n p Setting = placeIn 8 0 0
 refusalPlace f n p (Cell k) = placeIn 8 0 0
-refusalPlace f n p (Room k) = roomPlace f n p k
+refusalPlace f n p (Room k) = roomPlace f (n .leaves) (n .skips) (n .sbq) k
 refusalPlace f n p (Sample k) = samplePlace f (p .y) (p .u) k
 refusalPlace f n p (Leaf k) = leavesPlace (n .leaves) (n .chromaLeaves) (n .skips) k
 
--- luma alone was deblocked to see whether it has room, the other planes are as lent
-unfoldable pub triedPlanes : Frame → Given → Planes → Refusal → Planes
-triedPlanes f n p r = pick (eqb (numberOf r) 7) (deblocked (lumaAlone f) n p .lists .planes) p
+-- an accepted frame has no place but itself
+unfoldable pub answerPlace : Frame → Given → Planes → Answer → Place
+answerPlace f n p Accepted = placeIn 8 0 0
+answerPlace f n p (Refused r) = refusalPlace f n p r
 
-pub record RefusedAt (f : Frame) (n : Given) (lent : Planes) (r : Refusal) (x : Place) (left : Planes) : Type 0 where
-  pub place : x ≡ refusalPlace f n lent r
-  pub samples : left ≡ triedPlanes f n lent r
+-- the answer, its place, and the planes afterwards
+pub record Told (f : Frame) (n : Given) (lent : Planes) (o : Outcome) (left : Planes) : Type 0 where
+  pub deblocked : Deblocked f n lent (o .answer) left
+  pub place : o .place ≡ answerPlace f n lent (o .answer)

@@ -1,24 +1,20 @@
-// A frame deblocked over grids of its own, and where an edge of it lacks room.
+// A frame deblocked over grids of its own.
 ghost use mathlib.Core.Path.{_≡_};
 ghost use Rattle.rules.specs.Frame.{planes, given};
-ghost use Rattle.framed.specs.Deblocked.{zeros, Deblocked, lacksRoom, RoomPlace};
-use asked::places::Place;
-use asked::places::at;
-use asked::told::luma_of;
+ghost use Rattle.framed.specs.Deblocked.{zeros, Deblocked};
 use frame::frame::deblock_frame;
 use rules::refusals::Answer;
-use rules::refusals::number;
 use rules::settings::Frame;
 
 // Marks or size indices of the largest plane.
-fn marks() -> [u8; 1048576]
+pub fn marks() -> [u8; 1048576]
     ensures { λ r. ⌜ r ≡ zeros ⌝ }
 {
     [0; 1048576]
 }
 
 // Its qindex entries.
-fn indices() -> [u16; 1048576]
+pub fn indices() -> [u16; 1048576]
     ensures { λ r. ⌜ r ≡ zeros ⌝ }
 {
     [0; 1048576]
@@ -69,36 +65,4 @@ pub fn deblock(
         skips,
         f,
     )
-}
-
-// Whether an answer is that an edge lacks room.
-fn lacks_room(a: Answer) -> bool
-    ensures { λ r. ⌜ r ≡ lacksRoom a ⌝ }
-{
-    match a {
-        Answer::Accepted => false,
-        Answer::Refused(r) => number(r) == 7,
-    }
-}
-
-// Where an edge lacks room: in luma where luma alone lacks it, else in chroma. Luma is deblocked where it has room.
-pub fn room_place(
-    y: &mut [u16],
-    u: &mut [u16],
-    v: &mut [u16],
-    steps: &[u32],
-    sbq: &[u16],
-    leaves: &[u16],
-    chromaleaves: &[u16],
-    skips: &[u16],
-    f: Frame,
-    k: usize,
-) -> Place
-    ensures { λ r. ⌜ RoomPlace f (given (now (steps .entry)) (now (sbq .entry)) (now (leaves .entry)) (now (chromaleaves .entry)) (now (skips .entry))) (planes (now (y .entry)) (now (u .entry)) (now (v .entry))) k r (planes (now (y .exit)) (now (u .exit)) (now (v .exit))) ⌝ }
-{
-    let a = deblock(y, u, v, steps, sbq, leaves, chromaleaves, skips, luma_of(f));
-    if lacks_room(a) {
-        return at(0, k, f.lumastride / 4);
-    }
-    at(3, k, f.chromastride / 4)
 }

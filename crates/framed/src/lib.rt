@@ -3,5 +3,8 @@
 // Over grids of its own.
 pub mod deblocking;
 
+// The place of a refusal.
+mod places;
+
 // By the settings' own lists.
 pub mod listed;

@@ -1,8 +1,5 @@
--- The laws of both grids, one file a subject.
-pub mod Turns
+-- The laws of the TU grid, one file a subject.
 pub mod Places
-pub mod Shifts
-pub mod Leaves
 pub mod Painted
 pub mod Checked
 pub mod Covers

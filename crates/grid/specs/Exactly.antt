@@ -1,14 +1,12 @@
--- Document 01's tests of `build_tx_grid`, in their order 2, 3, 5, 9, and of `build_qindex_grid`, 2, 3.
+-- Document 01's tests of `build_tx_grid`, in their order 2, 3, 5, 9.
 -- Assumes nothing.
 use mathlib.Core.Bool.{true, false}
 use mathlib.Core.List.{List, [], _∷_}
 use Prim.Native.Nat.{ℕ, _*_}
-use lib.Dec.{leb}
 use lib.ListN.{length}
 use Rattle.laws.specs.Choose.{both, all}
 use Rattle.rules.specs.declared.settings.TuGrid.{TuGrid}
-use Rattle.rules.specs.declared.settings.QindexGrid.{QindexGrid}
-use Rattle.rules.specs.Numbers.{inRange, subsamplingOk}
+use Rattle.rules.specs.Numbers.{subsamplingOk}
 use Rattle.rules.specs.TuGrid.{Marks, cellsOk, capOk, foursOk, badLeaf, marksLong}
 use Rattle.scan.specs.Exactly.{ask, seek, andThen, Check, check}
 
@@ -18,10 +16,4 @@ txTests s leaves skips g =
     ∷ check 3 (ask (all (marksLong (s .rows * s .cols) g ∷ foursOk (length leaves) ∷ foursOk (length skips) ∷ [])))
     ∷ check 5 (ask (both (capOk (s .capw)) (capOk (s .caph))))
     ∷ check 9 (andThen (seek (badLeaf false leaves)) (seek (badLeaf true skips)))
-    ∷ []
-
-abbrev pub qTests : QindexGrid → List ℕ → List ℕ → List Check
-qTests s sbq q =
-    check 2 (ask (all (cellsOk (s .cols) (s .rows) ∷ subsamplingOk (s .ssx) (s .ssy) ∷ inRange 1 128 (s .sbcols) ∷ [])))
-    ∷ check 3 (ask (all (leb 1 (length sbq) ∷ leb (s .rows * s .cols) (length q) ∷ [])))
     ∷ []

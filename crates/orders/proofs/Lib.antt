@@ -1,3 +1,4 @@
+pub mod Sweeps
 pub mod Plain
 pub mod Numbered
 pub mod Once

@@ -10,6 +10,8 @@ use Rattle.rules.specs.declared.settings.Frame.{Frame}
 use Rattle.rules.specs.declared.settings.Plane.{Plane}
 use Rattle.rules.specs.declared.settings.TuGrid.{TuGrid}
 use Rattle.rules.specs.declared.settings.QindexGrid.{QindexGrid}
+use Rattle.rules.specs.declared.lent.GridLengths.{GridLengths}
+use Rattle.rules.specs.declared.lent.FrameLengths.{FrameLengths}
 use Rattle.rules.specs.declared.refusals.Refusal.the-variants.{Depth, Size, Length, Steps, Setting, Room, Sample, Leaf}
 use Rattle.rules.specs.declared.refusals.Answer.{Answer}
 use Rattle.rules.specs.declared.refusals.Answer.the-variants.{Accepted, Refused}
@@ -53,6 +55,29 @@ lent p g = record { planes = p; grids = g }
 
 abbrev pub given : List ℕ → List ℕ → List ℕ → List ℕ → List ℕ → Given
 given steps sbq leaves chromaLeaves skips = record { steps = steps; sbq = sbq; leaves = leaves; chromaLeaves = chromaLeaves; skips = skips }
+
+-- how long they are; the step table's length is refusal 4, not 3
+abbrev pub gridLengths : Grid → GridLengths
+gridLengths g = record {
+  vedge = length (g .vedge);
+  hedge = length (g .hedge);
+  sqw = length (g .sqw);
+  sqh = length (g .sqh);
+  qindex = length (g .qindex);
+}
+
+abbrev pub lengthsOf : Given → Lent → FrameLengths
+lengthsOf n l = record {
+  y = length (l .planes .y);
+  u = length (l .planes .u);
+  v = length (l .planes .v);
+  luma = gridLengths (l .grids .luma);
+  chroma = gridLengths (l .grids .chroma);
+  sbq = length (n .sbq);
+  leaves = length (n .leaves);
+  chromaleaves = length (n .chromaLeaves);
+  skips = length (n .skips);
+}
 
 -- ---- the planes of a frame
 
@@ -142,41 +167,44 @@ frameSizes f =
     orElse (unless (all (inRange 1 4096 (f .width) ∷ inRange 1 4096 (f .height) ∷ subsamplingOk (f .ssx) (f .ssy) ∷ strideOk (lumaPlane f) ∷ [])) Size)
     (onlyIf (chromaOn f) (unless (strideOk (chromaPlane f)) Size))
 
--- a plane of n samples and a grid are long enough
+-- a plane of n samples, and a grid of its cells, are long enough
 abbrev pub samplesLong : Plane → ℕ → Bool
 samplesLong s n = leb (4 * s .rows * s .stride) n
 
-unfoldable pub gridLong : ℕ → Grid → Bool
-gridLong n g =
+unfoldable pub gridLong : Plane → GridLengths → Bool
+gridLong s g =
     all
-    (leb n (length (g .vedge))
-    ∷ leb n (length (g .hedge))
-    ∷ leb n (length (g .sqw))
-    ∷ leb n (length (g .sqh))
-    ∷ leb n (length (g .qindex))
+    (leb (s .rows * s .cols) (g .vedge)
+    ∷ leb (s .rows * s .cols) (g .hedge)
+    ∷ leb (s .rows * s .cols) (g .sqw)
+    ∷ leb (s .rows * s .cols) (g .sqh)
+    ∷ leb (s .rows * s .cols) (g .qindex)
     ∷ [])
 
+unfoldable pub lumaLong : Frame → FrameLengths → Bool
+lumaLong f k = both (samplesLong (lumaPlane f) (k .y)) (gridLong (lumaPlane f) (k .luma))
+
+unfoldable pub chromaLong : Frame → FrameLengths → Bool
+chromaLong f k = all (samplesLong (chromaPlane f) (k .u) ∷ samplesLong (chromaPlane f) (k .v) ∷ gridLong (chromaPlane f) (k .chroma) ∷ [])
+
 -- "at least sb_cols·ceil(height/64) qindex entries"; "Leaf lists have four numbers a leaf."
-unfoldable pub frameLengths : Frame → Given → Lent → Answer
-frameLengths f n l =
-    orElse (unless (both (samplesLong (lumaPlane f) (length (l .planes .y))) (gridLong (lumaPlane f .rows * lumaPlane f .cols) (l .grids .luma))) Length)
-    (orElse
-    (onlyIf (chromaOn f)
-    (unless
-    (all
-    (samplesLong (chromaPlane f) (length (l .planes .u))
-    ∷ samplesLong (chromaPlane f) (length (l .planes .v))
-    ∷ gridLong (chromaPlane f .rows * chromaPlane f .cols) (l .grids .chroma)
-    ∷ []))
-    Length))
-    (unless
-    (all
-    (leb (superblocks (f .width) * superblocks (f .height)) (length (n .sbq))
-    ∷ foursOk (length (n .leaves))
-    ∷ foursOk (length (n .chromaLeaves))
-    ∷ foursOk (length (n .skips))
-    ∷ []))
-    Length))
+unfoldable pub givenLong : Frame → FrameLengths → Bool
+givenLong f k =
+    all
+    (leb (superblocks (f .width) * superblocks (f .height)) (k .sbq)
+    ∷ foursOk (k .leaves)
+    ∷ foursOk (k .chromaleaves)
+    ∷ foursOk (k .skips)
+    ∷ [])
+
+unfoldable pub frameLengths : Frame → FrameLengths → Answer
+frameLengths f k =
+    orElse (unless (lumaLong f k) Length)
+    (orElse (onlyIf (chromaOn f) (unless (chromaLong f k) Length)) (unless (givenLong f k) Length))
+
+-- order 1, 2, 3: what a frame's settings and the lengths of its lists decide
+unfoldable pub frameShape : Frame → FrameLengths → Answer
+frameShape f k = orElse (unless (depthOk (f .depth)) Depth) (orElse (frameSizes f) (frameLengths f k))
 
 -- deltas and caps of both, also where chroma is not filtered
 unfoldable pub frameSettings : Frame → Answer
@@ -198,14 +226,13 @@ frameLeaves n =
     orElse (found (badLeaf false (n .leaves)) Leaf)
     (orElse (found (badLeaf false (n .chromaLeaves)) Leaf) (found (badLeaf true (n .skips)) Leaf))
 
+-- order 4, 5, 9
+unfoldable pub frameGiven : Frame → Given → Answer
+frameGiven f n = orElse (stepsCheck (n .steps)) (orElse (frameSettings f) (frameLeaves n))
+
 -- order 1, 2, 3, 4, 5, 9
-unfoldable pub frameEarly : Frame → Given → Lent → Answer
-frameEarly f n l =
-    orElse (unless (depthOk (f .depth)) Depth)
-    (orElse (frameSizes f)
-    (orElse (frameLengths f n l)
-    (orElse (stepsCheck (n .steps))
-    (orElse (frameSettings f) (frameLeaves n)))))
+unfoldable pub frameEarly : Frame → FrameLengths → Given → Answer
+frameEarly f k n = orElse (frameShape f k) (frameGiven f n)
 
 -- ---- the checks of the built grids and the planes, 7 and then 8
 
@@ -251,4 +278,4 @@ orDone (Refused r) l d = done (Refused r) l
 orDone Accepted l d = d
 
 unfoldable pub frameOf : Frame → Given → Lent → Done
-frameOf f n l = orDone (frameEarly f n l) l (frameBuilt f (n .steps) (builtGrids f n (l .grids)) (l .planes))
+frameOf f n l = orDone (frameEarly f (lengthsOf n l) n) l (frameBuilt f (n .steps) (builtGrids f n (l .grids)) (l .planes))

@@ -11,3 +11,6 @@ pub mod edge;
 
 // What each entry is told: settings by value.
 pub mod settings;
+
+// How long a frame's lent lists are.
+pub mod lent;

@@ -3,7 +3,7 @@
 // one TU grid of the stream
 mod tx;
 // one qindex grid of the stream
-mod qindex;
+mod levels;
 
 use cases::Cursor;
 use tally::Tally;
@@ -20,7 +20,7 @@ fn replay(text: &[u8], c: Cursor, t: Tally) -> Tally {
     let number = kind.value;
     match number {
         1 => tx::replay(text, rest, t),
-        2 => qindex::replay(text, rest, t),
+        2 => levels::replay(text, rest, t),
         _ => tally::unread(t),
     }
 }

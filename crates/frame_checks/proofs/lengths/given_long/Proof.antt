@@ -1,5 +1,5 @@
 -- `given_long` tests the lists that are only read. Assumes nothing.
-use Rattle.frame_checks.specs.Lengths.{givenLong}
+use Rattle.rules.specs.Frame.{givenLong}
 use Rattle.laws.specs.Choose.{all-bad, all-ok, told-yes-not, told-no-not}
 use borrow.Author.Needs.{needs}
 use Rattle.frame_checks.proofs.lengths.given_long.Statement.{statement}

@@ -1,20 +1,33 @@
--- `grid_long` tests a plane's grid against its cells; their product fits. Assumes nothing.
-use Rattle.frame_checks.proofs.Accepted.{grid-fits}
+-- `grid_long` tests the five lists of a grid; its cells' number fits. Assumes nothing.
+use Rattle.cells.proofs.Accepted.{sizing}
+use Rattle.rules.specs.Frame.{gridLong}
+use Rattle.laws.specs.Choose.{tests}
 use borrow.Author.Needs.{needs}
 use Rattle.frame_checks.proofs.lengths.grid_long.Statement.{statement}
 use Rattle.frame_checks.proofs.lengths.grid_long.Tie as tie
 
-plane-of-requires : tie.Need-plane-of-requires
-plane-of-requires c κs = search needs
-
-mul-lists-long : tie.Need-mul-lists-long
-mul-lists-long c = grid-fits (c .before .before .args .f) (c .before .before .args .chroma) (c .before .plane-of .ensures) (c .before .before .pre .1)
-
-lists-long-requires : tie.Need-lists-long-requires
-lists-long-requires c κs = search needs
+mul-cells : tie.Need-mul-cells
+mul-cells c = search sizing
 
 returns : tie.Need-returns
-returns c = rw (c .before .before .plane-of .ensures) at (c .lists-long .ensures)
+unfolding gridLong
+returns c = search tests
+
+returns-2 : tie.Need-returns-2
+unfolding gridLong
+returns-2 c = search tests
+
+returns-3 : tie.Need-returns-3
+unfolding gridLong
+returns-3 c = search tests
+
+returns-4 : tie.Need-returns-4
+unfolding gridLong
+returns-4 c = search tests
+
+returns-5 : tie.Need-returns-5
+unfolding gridLong
+returns-5 c = search tests
 
 pub grid-long-spec : {M : Type 1} → statement M
-grid-long-spec = tie.close (tie.spec plane-of-requires mul-lists-long lists-long-requires returns)
+grid-long-spec = tie.close (tie.spec mul-cells returns returns-2 returns-3 returns-4 returns-5)

@@ -1,0 +1,31 @@
+-- A frame gives each number exactly when document 01's test for it fails and those before it hold.
+-- Assumes nothing.
+use mathlib.Core.Path.{_≡_, refl, sym, ap, _∙_}
+use mathlib.Core.List.{List}
+use Rattle.rules.specs.declared.settings.Frame.{Frame}
+use Rattle.rules.specs.declared.refusals.Answer.{Answer}
+use Rattle.rules.specs.declared.refusals.Answer.the-variants.{Accepted, Refused}
+use Rattle.rules.specs.Refusals.{orElse}
+use Rattle.rules.specs.Thresholds.{stepsCheck}
+use Rattle.rules.specs.Frame.{Given, Lent, Done, done, lengthsOf, builtGrids, frameSizes, frameLengths, frameShape, frameSettings, frameLeaves, frameGiven, frameEarly, frameRoom, frameSamples, frameLate, frameBuilt, orDone, frameOf}
+use Rattle.frame_promises.specs.Chain.{Exactly}
+use Rattle.frame_promises.proofs.Chain.{exactly, else-joined}
+use Rattle.frame_promises.specs.Exactly.{frameTests}
+
+-- the early checks, then the late ones
+answer-by : (f : Frame) (n : Given) (l : Lent) (a : Answer) → orDone a l (frameBuilt f (n .steps) (builtGrids f n (l .grids)) (l .planes)) .answer ≡ orElse a (frameLate f (builtGrids f n (l .grids)) (l .planes))
+unfolding orDone orElse frameBuilt
+answer-by f n l Accepted = refl
+answer-by f n l (Refused r) = refl
+
+pub answer-is : (f : Frame) (n : Given) (l : Lent) → frameOf f n l .answer ≡ orElse (frameEarly f (lengthsOf n l) n) (frameLate f (builtGrids f n (l .grids)) (l .planes))
+unfolding frameOf
+answer-is f n l = answer-by f n l (frameEarly f (lengthsOf n l) n)
+
+in-one : (a1 a2 a3 a4 a5 a9 a7 a8 : Answer) → orElse (orElse (orElse a1 (orElse a2 a3)) (orElse a4 (orElse a5 a9))) (orElse a7 a8) ≡ orElse a1 (orElse a2 (orElse a3 (orElse a4 (orElse a5 (orElse a9 (orElse a7 a8))))))
+in-one a1 a2 a3 a4 a5 a9 a7 a8 = simp else-joined
+
+-- every result that the entry's statement allows
+pub frame-exactly : (f : Frame) (n : Given) (l : Lent) {r : Answer} {a : Lent} → done r a ≡ frameOf f n l → Exactly r (frameTests f n l)
+unfolding frameEarly frameShape frameSizes frameLengths frameGiven frameSettings frameLeaves stepsCheck frameLate frameRoom frameSamples
+frame-exactly f n l e = exactly (frameTests f n l) refl (ap (λ (d : Done). d .answer) e ∙ answer-is f n l ∙ in-one _ _ _ _ _ _ _ _)

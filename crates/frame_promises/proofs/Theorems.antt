@@ -1,0 +1,151 @@
+-- What the entry's equation says, read off: one result; a refusal before 7 leaves every list as lent; refusals 7 and 8 leave the planes
+-- as lent and the grids built; a frame without chroma leaves chroma's lists as lent.
+-- Assumes nothing.
+use mathlib.Core.Path.{_≡_, refl, sym, ap, _∙_}
+use mathlib.Core.Bool.{Bool, true, false}
+use Prim.Native.Nat.{ℕ}
+use native.Mathlib.Omega.{arith}
+use Rattle.laws.specs.Choose.{pick}
+use Rattle.rules.specs.declared.settings.Frame.{Frame}
+use Rattle.rules.specs.declared.lent.FrameLengths.{FrameLengths}
+use Rattle.rules.specs.declared.refusals.Refusal.{Refusal}
+use Rattle.rules.specs.declared.refusals.Refusal.the-variants.{Depth, Size, Length, Steps, Setting, Cell, Room, Sample, Leaf}
+use Rattle.rules.specs.declared.refusals.Answer.{Answer}
+use Rattle.rules.specs.declared.refusals.Answer.the-variants.{Accepted, Refused}
+use Rattle.rules.specs.declared.refusals.Found.{Found}
+use Rattle.rules.specs.declared.refusals.Found.the-variants.{At, Nothing}
+use Rattle.rules.specs.Refusals.{orElse, unless, found, onlyIf, settle}
+use Rattle.rules.specs.Thresholds.{stepsCheck}
+use Rattle.rules.specs.Frame.{Planes, Grids, Given, Lent, Done, lent, done, lengthsOf, chromaOn, builtGrids, frameSizes, frameLengths, frameShape, frameSettings, frameLeaves, frameGiven, frameEarly, frameLate, runFrame, frameBuilt, orDone, frameOf}
+
+-- any two results that the statement allows are equal, every list of them
+pub one-result : (f : Frame) (n : Given) (l : Lent) {r r' : Answer} {a b : Lent} → done r a ≡ frameOf f n l → done r' b ≡ frameOf f n l → (r ≡ r') × (a ≡ b)
+one-result f n l e g = let h = e ∙ sym g in (ap (λ (d : Done). d .answer) h, ap (λ (d : Done). d .lists) h)
+
+-- ---- 7 and 8 are not among the early checks
+
+abbrev before7 : Refusal → Bool
+before7 Depth = true
+before7 Size = true
+before7 Length = true
+before7 (Steps k) = true
+before7 Setting = true
+before7 (Cell k) = true
+before7 (Room k) = false
+before7 (Sample k) = false
+before7 (Leaf k) = true
+
+abbrev early : Answer → Bool
+early Accepted = true
+early (Refused r) = before7 r
+
+else-early : (a b : Answer) → early a ≡ true → early b ≡ true → early (orElse a b) ≡ true
+unfolding orElse
+else-early Accepted b e g = g
+else-early (Refused r) b e g = e
+
+unless-early : (t : Bool) (r : Refusal) → before7 r ≡ true → early (unless t r) ≡ true
+unfolding unless
+unless-early true r e = refl
+unless-early false r e = e
+
+found-early : (m : Found) (r : ℕ → Refusal) → ((k : ℕ) → before7 (r k) ≡ true) → early (found m r) ≡ true
+unfolding found
+found-early (At k) r e = e k
+found-early Nothing r e = refl
+
+only-early : (t : Bool) (a : Answer) → early a ≡ true → early (onlyIf t a) ≡ true
+unfolding onlyIf
+only-early true a e = e
+only-early false a e = refl
+
+early-sizes : (f : Frame) → early (frameSizes f) ≡ true
+unfolding frameSizes
+early-sizes f = else-early _ _ (unless-early _ Size refl) (only-early _ _ (unless-early _ Size refl))
+
+early-lengths : (f : Frame) (k : FrameLengths) → early (frameLengths f k) ≡ true
+unfolding frameLengths
+early-lengths f k =
+    else-early _ _ (unless-early _ Length refl) (else-early _ _ (only-early _ _ (unless-early _ Length refl)) (unless-early _ Length refl))
+
+early-leaves : (n : Given) → early (frameLeaves n) ≡ true
+unfolding frameLeaves
+early-leaves n =
+    else-early _ _ (found-early _ Leaf (λ _. refl)) (else-early _ _ (found-early _ Leaf (λ _. refl)) (found-early _ Leaf (λ _. refl)))
+
+early-checks : (f : Frame) (k : FrameLengths) (n : Given) → early (frameEarly f k n) ≡ true
+unfolding frameEarly frameShape frameGiven stepsCheck frameSettings
+early-checks f k n =
+    else-early _ _ (else-early _ _ (unless-early _ Depth refl) (else-early _ _ (early-sizes f) (early-lengths f k)))
+    (else-early _ _ (found-early _ Steps (λ _. refl)) (else-early _ _ (unless-early _ Setting refl) (early-leaves n)))
+
+module _ (f : Frame) (n : Given) (l : Lent) where
+  pub kept-early : {r : Refusal} → frameEarly f (lengthsOf n l) n ≡ Refused r → frameOf f n l ≡ done (Refused r) l
+  unfolding frameOf orDone
+  kept-early e = rw e
+
+  module _ (ok : frameEarly f (lengthsOf n l) n ≡ Accepted) where
+    pub kept-late : {r : Refusal} → frameLate f (builtGrids f n (l .grids)) (l .planes) ≡ Refused r → frameOf f n l ≡ done (Refused r) (lent (l .planes) (builtGrids f n (l .grids)))
+    unfolding frameOf orDone frameBuilt settle
+    kept-late e = rw (ok, e)
+
+    pub ran : frameLate f (builtGrids f n (l .grids)) (l .planes) ≡ Accepted → frameOf f n l ≡ done Accepted (lent (runFrame f (n .steps) (builtGrids f n (l .grids)) (l .planes)) (builtGrids f n (l .grids)))
+    unfolding frameOf orDone frameBuilt settle
+    ran e = rw (ok, e)
+
+  abbrev after : Lent
+  after = frameOf f n l .lists
+
+  abbrev built : Done
+  built = frameBuilt f (n .steps) (builtGrids f n (l .grids)) (l .planes)
+
+  -- ---- chroma's lists of a frame without chroma, whatever the answer
+
+  settled : (a : Answer) (p q : Planes) → q .u ≡ p .u → q .v ≡ p .v → (settle a p q .u ≡ p .u) × (settle a p q .v ≡ p .v)
+  unfolding settle
+  settled Accepted p q e g = (e, g)
+  settled (Refused r) p q e g = (refl, refl)
+
+  planes-kept : chromaOn f ≡ false → (built .lists .planes .u ≡ l .planes .u) × (built .lists .planes .v ≡ l .planes .v)
+  unfolding frameBuilt runFrame pick
+  planes-kept off =
+      settled (frameLate f (builtGrids f n (l .grids)) (l .planes)) (l .planes) (runFrame f (n .steps) (builtGrids f n (l .grids)) (l .planes)) (rw off) (rw off)
+
+  grid-kept : chromaOn f ≡ false → built .lists .grids .chroma ≡ l .grids .chroma
+  unfolding frameBuilt builtGrids pick
+  grid-kept off = rw off
+
+  chroma-by : chromaOn f ≡ false → (a : Answer) → (orDone a l built .lists .planes .u ≡ l .planes .u) × (orDone a l built .lists .planes .v ≡ l .planes .v) × (orDone a l built .lists .grids .chroma ≡ l .grids .chroma)
+  unfolding orDone
+  chroma-by off (Refused r) = (refl, refl, refl)
+  chroma-by off Accepted = (planes-kept off .0, planes-kept off .1, grid-kept off)
+
+  pub chroma-kept : chromaOn f ≡ false → (after .planes .u ≡ l .planes .u) × (after .planes .v ≡ l .planes .v) × (after .grids .chroma ≡ l .grids .chroma)
+  unfolding frameOf
+  chroma-kept off = chroma-by off (frameEarly f (lengthsOf n l) n)
+
+  -- ---- a refusal leaves the planes as lent, whatever its number
+
+  kept-by : (a : Answer) (q : Planes) {r : Refusal} → a ≡ Refused r → settle a (l .planes) q ≡ l .planes
+  unfolding settle
+  kept-by a q h = rw h
+
+  refused-by : (a : Answer) {r : Refusal} → orDone a l built .answer ≡ Refused r → orDone a l built .lists .planes ≡ l .planes
+  unfolding orDone frameBuilt
+  refused-by (Refused x) h = refl
+  refused-by Accepted h = kept-by (frameLate f (builtGrids f n (l .grids)) (l .planes)) _ h
+
+  pub refused-kept : {r : Refusal} → frameOf f n l .answer ≡ Refused r → after .planes ≡ l .planes
+  unfolding frameOf
+  refused-kept e = refused-by (frameEarly f (lengthsOf n l) n) e
+
+  -- ---- one by 7 has passed every early check
+
+  room-by : (a : Answer) {k : ℕ} → early a ≡ true → orDone a l built .answer ≡ Refused (Room k) → a ≡ Accepted
+  unfolding orDone
+  room-by Accepted h g = refl
+  room-by (Refused x) h g = let z : true ≡ false = sym h ∙ ap early g in absurd (let y : _≡_ {A = ℕ} 0 1 = cc in omega arith)
+
+  pub room-early : {k : ℕ} → frameOf f n l .answer ≡ Refused (Room k) → frameEarly f (lengthsOf n l) n ≡ Accepted
+  unfolding frameOf
+  room-early e = room-by (frameEarly f (lengthsOf n l) n) (early-checks f (lengthsOf n l) n) e

@@ -1,0 +1,3 @@
+-- The tests of a frame in document 01's order.
+pub mod Chain
+pub mod Exactly
