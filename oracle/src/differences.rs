@@ -1,14 +1,14 @@
 //! What docs/DIFFERENCES.md says of the published Rust, each shown by running it.
 
 use crate::rust::ccso::{Choice, BORDER};
-use crate::rust::deblock::{self, Marks, Settings};
+use crate::rust::deblock::{self, Frame, Marks, Settings};
 use crate::rust::quant;
 use std::panic;
 
 /// What is said of the Rust, and whether it is so.
 type Said = (&'static str, fn() -> bool);
 
-const SAID: [Said; 9] = [
+const SAID: [Said; 13] = [
     ("read_line clamps an offset before the plane to its first sample", clamps_before),
     ("read_line clamps an offset past the plane to its last sample", clamps_after),
     ("f32 samples are cut to whole numbers when read", cuts),
@@ -18,6 +18,10 @@ const SAID: [Said; 9] = [
     ("deblock_plane panics on a short qindex list", short_panics),
     ("without its flags deblock_plane keeps the plane", flags_off),
     ("every tap of the CCSO supports lies within the replicated border", taps_within),
+    ("deblock_plane filters with a superblock of 32 cells", superblock_32),
+    ("deblock_plane filters a plane of 1025 columns of cells", cells_1025),
+    ("deblock_plane filters a sample of 300 at depth 8", sample_300),
+    ("deblock_frame takes sb_cols from its caller: 3 at width 65 gives other samples than 2", three_across),
 ];
 
 fn clamps_before() -> bool {
@@ -71,6 +75,55 @@ fn flags_off() -> bool {
     let (settings, marks, plane) = two_cells();
     let run = |flags| deblock::plane_by(&settings, &marks, &[200, 200], &plane, flags);
     run((false, false)) == plane && run((true, true)) != plane
+}
+
+/// Whether the Rust changes the plane of two cells once its settings are changed.
+fn filters(change: impl FnOnce(&mut Settings)) -> bool {
+    let (mut settings, marks, plane) = two_cells();
+    change(&mut settings);
+    deblock::plane(&settings, &marks, &[200, 200], &plane) != plane
+}
+
+fn superblock_32() -> bool {
+    filters(|s| s.superblock = (32, 32))
+}
+
+fn cells_1025() -> bool {
+    let (mut settings, _, _) = two_cells();
+    settings.cells = (1025, 1);
+    settings.stride = 4100;
+    settings.size = (4100, 4);
+    let marks = Marks { vertical: vec![1; 1025], horizontal: vec![0; 1025], width: vec![0; 1025], height: vec![0; 1025] };
+    let plane: Vec<u16> = (0..16400).map(|i| if i % 8 < 4 { 100 } else { 108 }).collect();
+    deblock::plane(&settings, &marks, &[200; 1025], &plane) != plane
+}
+
+fn sample_300() -> bool {
+    let (settings, marks, _) = two_cells();
+    let plane: Vec<u16> = (0..32).map(|i| if i % 8 < 4 { 300 } else { 308 }).collect();
+    deblock::plane(&settings, &marks, &[200, 200], &plane) != plane
+}
+
+/// Two superblocks across and two down: with three across the entries of the second row begin one later, at the first of qindex 200.
+fn three_across() -> bool {
+    let entries = [0, 0, 0, 200, 200, 200];
+    let leaves: Vec<_> = (0..4).map(|k| (k / 2 * 16, k % 2 * 16, 16, 16)).collect();
+    let frame = Frame {
+        size: (65, 128),
+        sub: (0, 0),
+        chroma: (false, false),
+        depth: 8,
+        deltas: (0, 0),
+        strides: (72, 72),
+        cap: (1, 1),
+        chroma_cap: (1, 1),
+        entries: &entries,
+        leaves: &leaves,
+        chroma_leaves: &[],
+        skips: &[],
+    };
+    let planes = [(0..72 * 128).map(|i| 100 + i % 72 / 4 % 2 * 6).collect(), vec![], vec![]];
+    deblock::frame_by(&frame, 3, &planes) != deblock::frame_by(&frame, 2, &planes)
 }
 
 fn taps_within() -> bool {

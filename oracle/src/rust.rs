@@ -195,6 +195,11 @@ pub mod deblock {
 
     /// The three planes after the Rust deblocked a frame.
     pub fn frame(f: &Frame, planes: &[Vec<u16>; 3]) -> [Vec<u16>; 3] {
+        frame_by(f, f.size.0.div_ceil(64), planes)
+    }
+
+    /// The same with as many superblocks across as the caller says.
+    pub fn frame_by(f: &Frame, sb_cols: usize, planes: &[Vec<u16>; 3]) -> [Vec<u16>; 3] {
         let mut y = to_floats(&planes[0]);
         let mut u = to_floats(&planes[1]);
         let mut v = to_floats(&planes[2]);
@@ -214,7 +219,7 @@ pub mod deblock {
             delta_y: f.deltas.0 as i32,
             delta_uv: f.deltas.1 as i32,
             base_q: 7,
-            sb_cols: f.size.0.div_ceil(64),
+            sb_cols,
             sb_qidx: f.entries,
             leaves: f.leaves,
             chroma_leaves: f.chroma_leaves,
