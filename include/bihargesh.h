@@ -1,19 +1,16 @@
-/* Bihargesh, the proved AV2 loop filters: what C may call. The functions stand in the static library libcside.a.
+/* Bihargesh, the proved AV2 loop filters: what C may call. The functions stand in the static library libbihargesh.a.
  *
  * Each function takes any numbers and lists of any length. A list is a pointer and the number of its entries; the pointer must lead
  * to that many, a list that is not const overlaps no other, and an empty list may be NULL.
- * It does its work, or answers minus the number of document 01's refusal and leaves all lent memory as it was (but see bihargesh_frame):
- *   1 depth is not 8, 10 or 12                     2 a size, stride, subsampling or count is out of range
- *   3 a list is shorter than needed                4 the step table is bad
- *   5 a delta, cap or other setting out of range   6 a grid cell has a bad mark or size index
- *   7 an edge lacks room                           8 a used sample exceeds 2^depth - 1
- *   9 a leaf is bad
- * Where several hold, the answer is the first in the order 1, 2, 3, 4, 5, 9, 6, 7, 8.
+ * A function does its work, or answers minus the number of a refusal and leaves all lent memory as it was, but for one list: `place` is
+ * where the place of the refusal goes, and the one list that a refusal writes (a frame refused by 7 or 8 has built its grids too).
+ * Where several refusals hold, the answer is the first in the order 1, 2, 3, 4, 5, 9, 6, 7, 8; enum bihargesh_refusal names them.
  *
- * The functions with a list `settings` take their settings as numbers in a fixed order, given with each; numbers beyond those are not
- * looked at, and a list with fewer is refused by 2 before all else. A number below 0 where a count stands is out of its range.
  * The functions with a list `place` put the place of a refusal into its first entry, if it has one: the first bad step, cell, leaf
- * or sample, counted from 0, and 0 where document 01 names none. `place` is left as lent where the answer is 0.
+ * or sample, counted from 0, and 0 for a refusal that has no place. `place` is left as lent where the answer is 0.
+ * The functions with a list `settings` take their settings as numbers in a fixed order, named by an enum with each; numbers beyond those
+ * are not looked at, and a list with fewer is refused by 3 before all else, since nothing else can be read. A number below 0 where a count
+ * stands is out of its range.
  */
 #ifndef BIHARGESH_H
 #define BIHARGESH_H
@@ -25,6 +22,25 @@
 extern "C" {
 #endif
 
+#define BIHARGESH_VERSION "1.0.0"
+
+/* Why a call is refused; the answer is minus this. */
+enum bihargesh_refusal {
+  BIHARGESH_BAD_DEPTH = 1,   /* the depth is not 8, 10 or 12 */
+  BIHARGESH_BAD_SIZE = 2,    /* a size, stride, subsampling or count is out of range */
+  BIHARGESH_BAD_LENGTH = 3,  /* a list other than the step table is shorter than needed, or a list of leaves is cut */
+  BIHARGESH_BAD_STEPS = 4,   /* the step table is not 352 entries from 64 on, each at most 1048576 */
+  BIHARGESH_BAD_SETTING = 5, /* a delta, cap, threshold, length pair or CCSO setting is out of range */
+  BIHARGESH_BAD_CELL = 6,    /* a grid cell has a bad mark or size index */
+  BIHARGESH_NO_ROOM = 7,     /* an edge lacks room */
+  BIHARGESH_BAD_SAMPLE = 8,  /* a used sample exceeds 2^depth - 1 */
+  BIHARGESH_BAD_LEAF = 9     /* a leaf is bad */
+};
+
+/* Fills a list with the 352 AC steps of the published encoder, for `steps` below, and answers 0: 64, then 24 steps an octave, and from
+ * entry 255 on the same. Entries from 352 on are kept. Refusal 3. */
+int32_t bihargesh_steps(uint32_t *steps, size_t steps_len);
+
 /* Both thresholds of the edge between two blocks, as q * 65536 + side.
  * curr and prev are the qindex of the block after and before the edge, delta_q and delta_side are -128..127,
  * steps is the table of 352 AC steps, four bytes a step, low first (1,408 bytes; 4 if not). Refusals 1, 4, 5, in this order. */
@@ -35,6 +51,22 @@ int32_t bihargesh_thresholds(uint16_t curr, uint16_t prev, int32_t delta_q, int3
  * window is four lines of eighteen samples, each p8..p0 then q0..q8, two bytes a sample, low first (144 bytes; 3 if not);
  * pair is 0..7, q 0..2048, side 0..839. Only samples within the widths change. Refusals 1, 3, 5, 8, in this order. */
 int32_t bihargesh_segment(uint8_t *window, size_t window_len, uint32_t depth, uint32_t pair, uint32_t q, uint32_t side);
+
+/* Where a plane's settings stand. */
+enum bihargesh_plane_setting {
+  BIHARGESH_PLANE_COLS,
+  BIHARGESH_PLANE_ROWS,
+  BIHARGESH_PLANE_STRIDE,
+  BIHARGESH_PLANE_WIDTH,
+  BIHARGESH_PLANE_HEIGHT,
+  BIHARGESH_PLANE_SB_WIDTH,
+  BIHARGESH_PLANE_SB_HEIGHT,
+  BIHARGESH_PLANE_CHROMA,
+  BIHARGESH_PLANE_DEPTH,
+  BIHARGESH_PLANE_DELTA_Q,
+  BIHARGESH_PLANE_DELTA_SIDE,
+  BIHARGESH_PLANE_SETTINGS /* how many there are; so in the enums below */
+};
 
 /* Filters every marked edge of a plane, in document 01's order, and answers 0.
  * plane has rows of stride samples. The grid has a number for each cell of 4x4 samples, row by row: vedge and hedge mark (0 or 1) an
@@ -48,6 +80,17 @@ int32_t bihargesh_plane(uint16_t *plane, size_t plane_len, const uint8_t *vedge,
                         const uint32_t *steps, size_t steps_len, const int32_t *settings, size_t settings_len,
                         size_t *place, size_t place_len);
 
+/* Where a TU grid's settings stand. */
+enum bihargesh_tx_grid_setting {
+  BIHARGESH_TX_GRID_COLS,
+  BIHARGESH_TX_GRID_ROWS,
+  BIHARGESH_TX_GRID_SSX,
+  BIHARGESH_TX_GRID_SSY,
+  BIHARGESH_TX_GRID_CAP_WIDTH,
+  BIHARGESH_TX_GRID_CAP_HEIGHT,
+  BIHARGESH_TX_GRID_SETTINGS
+};
+
 /* Builds the marks and size indices of a plane's cells from its leaves, and answers 0.
  * leaves and skips have four numbers a leaf: row, column (0..1023), width and height (1, 2, 4, .. 64, all in luma cells); 4096 added to
  * a leaf's width keeps the leaf whole. A skip leaf is whole, carries no 4096, and comes after every other leaf.
@@ -57,12 +100,42 @@ int32_t bihargesh_tx_grid(const uint16_t *leaves, size_t leaves_len, const uint1
                           uint8_t *hedge, size_t hedge_len, uint8_t *sqw, size_t sqw_len, uint8_t *sqh, size_t sqh_len,
                           const int32_t *settings, size_t settings_len, size_t *place, size_t place_len);
 
+/* Where a qindex grid's settings stand. */
+enum bihargesh_qindex_grid_setting {
+  BIHARGESH_QINDEX_GRID_COLS,
+  BIHARGESH_QINDEX_GRID_ROWS,
+  BIHARGESH_QINDEX_GRID_SSX,
+  BIHARGESH_QINDEX_GRID_SSY,
+  BIHARGESH_QINDEX_GRID_SB_COLS,
+  BIHARGESH_QINDEX_GRID_SETTINGS
+};
+
 /* Gives each cell of a plane the qindex of its superblock, and answers 0.
  * superblocks has the qindex of each superblock of 64x64 luma samples, row by row; a cell beyond the last takes the last.
  * settings, five numbers: cols and rows (cells each way, 1..1024), subsampling across and down (0 0, 1 0 or 1 1), superblocks across
  * (1..128). Entries from cols*rows on are kept. Refusals 2, 3, in this order. */
 int32_t bihargesh_qindex_grid(const uint16_t *superblocks, size_t superblocks_len, uint16_t *qindex, size_t qindex_len,
                               const int32_t *settings, size_t settings_len, size_t *place, size_t place_len);
+
+/* Where a frame's settings stand. */
+enum bihargesh_frame_setting {
+  BIHARGESH_FRAME_WIDTH,
+  BIHARGESH_FRAME_HEIGHT,
+  BIHARGESH_FRAME_SSX,
+  BIHARGESH_FRAME_SSY,
+  BIHARGESH_FRAME_HAS_CHROMA,
+  BIHARGESH_FRAME_CHROMA_DEBLOCK,
+  BIHARGESH_FRAME_DEPTH,
+  BIHARGESH_FRAME_DELTA_LUMA,
+  BIHARGESH_FRAME_DELTA_CHROMA,
+  BIHARGESH_FRAME_LUMA_STRIDE,
+  BIHARGESH_FRAME_CHROMA_STRIDE,
+  BIHARGESH_FRAME_CAP_WIDTH,
+  BIHARGESH_FRAME_CAP_HEIGHT,
+  BIHARGESH_FRAME_CHROMA_CAP_WIDTH,
+  BIHARGESH_FRAME_CHROMA_CAP_HEIGHT,
+  BIHARGESH_FRAME_SETTINGS
+};
 
 /* Filters a whole frame: builds the grids of luma and chroma from leaves and superblocks, and filters luma, then u and v. Answers 0.
  * Each grid is five lists as in bihargesh_plane, which hold afterwards what was built; a refusal by 7 or 8 also leaves them built, and every
@@ -83,6 +156,27 @@ int32_t bihargesh_frame(uint16_t *y, size_t y_len, uint16_t *u, size_t u_len, ui
                         const uint16_t *leaves, size_t leaves_len, const uint16_t *chroma_leaves, size_t chroma_leaves_len,
                         const uint16_t *skips, size_t skips_len, const int32_t *settings, size_t settings_len,
                         size_t *place, size_t place_len);
+
+/* Where CCSO's settings stand. */
+enum bihargesh_ccso_setting {
+  BIHARGESH_CCSO_WIDTH,
+  BIHARGESH_CCSO_HEIGHT,
+  BIHARGESH_CCSO_SSX,
+  BIHARGESH_CCSO_SSY,
+  BIHARGESH_CCSO_DEPTH,
+  BIHARGESH_CCSO_SCALE,
+  BIHARGESH_CCSO_LO,
+  BIHARGESH_CCSO_HI,
+  BIHARGESH_CCSO_BELOW,
+  BIHARGESH_CCSO_WITHIN,
+  BIHARGESH_CCSO_ABOVE,
+  BIHARGESH_CCSO_DX0,
+  BIHARGESH_CCSO_DY0,
+  BIHARGESH_CCSO_DX1,
+  BIHARGESH_CCSO_DY1,
+  BIHARGESH_CCSO_BAND_LOG2,
+  BIHARGESH_CCSO_SETTINGS
+};
 
 /* Adds the gated CCSO offsets to a plane, and answers 0.
  * luma and target have no row padding; flags has a number for each block of 64x64 luma samples, row by row, and 0 keeps the block as it

@@ -169,7 +169,9 @@ static void planes(void) {
   same("place as lent", (long long)place[0], 77);
   for (int k = 0; k < 96; k++) same("sample of a plane", plane[k], k % 24 < 18 ? wide[k % 24] : 108);
   plane_anew();
-  refused_plane("ten numbers", 10, -2, 0);
+  refused_plane("ten numbers", 10, -BIHARGESH_BAD_LENGTH, 0);
+  plane_settings[8] = 9;
+  refused_plane("ten numbers before the depth", 10, -BIHARGESH_BAD_LENGTH, 0);
   plane_settings[8] = 9;
   plane_settings[7] = 2;
   refused_plane("depth 9", 11, -1, 0);
@@ -237,7 +239,7 @@ static void grids(void) {
   settings[4] = 0;
   same("no superblocks across", bihargesh_qindex_grid(blocks, 4, cells, LEN(cells), settings, 5, place, 1), -2);
   same("no superblock", bihargesh_qindex_grid(blocks, 0, cells, LEN(cells), (int32_t[5]){32, 32, 0, 0, 2}, 5, place, 1), -3);
-  same("four numbers", bihargesh_qindex_grid(blocks, 4, cells, LEN(cells), settings, 4, place, 1), -2);
+  same("four numbers", bihargesh_qindex_grid(blocks, 4, cells, LEN(cells), settings, 4, place, 1), -BIHARGESH_BAD_LENGTH);
 }
 
 /* ---- a frame of 24 by 8 samples with chroma of 12 by 4, held to bihargesh_plane on the grids that it built */
@@ -273,7 +275,7 @@ static void frames(void) {
   same("v as alone", memcmp(v, other, sizeof other), 0);
   same("luma was filtered", luma[7] > 100 && luma[8] < 108, 1);
   same("u was filtered", u[3] > 100 && u[4] < 108, 1);
-  same("fourteen numbers", run_frame(numbers, 14), -2);
+  same("fourteen numbers", run_frame(numbers, 14), -BIHARGESH_BAD_LENGTH);
   memcpy(bad, numbers, sizeof bad);
   bad[5] = 2;
   same("chroma_deblock 2", run_frame(bad, 15), -2);
@@ -313,7 +315,32 @@ static void offsets(void) {
   same("its place", (long long)place[0], 1);
   settings[15] = -1;
   same("band log2 -1", bihargesh_ccso(luma, 2, target, 2, flags, 1, by, 64, settings, 16, place, 1), -5);
-  same("fifteen numbers", bihargesh_ccso(luma, 2, target, 2, flags, 1, by, 64, settings, 15, place, 1), -2);
+  same("fifteen numbers", bihargesh_ccso(luma, 2, target, 2, flags, 1, by, 64, settings, 15, place, 1), -BIHARGESH_BAD_LENGTH);
+}
+
+/* ---- the published step table */
+
+static void published_steps(void) {
+  static const uint32_t first[25] = {64, 40, 41, 43, 44, 45, 47, 48, 49, 51, 52, 54, 55, 57, 59, 60, 62, 64, 66, 68, 70, 72, 74, 76, 78};
+  uint32_t list[353];
+  memset(list, 7, sizeof list);
+  same("a short list", bihargesh_steps(list, 351), -BIHARGESH_BAD_LENGTH);
+  same("the list as lent", list[0], 0x07070707);
+  same("steps", bihargesh_steps(list, LEN(list)), 0);
+  for (int k = 0; k < 352; k++) same("a step", list[k], k < 25 ? first[k] : k > 255 ? list[255] : 2 * list[k - 24]);
+  same("an entry beyond", list[352], 0x07070707);
+  same("a plane's list", bihargesh_steps(table, LEN(table)), 0);
+}
+
+/* ---- the enums of the settings count what each function takes */
+
+static void settings_counted(void) {
+  same("a plane's settings", BIHARGESH_PLANE_SETTINGS, 11);
+  same("a TU grid's settings", BIHARGESH_TX_GRID_SETTINGS, 6);
+  same("a qindex grid's settings", BIHARGESH_QINDEX_GRID_SETTINGS, 5);
+  same("a frame's settings", BIHARGESH_FRAME_SETTINGS, 15);
+  same("CCSO's settings", BIHARGESH_CCSO_SETTINGS, 16);
+  same("the last refusal", BIHARGESH_BAD_LEAF, 9);
 }
 
 int main(void) {
@@ -324,6 +351,8 @@ int main(void) {
   grids();
   frames();
   offsets();
+  published_steps();
+  settings_counted();
   printf("C: %d checks, %d failures\n", checks, failures);
   return failures != 0;
 }

@@ -5,7 +5,7 @@ use crate::line::Line;
 use crate::random::Random;
 use crate::rust::ccso::{self, Choice, Picture};
 use crate::thresholds::DEPTHS;
-use crate::{damage, picture, refusals, Made};
+use crate::{damage, picture, refusals, made::Made};
 
 pub struct Case {
     pub size: (u64, u64),

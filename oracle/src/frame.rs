@@ -7,7 +7,7 @@ use crate::random::Random;
 use crate::refusals::{self, Layout};
 use crate::rust::deblock::{self, Frame, Marks};
 use crate::thresholds::{delta, DEPTHS};
-use crate::{damage, picture, rust, Made};
+use crate::{damage, picture, rust, made::Made};
 
 /// A plane kind's five lists.
 pub struct Grid {

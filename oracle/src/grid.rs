@@ -4,7 +4,7 @@ use crate::line::Line;
 use crate::plane::{cells, tuples};
 use crate::random::Random;
 use crate::rust::deblock::{self, Marks};
-use crate::{damage, picture, refusals, Made};
+use crate::{damage, picture, refusals, made::Made};
 
 pub struct TxCase {
     pub cells: (u64, u64),

@@ -1,42 +1,31 @@
-//! One case as it is written: a line of decimal whole numbers with single spaces between them.
+//! One case: its numbers, and how they are written, decimal in a line with single spaces between them.
 
 use std::io::Write;
 
 #[derive(Default)]
 pub struct Line {
-    text: Vec<u8>,
+    numbers: Vec<i64>,
 }
 
 impl Line {
     /// A line that begins with its kind.
     pub fn new(kind: u64) -> Line {
-        let mut line = Line::default();
-        line.unsigned(&[kind]);
-        line
+        Line { numbers: vec![kind as i64] }
     }
 
     pub fn signed(&mut self, numbers: &[i64]) -> &mut Line {
-        for &n in numbers {
-            if !self.text.is_empty() {
-                self.text.push(b' ');
-            }
-            write!(self.text, "{n}").expect("memory takes every byte");
-        }
+        self.numbers.extend_from_slice(numbers);
         self
     }
 
     pub fn unsigned(&mut self, numbers: &[u64]) -> &mut Line {
-        for &n in numbers {
-            self.signed(&[n as i64]);
-        }
+        self.numbers.extend(numbers.iter().map(|&n| n as i64));
         self
     }
 
     /// The entries alone.
     pub fn entries<T: Copy + Into<i64>>(&mut self, list: &[T]) -> &mut Line {
-        for &n in list {
-            self.signed(&[n.into()]);
-        }
+        self.numbers.extend(list.iter().map(|&n| n.into()));
         self
     }
 
@@ -46,7 +35,16 @@ impl Line {
         self.entries(list)
     }
 
-    pub fn bytes(&self) -> &[u8] {
-        &self.text
+    pub fn numbers(&self) -> &[i64] {
+        &self.numbers
+    }
+
+    pub fn text(&self) -> Vec<u8> {
+        let mut text = Vec::new();
+        for (k, n) in self.numbers().iter().enumerate() {
+            let space = if k == 0 { "" } else { " " };
+            write!(text, "{space}{n}").expect("memory takes every byte");
+        }
+        text
     }
 }

@@ -6,6 +6,7 @@ mod differences;
 mod frame;
 mod grid;
 mod line;
+mod made;
 mod picture;
 mod plane;
 mod random;
@@ -19,33 +20,20 @@ mod thresholds;
 use rust as av2;
 
 use line::Line;
+use made::Make;
 use random::Random;
-use refusals::Refusal;
 use std::io::{self, BufWriter, Write};
 use std::process::exit;
 use summary::Summary;
 
-/// A case with its answer.
-pub struct Made {
-    pub line: Line,
-    pub refusal: Option<Refusal>,
-    pub width: Option<usize>,
-    /// Whether some lent sample or grid entry ends otherwise than it was.
-    pub changed: bool,
-    /// The step table that the case is asked with, where its part has one.
-    pub steps: Option<Vec<u32>>,
-}
-
-/// Makes a case, one to be refused if asked so; it is given the step table of the case before.
-type Make = fn(&Random, bool, Option<&[u32]>) -> Made;
-
-const USAGE: &str = "oracle thresholds|segment|segment-limits|plane|plane-bins|grid|frame|frame-bins|ccso N SEED [--only accepted|refused], or: oracle differences";
+const USAGE: &str = "oracle thresholds|segment|segment-limits|segment-window|plane|plane-bins|grid|frame|frame-bins|ccso N SEED [--only accepted|refused], or: oracle differences";
 
 fn part(name: &str) -> Option<Make> {
     match name {
         "thresholds" => Some(thresholds::make),
         "segment" => Some(segment::make),
         "segment-limits" => Some(segment::make_limits),
+        "segment-window" => Some(segment::make_window),
         "plane" => Some(plane::make),
         "plane-bins" => Some(plane::make_bins),
         "grid" => Some(grid::make),
@@ -81,11 +69,11 @@ fn run(make: Make, n: u64, seed: u64, only: Option<bool>, out: &mut impl Write) 
         }
         if made.steps != written {
             let steps = made.steps.as_deref().unwrap_or(&[]);
-            out.write_all(Line::new(1).list(steps).bytes())?;
+            out.write_all(&Line::new(1).list(steps).text())?;
             out.write_all(b"\n")?;
             written = made.steps;
         }
-        out.write_all(made.line.bytes())?;
+        out.write_all(&made.line.text())?;
         out.write_all(b"\n")?;
         summary.count(made.refusal, made.width, made.changed);
         left -= 1;

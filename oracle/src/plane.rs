@@ -5,7 +5,7 @@ use crate::random::Random;
 use crate::refusals::{self, Layout};
 use crate::rust::deblock::{self, Leaf, Marks, Settings};
 use crate::thresholds::{delta, DEPTHS};
-use crate::{damage, picture, rust, Made};
+use crate::{damage, picture, rust, made::Made};
 
 pub struct Case {
     pub cells: (u64, u64),

@@ -5,7 +5,7 @@ use crate::random::Random;
 use crate::refusals::{self, reach, Edge, PAIRS};
 use crate::rust::deblock::{self, Span};
 use crate::thresholds::DEPTHS;
-use crate::{damage, Made};
+use crate::{damage, made::Made};
 
 pub struct Case {
     pub columns: u64,
@@ -251,6 +251,48 @@ pub fn make_limits(random: &Random, refused: bool, _: Option<&[u32]>) -> Made {
     step_inside(random, &mut c);
     if refused {
         damaged(random, &mut c);
+    }
+    answered(c)
+}
+
+/// The window of the C side: four rows of eighteen samples, with a vertical edge between columns 8 and 9.
+fn window(random: &Random) -> Case {
+    let mut c = roomy(random);
+    (c.columns, c.rows, c.stride, c.direction, c.x, c.y) = (18, 4, 18, 0, 9, 0);
+    c.plane = random.list(72, refusals::top(c.depth) + 1).iter().map(|&s| s as u16).collect();
+    c
+}
+
+/// A fault that a window can have.
+fn damaged_window(random: &Random, c: &mut Case) {
+    let places: Vec<u64> = refusals::segment_places(&c.edge(), c.stride).collect();
+    for _ in 0..random.one_of(&[1, 1, 2, 3]) {
+        match random.below(6) {
+            0 => c.depth = damage::depth(random),
+            1 => c.q = damage::above(random, 2048),
+            2 => c.side = damage::above(random, 839),
+            3 => c.pair = damage::above(random, 7),
+            _ => c.plane[random.one_of(&places) as usize] = random.one_of(&[4096, 65535, 1 << c.depth.min(15)]),
+        }
+    }
+}
+
+/// As `make`, on windows of the C side; on every third D meets its limit on two lines.
+pub fn make_window(random: &Random, refused: bool, _: Option<&[u32]>) -> Made {
+    let mut c = window(random);
+    if !random.once_in(12) {
+        let p = pattern(random, c.depth);
+        draw(random, &mut c, &p);
+    }
+    thresholds(random, &mut c);
+    if random.once_in(3) {
+        step_inside(random, &mut c);
+    }
+    if random.once_in(8) {
+        wild_outside(random, &mut c);
+    }
+    if refused {
+        damaged_window(random, &mut c);
     }
     answered(c)
 }

@@ -2,7 +2,7 @@
 
 use crate::line::Line;
 use crate::random::Random;
-use crate::{damage, refusals, rust, Made};
+use crate::{damage, refusals, rust, made::Made};
 
 pub struct Case {
     pub curr: u64,

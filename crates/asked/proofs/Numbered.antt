@@ -6,7 +6,7 @@ use lib.Dec.{eqb}
 use lib.IntN.{ℤ}
 use Rattle.laws.specs.Choose.{pick}
 use Rattle.rules.specs.declared.settings.Frame.{Frame}
-use Rattle.entries.specs.Settings.{numberAt, countAt}
+use Rattle.numbers.specs.Settings.{numberAt, countAt}
 use Rattle.asked.specs.Numbers.{offsetsFrom, ccsoAsked}
 
 module _ (f : Frame) (numbers : List ℤ) (p : ℕ) where

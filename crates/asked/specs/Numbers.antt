@@ -8,7 +8,7 @@ use lib.IntN.{ℤ}
 use Rattle.laws.specs.Choose.{pick}
 use Rattle.rules.specs.declared.settings.Frame.{Frame}
 use Rattle.rules.specs.declared.settings.Ccso.{Ccso}
-use Rattle.entries.specs.Settings.{numberAt, countAt}
+use Rattle.numbers.specs.Settings.{numberAt, countAt}
 use Rattle.y4m.specs.declared.header.Header.{Header}
 
 -- 1 and 2 are luma's and chroma's delta, 3 and 4 luma's caps, 5 and 6 chroma's caps, 7 is 0 where chroma is not deblocked

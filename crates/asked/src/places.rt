@@ -1,11 +1,11 @@
 // Where a refusal stands: a plane or list by its number, and a row and a column.
 ghost use mathlib.Core.Path.{_≡_};
 ghost use Rattle.asked.specs.Places.{placeIn, overTop, samplePlace, leafPlace, leavesPlace};
-use grid::leaf::bad_leaf;
-use grid::leaf::wide;
 use rules::depth::Depth;
 use rules::refusals::Found;
 use rules::settings::Frame;
+use tiles::leaf::bad_leaf;
+use tiles::leaf::wide;
 
 // 0 luma, 1 U, 2 V, 3 chroma, 4 luma's leaves, 5 chroma's leaves, 6 the skip leaves, 7 the step table, 8 the frame.
 pub struct Place {

@@ -26,7 +26,7 @@ use Rattle.rules.specs.Refusals.{first, foundUnless, over, overRow}
 use Rattle.rules.specs.Ccso.{targetWidth, targetHeight, ccsoSizesOk, ccsoLengthsOk, ccsoSettingsOk, bandOk, offsetCount, offsetOk, badOffset, ccsoCheck, ccsoOf, ccsoAfter}
 use Rattle.scan.proofs.First.{nothing-all, over-nothing, unless-nothing}
 use Rattle.scan.proofs.Checks.{stop, go-on, unless-bad, unless-good, found-bad-by, found-good-by, else-parts, unless-true, found-nothing, settle-refused-by, settle-accepted-by}
-use Rattle.ccso.specs.Ranges.{Within, Ranges}
+use Rattle.ccso_sample.specs.Ranges.{Within, Ranges}
 use Rattle.ccso.specs.Lists.{Fit}
 use Rattle.ccso.specs.Stated.{Stated}
 use Rattle.ccso.specs.Checks.{cutsOk, classesOk, tapsOk, samplesCheck}

@@ -18,11 +18,12 @@ use Rattle.rules.specs.declared.settings.Ccso.{Ccso}
 use Rattle.rules.specs.Numbers.{down}
 use Rattle.rules.specs.Frame.{superblocks}
 use Rattle.rules.specs.Ccso.{targetWidth, targetHeight, blockOf, sampleAt, ccsoCell, ccsoRow, ccsoOf}
-use Rattle.ccso.specs.declared.taps.Row.{Row}
-use Rattle.ccso.specs.Ranges.{Ranges, Sized}
-use Rattle.ccso.specs.declared.counts.Sizes.{Sizes}
-use Rattle.ccso.specs.Lists.{RowOf, Fit, movedAt, movedCell, columnsTo, blockRow}
-use Rattle.ccso.proofs.Places.{cell-below, block-start, block-number, block-below, block-end, width-most, height-most, target-below, sample-fits, sample-bytes}
+use Rattle.ccso_sample.specs.declared.taps.Row.{Row}
+use Rattle.ccso_sample.specs.Ranges.{Ranges, Sized}
+use Rattle.ccso_sample.specs.declared.counts.Sizes.{Sizes}
+use Rattle.ccso_sample.specs.Lists.{RowOf, movedAt}
+use Rattle.ccso.specs.Lists.{Fit, movedCell, columnsTo, blockRow}
+use Rattle.ccso_sample.proofs.Places.{cell-below, block-start, block-number, block-below, block-end, width-most, height-most, target-below, sample-fits, sample-bytes}
 
 -- one store, at the place that the code counts from the row's start
 pub cell-is : {s : Ccso} {r : Row} → RowOf s r → (luma : List ℕ) (offsets : List ℤ) (x v : ℕ) (t : List ℕ) → v ≡ movedAt s luma offsets x (r .y) (getD t (r .at + x) 0) → set t (r .at + x) v ≡ movedCell s luma offsets (r .y) x t

@@ -12,7 +12,7 @@ use lib.Seq.{getD-set-same, getD-set-other}
 use Rattle.laws.specs.Loops.{turns, turns-keep}
 use Rattle.rules.specs.declared.settings.Ccso.{Ccso}
 use Rattle.rules.specs.Ccso.{targetWidth, targetHeight, sampleAt, ccsoCell, ccsoRow, ccsoOf}
-use Rattle.ccso.proofs.Places.{cell-below}
+use Rattle.ccso_sample.proofs.Places.{cell-below}
 
 -- a sample of one row is none of a later row
 apart : {X : Type 0} (w y x z v : ℕ) → y < z → x < w → y * w + x ≡ z * w + v → X

@@ -27,7 +27,7 @@ use Rattle.rules.specs.Ccso.{targetWidth, targetHeight, ccsoSizesOk, ccsoLength
 use Rattle.scan.proofs.First.{firsts, found-unless, found-unless-not}
 use Rattle.scan.proofs.Checks.{stop, go-on, found-bad-by, found-good-by}
 use Rattle.ccso.specs.Checks.{samplesCheck}
-use Rattle.ccso.proofs.Places.{halved-most}
+use Rattle.ccso_sample.proofs.Places.{halved-most}
 
 -- ---- sizes in range
 

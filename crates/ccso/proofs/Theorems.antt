@@ -19,7 +19,7 @@ use Rattle.rules.specs.Numbers.{topOf}
 use Rattle.rules.specs.Ccso.{targetWidth, targetHeight, blockOf, placeAt, offsetSample, sampleAt, ccsoCheck, ccsoOf, ccsoAfter}
 use Rattle.scan.proofs.Checks.{settle-refused, settle-accepted}
 use Rattle.ccso.specs.Stated.{Stated}
-use Rattle.ccso.proofs.Places.{cell-below}
+use Rattle.ccso_sample.proofs.Places.{cell-below}
 use Rattle.ccso.proofs.Accepted.{accepted, target-low}
 use Rattle.ccso.proofs.Everywhere.{target-length, target-at, target-past}
 

@@ -1,4 +1,4 @@
-pub mod Ranges
 pub mod Lists
 pub mod Checks
 pub mod Stated
+pub mod Exactly

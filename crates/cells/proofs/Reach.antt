@@ -17,7 +17,7 @@ use Rattle.rules.specs.Lengths.{pairOf, reachBefore, reachAfter}
 use Rattle.rules.specs.Refusals.{first, sooner}
 use Rattle.rules.specs.Segment.{hasRoom, roomAlong}
 use Rattle.rules.specs.Plane.{Grid, grid, cellOf, marksOf, indicesOf, indexAt, shortenedAt, isEdge, edgeRoom, lacksRoom, lacksRow, lacksDir, noRoom}
-use Rattle.choice.proofs.Lengths.{pair-facts}
+use Rattle.lengths.proofs.Lengths.{pair-facts}
 use Rattle.scan.proofs.First.{first-found, all-nothing, found-unless, found-unless-not, sooner-first-by, sooner-second-by}
 use Rattle.cells.specs.Fit.{Cell, Inner, oneWay, sized, marked}
 use Rattle.cells.proofs.Places.{pair-below}
@@ -33,14 +33,14 @@ unfolding isEdge
 inner-by m {t = t} k e f = record { cell = k; later = ltb-true _ _ (both-parts _ _ (sym (told-yes-not _ t e f)) .0) }
 
 -- room along the lines, in either direction
-module _ (s : Plane) (z : List ℕ) (dir r c : ℕ) {p b a : ℕ} {t : Bool} (is : p ≡ pairOf (indexAt s (sized z) dir r c) (s .chroma) (shortenedAt s dir r)) (before : b ≡ reachBefore p) (after : a ≡ reachAfter p) where
+module _ (s : Plane) (z : List ℕ) (dir r c : ℕ) {p b a : ℕ} {u t : Bool} (short : u ≡ shortenedAt s dir r) (is : p ≡ pairOf (indexAt s (sized z) dir r c) (s .chroma) u) (before : b ≡ reachBefore p) (after : a ≡ reachAfter p) where
   pub room-left : dir ≡ 0 → t ≡ all (leb b (c * 4) ∷ leb (c * 4 + a) (4 * s .cols) ∷ leb (r * 4 + 4) (4 * s .rows) ∷ []) → t ≡ edgeRoom s (sized z) dir r c
   unfolding edgeRoom hasRoom
-  room-left e f = rw (← is, ← before, ← after, eq-eqb _ _ e) f
+  room-left e f = rw (← short, ← is, ← before, ← after, eq-eqb _ _ e) f
 
   pub room-up : (dir ≡ 0 → ⊥) → t ≡ all (leb b (r * 4) ∷ leb (r * 4 + a) (4 * s .rows) ∷ leb (c * 4 + 4) (4 * s .cols) ∷ []) → t ≡ edgeRoom s (sized z) dir r c
   unfolding edgeRoom hasRoom
-  room-up e f = rw (← is, ← before, ← after, ne-eqb _ _ e) f
+  room-up e f = rw (← short, ← is, ← before, ← after, ne-eqb _ _ e) f
 
 -- a cell's answer, from its mark and its room
 module _ (s : Plane) (m z : List ℕ) (dir r c : ℕ) {t : Bool} (edge : t ≡ isEdge s (marked m) dir r c) where

@@ -1,7 +1,7 @@
 // The edge of a cell, as far as its grid alone says: whether it is there, the cell before it, its size index and its pair of lengths.
 // Direction 0 is the cell's left side, 1 its upper side; marks and sizes are the direction's own lists.
-use choice::ladder::filter_lengths;
 use laws::least;
+use lengths::ladder::filter_lengths;
 use rules::settings::Plane;
 ghost use mathlib.Core.Path.{_≡_};
 ghost use Prim.Native.Nat.{_+_, _*_, _≤_, _<_};
@@ -19,7 +19,7 @@ fn wide(x: u8) -> usize
 }
 
 // The first of two numbers in direction 0, the second in direction 1.
-fn by_dir(dir: usize, a: usize, b: usize) -> usize
+pub fn by_dir(dir: usize, a: usize, b: usize) -> usize
     ensures { λ r. ⌜ r ≡ pick (eqb dir 0) a b ⌝ }
 {
     if dir == 0 { a } else { b }
@@ -74,7 +74,7 @@ fn index_at(sizes: &[u8], s: Plane, dir: usize, r: usize, c: usize) -> usize
 }
 
 // Whether an edge is shortened.
-fn shortened_at(s: Plane, dir: usize, r: usize) -> bool
+pub fn shortened_at(s: Plane, dir: usize, r: usize) -> bool
     requires { ⌜ Sizes s ⌝ }
     ensures { λ t. ⌜ t ≡ shortenedAt s dir r ⌝ }
 {
@@ -84,16 +84,12 @@ fn shortened_at(s: Plane, dir: usize, r: usize) -> bool
     r % s.sbh == 0
 }
 
-// The pair of lengths of an edge.
-pub fn pair_at(sizes: &[u8], s: Plane, dir: usize, r: usize, c: usize) -> usize
+// The pair of lengths of an edge, shortened or not.
+pub fn pair_at(sizes: &[u8], s: Plane, shortened: bool, dir: usize, r: usize, c: usize) -> usize
     requires { ⌜ Sizes s × Inner s dir r c × Indices s (now sizes) ⌝ }
-    ensures { λ p. ⌜ (p ≡ pairOf (indexAt s (sized (now (sizes .entry))) dir r c) (s .chroma) (shortenedAt s dir r)) × (p < 8) ⌝ }
+    ensures { λ p. ⌜ (p ≡ pairOf (indexAt s (sized (now (sizes .entry))) dir r c) (s .chroma) shortened) × (p < 8) ⌝ }
 {
-    filter_lengths(
-        index_at(sizes, s, dir, r, c),
-        s.chroma,
-        shortened_at(s, dir, r),
-    )
+    filter_lengths(index_at(sizes, s, dir, r, c), s.chroma, shortened)
 }
 
 // Whether a cell has an edge.

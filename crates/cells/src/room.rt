@@ -3,8 +3,9 @@
 use crate::pair::cell_of;
 use crate::pair::is_edge;
 use crate::pair::pair_at;
-use choice::pairs::reach_after;
-use choice::pairs::reach_before;
+use crate::pair::shortened_at;
+use lengths::pairs::reach_after;
+use lengths::pairs::reach_before;
 use rules::refusals::Found;
 use rules::settings::Plane;
 ghost use mathlib.Core.Path.{_≡_};
@@ -13,7 +14,7 @@ ghost use Prim.Native.Nat.{ℕ, _+_, _*_, _≤_, _<_};
 ghost use lib.Dec.{leb};
 ghost use lib.ListN.{length};
 ghost use Rattle.laws.specs.Choose.{all};
-ghost use Rattle.rules.specs.Plane.{grid, edgeRoom, lacksRoom, lacksRow, lacksDir, noRoom};
+ghost use Rattle.rules.specs.Plane.{grid, shortenedAt, edgeRoom, lacksRoom, lacksRow, lacksDir, noRoom};
 ghost use Rattle.cells.specs.Fit.{Sizes, Cell, Inner, Indices, Ready, oneWay, sized};
 
 // Whether both reaches lie in the plane along an edge's lines, and the four lines beside each other.
@@ -31,11 +32,11 @@ fn along(at: usize, beside: usize, length: usize, breadth: usize, b: usize, a: u
 }
 
 // Whether the edge of a cell has room.
-fn edge_room(sizes: &[u8], s: Plane, dir: usize, r: usize, c: usize) -> bool
-    requires { ⌜ Sizes s × Inner s dir r c × Indices s (now sizes) ⌝ }
+fn edge_room(sizes: &[u8], s: Plane, shortened: bool, dir: usize, r: usize, c: usize) -> bool
+    requires { ⌜ Sizes s × Inner s dir r c × Indices s (now sizes) × (shortened ≡ shortenedAt s dir r) ⌝ }
     ensures { λ t. ⌜ t ≡ edgeRoom s (sized (now (sizes .entry))) dir r c ⌝ }
 {
-    let pair = pair_at(sizes, s, dir, r, c);
+    let pair = pair_at(sizes, s, shortened, dir, r, c);
     let b = reach_before(pair);
     let a = reach_after(pair);
     if dir == 0 {
@@ -52,7 +53,8 @@ fn lacks_room(marks: &[u8], sizes: &[u8], s: Plane, dir: usize, r: usize, c: usi
     if !is_edge(marks, s, dir, r, c) {
         return Found::Nothing;
     }
-    if edge_room(sizes, s, dir, r, c) {
+    let shortened = shortened_at(s, dir, r);
+    if edge_room(sizes, s, shortened, dir, r, c) {
         return Found::Nothing;
     }
     Found::At(cell_of(s, r, c))

@@ -7,10 +7,11 @@ use Prim.Native.Nat.{ℕ, _+_, _*_, _≤_}
 use native.Mathlib.Omega.{arith}
 use borrow.Author.Tests.{eq-eqb, ne-eqb}
 use lib.ListN.{length}
-use lib.IntN.{ℤ, pos, negsuc, negℤ}
+use lib.IntN.{ℤ, pos, negℤ}
 use mir.Syntax.{w32}
 use mir.Val.{toZ, ofZ}
 use Rattle.rules.specs.declared.refusals.Refusal.{Refusal}
+use Rattle.rules.specs.declared.refusals.Refusal.the-variants.{Depth, Steps}
 use Rattle.rules.specs.declared.refusals.Answer.{Answer}
 use Rattle.rules.specs.declared.refusals.Answer.the-variants.{Accepted, Refused}
 use Rattle.rules.specs.declared.refusals.Thresholds.{Thresholds}
@@ -21,7 +22,7 @@ use Rattle.rules.specs.Thresholds.{qThreshold, sideThreshold, thresholdsCheck, 
 use Rattle.rules.specs.CSide.{cAnswer, stepsIn, cThresholdsCheck, cThresholds}
 use Rattle.scan.proofs.Checks.{else-parts}
 use Rattle.thresholds.proofs.Unique.{q-range, side-range}
-use Rattle.entries.proofs.Numbers.{held, held-minus, answer-refused, answer-accepted}
+use Rattle.answers.proofs.Numbers.{held, held-minus, answer-refused, answer-accepted}
 
 -- what an answer of both kinds says of the check behind it
 from-both : (a : Answer) (Q S : ℕ) {q s : ℕ} → Both q s ≡ answerThresholds a Q S → (Accepted ≡ a) × (q ≡ Q) × (s ≡ S)
@@ -35,13 +36,13 @@ from-refused Accepted Q S e = absurd (let z : _≡_ {A = ℕ} 0 1 = cc in omega 
 from-refused (Refused r) Q S e = cc
 
 module _ (curr prev : ℕ) (deltaq deltaside : ℤ) (depth : ℕ) (bytes : List ℕ) where
-  pub bad-depth : false ≡ depthOk depth → negsuc 0 ≡ cThresholds curr prev deltaq deltaside depth bytes
+  pub bad-depth : {z : ℤ} → z ≡ negℤ (pos (numberOf Depth)) → false ≡ depthOk depth → toZ w32 (ofZ w32 z) ≡ cThresholds curr prev deltaq deltaside depth bytes
   unfolding cThresholds cThresholdsCheck orElse unless cAnswer
-  bad-depth e = rw (← e)
+  bad-depth {z} f e = held-minus z Depth f ∙ rw (← e)
 
-  pub bad-length : true ≡ depthOk depth → (length bytes ≡ 1408 → ⊥) → negsuc 3 ≡ cThresholds curr prev deltaq deltaside depth bytes
+  pub bad-length : {z : ℤ} → z ≡ negℤ (pos (numberOf (Steps 0))) → true ≡ depthOk depth → (length bytes ≡ 1408 → ⊥) → toZ w32 (ofZ w32 z) ≡ cThresholds curr prev deltaq deltaside depth bytes
   unfolding cThresholds cThresholdsCheck orElse unless cAnswer
-  bad-length e n = rw (← e, ne-eqb _ _ n)
+  bad-length {z} f e n = held-minus z (Steps 0) f ∙ rw (← e, ne-eqb _ _ n)
 
   module _ (d : true ≡ depthOk depth) (long : length bytes ≡ 1408) where
     -- the C side's check is the entry's where depth and length are good

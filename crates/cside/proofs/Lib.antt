@@ -1,3 +1,4 @@
-pub mod Fills
 pub mod Blocks
 pub mod Windows
+pub mod Table
+pub mod Unique

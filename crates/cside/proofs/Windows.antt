@@ -7,10 +7,12 @@ use Prim.Native.Nat.{ℕ, _≤_, _<_}
 use native.Mathlib.Omega.{arith}
 use borrow.Author.Tests.{eq-eqb, ne-eqb}
 use lib.ListN.{length}
-use lib.IntN.{ℤ, pos, negsuc, negℤ}
+use lib.IntN.{ℤ, pos, negℤ}
 use mir.Syntax.{w32}
 use mir.Val.{toZ, ofZ}
+use Rattle.rules.specs.declared.settings.Lone.{Lone}
 use Rattle.rules.specs.declared.refusals.Refusal.{Refusal}
+use Rattle.rules.specs.declared.refusals.Refusal.the-variants.{Depth, Length}
 use Rattle.rules.specs.declared.refusals.Answer.{Answer}
 use Rattle.rules.specs.declared.refusals.Answer.the-variants.{Accepted, Refused}
 use Rattle.rules.specs.declared.refusals.Width.{Width}
@@ -20,11 +22,11 @@ use Rattle.rules.specs.Refusals.{numberOf, orElse, unless, settle}
 use Rattle.rules.specs.Segment.{placeOf, windowOf, chosenOf, widthAt}
 use Rattle.rules.specs.Lone.{edgeOf, loneCheck, lonePlane, answerWidth, loneWidth}
 use Rattle.rules.specs.CSide.{cAnswer, samplesIn, bytesOf, windowEdge, cSegmentCheck, cSegment, cWindow}
-use Rattle.choice.proofs.Lengths.{pair-facts}
-use Rattle.choice.proofs.Most.{pair-most}
+use Rattle.lengths.proofs.Lengths.{pair-facts}
+use Rattle.width.proofs.Most.{pair-most}
 use Rattle.scan.proofs.Checks.{settle-refused, settle-accepted}
-use Rattle.segment.proofs.Accepted.{passed}
-use Rattle.entries.proofs.Numbers.{held, held-minus, answer-refused, answer-accepted}
+use Rattle.lone.proofs.Accepted.{passed}
+use Rattle.answers.proofs.Numbers.{held, held-minus, answer-refused, answer-accepted}
 
 -- what an answer of either kind says of the check behind it
 from-samples : (a : Answer) (w : ℕ) {n : ℕ} → Samples n ≡ answerWidth a w → (Accepted ≡ a) × (n ≡ w)
@@ -45,13 +47,14 @@ width-most depth pair q side l h =
     omega (arith, pair-most (windowOf (placeOf 18 e) l) pair q side h, pair-facts pair h .after .most-8)
 
 module _ (depth pair q side : ℕ) (bytes : List ℕ) where
-  pub bad-depth : false ≡ depthOk depth → (negsuc 0 ≡ cSegment depth pair q side bytes) × (bytes ≡ cWindow depth pair q side bytes)
+  pub bad-depth : {z : ℤ} → z ≡ negℤ (pos (numberOf Depth)) → false ≡ depthOk depth → (toZ w32 (ofZ w32 z) ≡ cSegment depth pair q side bytes) × (bytes ≡ cWindow depth pair q side bytes)
   unfolding cSegment cWindow cSegmentCheck orElse unless cAnswer settle
-  bad-depth e = (rw (← e), rw (← e))
+  bad-depth {z} f e = (held-minus z Depth f ∙ rw (← e), rw (← e))
 
-  pub bad-length : true ≡ depthOk depth → (length bytes ≡ 144 → ⊥) → (negsuc 2 ≡ cSegment depth pair q side bytes) × (bytes ≡ cWindow depth pair q side bytes)
+  pub bad-length : {z : ℤ} → z ≡ negℤ (pos (numberOf Length)) → true ≡ depthOk depth → (length bytes ≡ 144 → ⊥)
+      → (toZ w32 (ofZ w32 z) ≡ cSegment depth pair q side bytes) × (bytes ≡ cWindow depth pair q side bytes)
   unfolding cSegment cWindow cSegmentCheck orElse unless cAnswer settle
-  bad-length e n = (rw (← e, ne-eqb _ _ n), rw (← e, ne-eqb _ _ n))
+  bad-length {z} f e n = (held-minus z Length f ∙ rw (← e, ne-eqb _ _ n), rw (← e, ne-eqb _ _ n))
 
   module _ (d : true ≡ depthOk depth) (long : length bytes ≡ 144) where
     -- the C side's check is the lone segment's where depth and length are good
@@ -59,12 +62,12 @@ module _ (depth pair q side : ℕ) (bytes : List ℕ) where
     unfolding cSegmentCheck orElse unless
     check-is a e = rw (← d, eq-eqb _ _ long) e
 
-    module _ {l m : List ℕ} {w : Width} (samples : l ≡ samplesIn bytes) (told′ : w ≡ loneWidth (windowEdge depth pair q side) l) (left′ : m ≡ lonePlane (windowEdge depth pair q side) l) where
+    module _ {l m : List ℕ} {w : Width} {s : Lone} (samples : l ≡ samplesIn bytes) (edge : s ≡ windowEdge depth pair q side) (told′ : w ≡ loneWidth s l) (left′ : m ≡ lonePlane s l) where
       told : w ≡ loneWidth (windowEdge depth pair q side) (samplesIn bytes)
-      told = rw samples at told′
+      told = rw (edge, samples) at told′
 
       left : m ≡ lonePlane (windowEdge depth pair q side) (samplesIn bytes)
-      left = rw samples at left′
+      left = rw (edge, samples) at left′
 
       parts : {n : ℕ} → w ≡ Samples n → (Accepted ≡ loneCheck (windowEdge depth pair q side) (samplesIn bytes)) × (n ≡ widthAt 18 (edgeOf (windowEdge depth pair q side)) (samplesIn bytes))
       unfolding loneWidth

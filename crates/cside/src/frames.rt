@@ -1,5 +1,5 @@
 // A whole frame for C: its answer as a number, with the place of a refusal.
-use entries::answers::told;
+use answers::told;
 use frame_entry::frames::filter;
 ghost use Rattle.rules.specs.Plane.{grid};
 ghost use Rattle.rules.specs.Frame.{planes, grids, lent, given};

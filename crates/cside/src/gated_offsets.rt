@@ -1,9 +1,9 @@
 // The gated CCSO offsets for C: their answer as a number, with the place of a refusal.
-use entries::answers::told;
+use answers::told;
 use entries::gated_offsets::apply;
 ghost use Rattle.rules.specs.Ccso.{ccsoCheck, ccsoOf};
-ghost use Rattle.entries.specs.Told.{listed, Reported};
-ghost use Rattle.entries.specs.Settings.{offsetsOf};
+ghost use Rattle.answers.specs.Told.{listed, Reported};
+ghost use Rattle.numbers.specs.Settings.{offsetsOf};
 
 // 0, or minus the refusal number with its place in the first entry of `place`.
 #[no_mangle]

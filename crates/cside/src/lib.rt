@@ -1,10 +1,7 @@
 // What C and Rust call: document 01's two exported functions, and the entries.
 
-// Numbers in byte lists, low byte first.
-pub mod bytes;
-
-// The numbers that C is answered.
-pub mod answers;
+// The published AC steps.
+pub mod steps;
 
 // Both thresholds of an edge.
 pub mod two_blocks;

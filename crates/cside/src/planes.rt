@@ -1,9 +1,9 @@
 // A plane for C: its answer as a number, with the place of a refusal.
-use entries::answers::told;
+use answers::told;
 use entries::planes::deblock;
 ghost use Rattle.rules.specs.Plane.{grid, runPlane};
-ghost use Rattle.entries.specs.Told.{Reported};
-ghost use Rattle.entries.specs.Settings.{planeOf};
+ghost use Rattle.answers.specs.Told.{Reported};
+ghost use Rattle.numbers.specs.Settings.{planeOf};
 ghost use Rattle.entries.specs.Planes.{cPlaneCheck};
 
 // 0, or minus the refusal number with its place in the first entry of `place`.

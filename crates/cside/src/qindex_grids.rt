@@ -1,9 +1,9 @@
 // A qindex grid for C: its answer as a number, with the place of a refusal.
-use entries::answers::told;
+use answers::told;
 use entries::qindex_grids::fill;
 ghost use Rattle.rules.specs.QindexGrid.{qGridCheck, qGridOf};
-ghost use Rattle.entries.specs.Told.{listed, Reported};
-ghost use Rattle.entries.specs.Settings.{qindexGridOf};
+ghost use Rattle.answers.specs.Told.{listed, Reported};
+ghost use Rattle.numbers.specs.Settings.{qindexGridOf};
 
 // 0, or minus the refusal number with its place in the first entry of `place`.
 #[no_mangle]

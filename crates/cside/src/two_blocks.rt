@@ -1,8 +1,9 @@
 // Thresholds for C: the step table as bytes, the answer as one number.
-use crate::answers::packed;
-use crate::bytes;
-use entries::answers::minus;
+use answers::minus;
+use answers::packed;
+use byte_lists::table;
 use rules::depth::Depth;
+use rules::refusals::Refusal;
 use rules::refusals::Thresholds;
 use thresholds::combine::combine_thresholds;
 ghost use mathlib.Core.Path.{_≡_};
@@ -21,13 +22,13 @@ pub extern "C" fn bihargesh_thresholds(
     ensures { λ r. ⌜ r ≡ cThresholds curr prev deltaq deltaside depth (now (steps .entry)) ⌝ }
 {
     if !Depth::is(depth) {
-        return -1;
+        return minus(Refusal::Depth);
     }
     if steps.len() != 1408 {
-        return -4;
+        return minus(Refusal::Steps(0));
     }
-    let table = bytes::steps(steps);
-    match combine_thresholds(curr, prev, deltaq, deltaside, depth, &table) {
+    let t = table::steps(steps);
+    match combine_thresholds(curr, prev, deltaq, deltaside, depth, &t) {
         Thresholds::Both(q, side) => packed(q, side),
         Thresholds::Refused(r) => minus(r),
     }

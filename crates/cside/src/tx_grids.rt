@@ -1,9 +1,9 @@
 // A TU grid for C: its answer as a number, with the place of a refusal.
-use entries::answers::told;
+use answers::told;
 use entries::tx_grids::build;
 ghost use Rattle.rules.specs.TuGrid.{marks, txGridCheck, txGridOf};
-ghost use Rattle.entries.specs.Told.{listed, Reported};
-ghost use Rattle.entries.specs.Settings.{tuGridOf};
+ghost use Rattle.answers.specs.Told.{listed, Reported};
+ghost use Rattle.numbers.specs.Settings.{tuGridOf};
 
 // 0, or minus the refusal number with its place in the first entry of `place`.
 #[no_mangle]

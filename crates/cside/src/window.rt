@@ -1,11 +1,11 @@
 // One segment for C: the window as bytes, the width as the answer.
-use crate::answers::width;
-use crate::bytes;
-use entries::answers::minus;
+use answers::count;
+use answers::minus;
+use byte_lists::window as lent;
+use lone::filter_lone;
 use rules::depth::Depth;
+use rules::refusals::Refusal;
 use rules::refusals::Width;
-use rules::settings::Lone;
-use segment::filter_lone;
 ghost use mathlib.Core.Path.{_≡_};
 ghost use Rattle.rules.specs.CSide.{cSegment, cWindow};
 
@@ -21,28 +21,17 @@ pub extern "C" fn bihargesh_segment(
     ensures { λ r. ⌜ (r ≡ cSegment depth pair q side (now (window .entry))) × (now (window .exit) ≡ cWindow depth pair q side (now (window .entry))) ⌝ }
 {
     if !Depth::is(depth) {
-        return -1;
+        return minus(Refusal::Depth);
     }
     if window.len() != 144 {
-        return -3;
+        return minus(Refusal::Length);
     }
-    let mut l = bytes::samples(window);
-    let s = Lone {
-        columns: 18,
-        rows: 4,
-        stride: 18,
-        depth: depth,
-        q: q,
-        side: side,
-        pair: pair as usize,
-        dir: 0,
-        x: 9,
-        y: 0,
-    };
+    let mut l = lent::samples(window);
+    let s = lent::edge(depth, pair, q, side);
     match filter_lone(&mut l, s) {
         Width::Samples(w) => {
-            bytes::put_samples(window, &l);
-            width(w)
+            lent::put_samples(window, &l);
+            count(w)
         }
         Width::Refused(r) => minus(r),
     }

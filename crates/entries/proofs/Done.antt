@@ -11,7 +11,7 @@ use Rattle.rules.specs.declared.settings.Plane.{Plane}
 use Rattle.rules.specs.declared.settings.TuGrid.{TuGrid}
 use Rattle.rules.specs.declared.settings.QindexGrid.{QindexGrid}
 use Rattle.rules.specs.declared.settings.Ccso.{Ccso}
-use Rattle.rules.specs.declared.refusals.Refusal.the-variants.{Depth, Size}
+use Rattle.rules.specs.declared.refusals.Refusal.the-variants.{Depth, Size, Length}
 use Rattle.rules.specs.declared.refusals.Answer.{Answer}
 use Rattle.rules.specs.declared.refusals.Answer.the-variants.{Refused}
 use Rattle.rules.specs.Numbers.{depthOk}
@@ -22,15 +22,15 @@ use Rattle.rules.specs.Ccso.{ccsoCheck, ccsoOf, ccsoAfter}
 use Rattle.scan.proofs.Checks.{stop, go-on, unless-bad, unless-good}
 use Rattle.plane.specs.Checked.{Stated as «PlaneStated»}
 use Rattle.ccso.specs.Stated.{Stated as «OffsetsStated»}
-use Rattle.entries.specs.Told.{listed, Handed}
-use Rattle.entries.specs.Settings.{countAt, planeOf, tuGridOf, qindexGridOf, offsetsOf}
+use Rattle.answers.specs.Told.{listed, Handed}
+use Rattle.numbers.specs.Settings.{countAt, planeOf, tuGridOf, qindexGridOf, offsetsOf}
 use Rattle.entries.specs.Planes.{cPlaneCheck}
-use Rattle.entries.proofs.Numbers.{handed-refused, handed-on, short, long-is, long}
+use Rattle.answers.proofs.Numbers.{handed-refused, handed-on, short, long-is, long}
 
 -- ---- a plane
 
 module _ (settings : List ℤ) (steps : List ℕ) (g : Grid) (l : List ℕ) where
-  pub plane-short : length settings < 11 → Handed (cPlaneCheck settings steps g l) l (runPlane (planeOf settings) steps g l) (Refused Size) l
+  pub plane-short : length settings < 11 → Handed (cPlaneCheck settings steps g l) l (runPlane (planeOf settings) steps g l) (Refused Length) l
   unfolding cPlaneCheck
   plane-short h = short 11 settings _ l _ h
 

@@ -1,3 +1,2 @@
-pub mod Numbers
-pub mod Listed
 pub mod Done
+pub mod Unique

@@ -9,8 +9,8 @@ use Rattle.rules.specs.declared.refusals.Answer.{Answer}
 use Rattle.rules.specs.Numbers.{depthOk}
 use Rattle.rules.specs.Refusals.{orElse, unless}
 use Rattle.rules.specs.Plane.{Grid, planeCheck}
-use Rattle.entries.specs.Told.{listed}
-use Rattle.entries.specs.Settings.{countAt, planeOf}
+use Rattle.answers.specs.Told.{listed}
+use Rattle.numbers.specs.Settings.{countAt, planeOf}
 
 -- a chroma other than 0 and 1 is refused by 2, after 1 as in document 01's order
 unfoldable pub cPlaneCheck : List ℤ → List ℕ → Grid → List ℕ → Answer

@@ -1,11 +1,11 @@
 // The gated CCSO offsets, by their settings as a list of numbers.
-use crate::settings::offsets_of;
 use ccso::apply::apply_edge_gated;
+use numbers::offsets_of;
 use rules::refusals::Answer;
 use rules::refusals::Refusal;
 ghost use Rattle.rules.specs.Ccso.{ccsoCheck, ccsoOf};
-ghost use Rattle.entries.specs.Told.{listed, Handed};
-ghost use Rattle.entries.specs.Settings.{offsetsOf};
+ghost use Rattle.answers.specs.Told.{listed, Handed};
+ghost use Rattle.numbers.specs.Settings.{offsetsOf};
 
 // Offsets the target, or refuses and leaves it as lent.
 pub fn apply(
@@ -18,7 +18,7 @@ pub fn apply(
     ensures { λ a. ⌜ Handed (listed 16 (now (settings .entry)) (ccsoCheck (offsetsOf (now (settings .entry))) (now (luma .entry)) (now (flags .entry)) (now (offsets .entry)) (now (target .entry)))) (now (target .entry)) (ccsoOf (offsetsOf (now (settings .entry))) (now (luma .entry)) (now (flags .entry)) (now (offsets .entry)) (now (target .entry))) a (now (target .exit)) ⌝ }
 {
     if settings.len() < 16 {
-        return Answer::Refused(Refusal::Size);
+        return Answer::Refused(Refusal::Length);
     }
     let s = offsets_of(settings);
     apply_edge_gated(luma, target, flags, offsets, s)

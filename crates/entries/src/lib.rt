@@ -1,10 +1,4 @@
-// The entries as they are handed to C: settings as a list of numbers, a number as the answer, and the place of a refusal in a lent list.
-
-// The numbers that C is answered.
-pub mod answers;
-
-// Settings as a list of numbers.
-pub mod settings;
+// The entries as they are handed to C: settings as a list of numbers.
 
 // One plane.
 pub mod planes;

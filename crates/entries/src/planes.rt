@@ -1,13 +1,13 @@
 // A plane, by its settings as a list of numbers.
-use crate::settings::count;
-use crate::settings::plane_of;
+use numbers::count;
+use numbers::plane_of;
 use plane::deblock_plane;
 use rules::depth::Depth;
 use rules::refusals::Answer;
 use rules::refusals::Refusal;
 ghost use Rattle.rules.specs.Plane.{grid, runPlane};
-ghost use Rattle.entries.specs.Told.{Handed};
-ghost use Rattle.entries.specs.Settings.{planeOf};
+ghost use Rattle.answers.specs.Told.{Handed};
+ghost use Rattle.numbers.specs.Settings.{planeOf};
 ghost use Rattle.entries.specs.Planes.{cPlaneCheck};
 
 // Deblocks a plane, or refuses it and leaves it as lent.
@@ -24,7 +24,7 @@ pub fn deblock(
     ensures { λ a. ⌜ Handed (cPlaneCheck (now (settings .entry)) (now (steps .entry)) (grid (now (vedge .entry)) (now (hedge .entry)) (now (sqw .entry)) (now (sqh .entry)) (now (qindex .entry))) (now (plane .entry))) (now (plane .entry)) (runPlane (planeOf (now (settings .entry))) (now (steps .entry)) (grid (now (vedge .entry)) (now (hedge .entry)) (now (sqw .entry)) (now (sqh .entry)) (now (qindex .entry))) (now (plane .entry))) a (now (plane .exit)) ⌝ }
 {
     if settings.len() < 11 {
-        return Answer::Refused(Refusal::Size);
+        return Answer::Refused(Refusal::Length);
     }
     let s = plane_of(settings);
     if !Depth::is(s.depth) {

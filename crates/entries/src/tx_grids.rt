@@ -1,11 +1,11 @@
 // A TU grid, by its settings as a list of numbers.
-use crate::settings::tu_grid_of;
 use grid::tx_grid::build_tx_grid;
+use numbers::tu_grid_of;
 use rules::refusals::Answer;
 use rules::refusals::Refusal;
 ghost use Rattle.rules.specs.TuGrid.{marks, txGridCheck, txGridOf};
-ghost use Rattle.entries.specs.Told.{listed, Handed};
-ghost use Rattle.entries.specs.Settings.{tuGridOf};
+ghost use Rattle.answers.specs.Told.{listed, Handed};
+ghost use Rattle.numbers.specs.Settings.{tuGridOf};
 
 // Builds the four lists, or refuses and leaves them as lent.
 pub fn build(
@@ -20,7 +20,7 @@ pub fn build(
     ensures { λ a. ⌜ Handed (listed 6 (now (settings .entry)) (txGridCheck (tuGridOf (now (settings .entry))) (now (leaves .entry)) (now (skips .entry)) (marks (now (vedge .entry)) (now (hedge .entry)) (now (sqw .entry)) (now (sqh .entry))))) (marks (now (vedge .entry)) (now (hedge .entry)) (now (sqw .entry)) (now (sqh .entry))) (txGridOf (tuGridOf (now (settings .entry))) (now (leaves .entry)) (now (skips .entry)) (marks (now (vedge .entry)) (now (hedge .entry)) (now (sqw .entry)) (now (sqh .entry)))) a (marks (now (vedge .exit)) (now (hedge .exit)) (now (sqw .exit)) (now (sqh .exit))) ⌝ }
 {
     if settings.len() < 6 {
-        return Answer::Refused(Refusal::Size);
+        return Answer::Refused(Refusal::Length);
     }
     let s = tu_grid_of(settings);
     build_tx_grid(leaves, skips, vedge, hedge, sqw, sqh, s)

@@ -13,7 +13,7 @@ pub fn load(
     offsets: &mut [i8],
     places: &mut [usize; 21],
 ) -> bool {
-    let fd = os::open_read(name);
+    let fd = files::open_in(name);
     if fd < 0 {
         say::cannot(name, b"the settings can't be read");
         return false;

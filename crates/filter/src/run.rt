@@ -204,7 +204,7 @@ fn picture(
 pub fn run(name: &[u8], settings: &[u8], out: &[u8]) {
     let mut numbers = defaults::numbers();
     let mut shorts = defaults::shorts();
-    let mut steps = defaults::steps();
+    let mut steps = ac_steps::steps();
     let mut flags = [1u8; 12288];
     let mut offsets = [0i8; 384];
     let mut places = first_places();
@@ -219,7 +219,7 @@ pub fn run(name: &[u8], settings: &[u8], out: &[u8]) {
     ) {
         return;
     }
-    let fd = os::open_read(name);
+    let fd = files::open_in(name);
     if fd < 0 {
         say::cannot(name, b"the picture can't be read");
         return;

@@ -1,4 +1,4 @@
-// The picture, written beside its name and then moved there.
+// The picture, written to a file.
 ghost use Rattle.pictures.specs.Shapes.{Fit};
 use crate::say;
 use pictures::files;
@@ -38,7 +38,7 @@ fn write_planes(
     planes::write_plane(fd, v, c, wide)
 }
 
-// Writes the picture beside its name and then moves it there; false after the line that says why not.
+// Writes the picture; false after the answer that it could not.
 pub fn save(
     out: &[u8],
     head: &[u8],
@@ -53,19 +53,11 @@ pub fn save(
 ) -> bool
     requires { ⌜ Fit l × Fit c ⌝ }
 {
-    let mut part = io::buffer();
-    let n = files::part_name(out, &mut part);
-    let fd = os::open_overwrite(&part[..n]);
-    if fd < 0 {
-        say::cannot(out, b"the picture can't be written");
-        return false;
-    }
+    let fd = files::open_out(out);
     let good = write_planes(fd, head, mark, y, u, v, l, c, chroma, wide);
-    libc::close(fd);
-    if good && os::rename(&part[..n], out) == 0 {
+    if libc::close(fd) == 0 && good {
         return true;
     }
-    os::unlink(&part[..n]);
-    say::cannot(out, b"the picture can't be written");
+    say::unwritten();
     false
 }

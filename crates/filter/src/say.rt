@@ -1,4 +1,4 @@
-// The one line that is printed.
+// The answer on standard output: the outcome as one byte (0 filtered, 1 refused, 2 a bad file, 3 not written), which stands before any name, and then a line.
 use asked::places::Place;
 use rules::refusals::Refusal;
 use y4m::header::Header;
@@ -15,16 +15,23 @@ pub fn usage() {
     words(b"usage: filter PICTURE SETTINGS OUT\n");
 }
 
-// A file that can't be read or written.
+// A file that can't be read.
 pub fn cannot(name: &[u8], what: &[u8]) {
+    words(b"2");
     words(name);
     words(b": ");
     words(what);
     words(b"\n");
 }
 
+// A picture that can't be written; whoever called knows its name.
+pub fn unwritten() {
+    words(b"3\n");
+}
+
 // A line of a file that is not as it should be.
 pub fn expected(name: &[u8], line: usize, what: &[u8]) {
+    words(b"2");
     words(name);
     words(b": line ");
     number(line);
@@ -134,7 +141,7 @@ fn plane_name(plane: usize) {
 
 // A refusal by its number, its meaning and its place.
 pub fn refused(r: Refusal, at: Place) {
-    words(b"refused by ");
+    words(b"1refused by ");
     number(rules::refusals::number(r) as usize);
     words(b": ");
     meaning(r);
@@ -148,7 +155,7 @@ pub fn refused(r: Refusal, at: Place) {
 }
 
 pub fn filtered(name: &[u8], h: Header) {
-    words(b"filtered ");
+    words(b"0filtered ");
     words(name);
     words(b": ");
     number(h.width);

@@ -21,8 +21,8 @@ use Rattle.rules.specs.declared.lent.FrameLengths.{FrameLengths}
 use Rattle.rules.specs.TuGrid.{capOk, foursOk}
 use Rattle.rules.specs.Frame.{Given, lumaPlane, chromaPlane, lumaTu, chromaTu, lumaQ, chromaQ, superblocks, chromaOn, samplesLong, gridLong, lumaLong, chromaLong, givenLong, frameSizes, frameLengths, frameShape, frameSettings, frameLeaves, frameGiven, frameEarly}
 use Rattle.scan.proofs.Checks.{else-parts, unless-true, found-nothing, only-part}
-use Rattle.grid.specs.Fit.{AllGood}
-use Rattle.grid.proofs.Checked.{by-cap, all-good}
+use Rattle.tiles.specs.Fit.{AllGood}
+use Rattle.tiles.proofs.Checked.{by-cap, all-good}
 use Rattle.cells.specs.Fit.{Sizes}
 use Rattle.frame_checks.specs.Settings.{Sized, planeOf, tuOf, qOf}
 use Rattle.frame_checks.proofs.Ranges.{superblocks-some, superblocks-most}

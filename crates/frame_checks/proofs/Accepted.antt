@@ -16,7 +16,7 @@ use Rattle.rules.specs.Numbers.{inRange, subsamplingOk}
 use Rattle.rules.specs.Refusals.{unless, onlyIf}
 use Rattle.rules.specs.Frame.{lumaPlane, chromaPlane, chromaOn, strideOk, frameSizes}
 use Rattle.scan.proofs.Checks.{else-parts, unless-true, only-part}
-use Rattle.grid.proofs.Checked.{ssx-most, ssy-most}
+use Rattle.tiles.proofs.Checked.{ssx-most, ssy-most}
 use Rattle.cells.specs.Fit.{Sizes}
 use Rattle.scan.proofs.Ranges.{in-range}
 use Rattle.frame_checks.specs.Settings.{Sized, planeOf}

@@ -1,9 +1,9 @@
 // Document 01, refusal 5 of a frame: deltas and caps of both kinds of plane, also where chroma is not filtered.
-use grid::checks::cap_ok;
 use rules::refusals::Answer;
 use rules::refusals::Refusal;
 use rules::settings::Frame;
 use thresholds::checks::delta_ok;
+use tiles::checks::cap_ok;
 ghost use mathlib.Core.Path.{_≡_};
 ghost use mathlib.Core.List.{[], _∷_};
 ghost use Rattle.laws.specs.Choose.{all};

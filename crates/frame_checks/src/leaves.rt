@@ -1,8 +1,8 @@
 // Document 01, refusal 9 of a frame: luma's, chroma's, then skip leaves.
-use grid::leaf::bad_leaf;
 use rules::refusals::Answer;
 use rules::refusals::Found;
 use rules::refusals::Refusal;
+use tiles::leaf::bad_leaf;
 ghost use mathlib.Core.Path.{_≡_};
 ghost use mathlib.Core.Bool.{true, false};
 ghost use Rattle.rules.specs.Refusals.{orElse, found};

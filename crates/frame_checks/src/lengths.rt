@@ -3,13 +3,13 @@
 use super::planes::blocks;
 use super::planes::chroma_on;
 use super::planes::plane_of;
-use grid::checks::fours;
 use rules::lent::FrameLengths;
 use rules::lent::GridLengths;
 use rules::refusals::Answer;
 use rules::refusals::Refusal;
 use rules::settings::Frame;
 use rules::settings::Plane;
+use tiles::checks::fours;
 ghost use mathlib.Core.Path.{_≡_};
 ghost use mathlib.Core.List.{[], _∷_};
 ghost use Prim.Native.Nat.{_*_};

@@ -12,15 +12,15 @@ use mir.Val.{toZ, ofZ}
 use Rattle.laws.specs.Choose.{is-le, not-le, told-yes-not, told-no-not, both}
 use Rattle.rules.specs.declared.settings.Frame.{Frame}
 use Rattle.rules.specs.declared.refusals.Refusal.{Refusal}
-use Rattle.rules.specs.declared.refusals.Refusal.the-variants.{Depth, Size}
+use Rattle.rules.specs.declared.refusals.Refusal.the-variants.{Depth, Size, Length}
 use Rattle.rules.specs.declared.refusals.Answer.{Answer}
 use Rattle.rules.specs.declared.refusals.Answer.the-variants.{Accepted, Refused}
 use Rattle.rules.specs.Numbers.{depthOk}
 use Rattle.rules.specs.Frame.{Given, Lent, Done, done, orDone, frameOf}
 use Rattle.scan.proofs.Checks.{stop, go-on, unless-bad, unless-good}
-use Rattle.entries.specs.Settings.{countAt}
-use Rattle.entries.specs.Told.{listed, Told}
-use Rattle.entries.proofs.Numbers.{long-is, told-by}
+use Rattle.numbers.specs.Settings.{countAt}
+use Rattle.answers.specs.Told.{listed, Told}
+use Rattle.answers.proofs.Numbers.{long-is, told-by}
 use Rattle.frame_entry.specs.Listed.{frameSettings, flagsOk, listCheck, cFrameOf, FrameTold}
 
 -- ---- both flags
@@ -40,7 +40,7 @@ module _ (settings : List ℤ) (n : Given) (l : Lent) where
   unfolding cFrameOf orDone
   refused e = rw (← e)
 
-  pub frame-short : length settings < 15 → done (Refused Size) l ≡ cFrameOf settings n l
+  pub frame-short : length settings < 15 → done (Refused Length) l ≡ cFrameOf settings n l
   unfolding listCheck listed
   frame-short h = refused (stop _ _ (unless-bad _ _ (not-le 15 (length settings) h)))
 

@@ -13,8 +13,8 @@ use Rattle.rules.specs.declared.refusals.Answer.{Answer}
 use Rattle.rules.specs.Numbers.{depthOk}
 use Rattle.rules.specs.Refusals.{orElse, unless}
 use Rattle.rules.specs.Frame.{Given, Lent, Done, orDone, frameOf}
-use Rattle.entries.specs.Settings.{countAt, numberAt}
-use Rattle.entries.specs.Told.{listed, Told}
+use Rattle.numbers.specs.Settings.{countAt, numberAt}
+use Rattle.answers.specs.Told.{listed, Told}
 
 -- has_chroma and chroma_deblock are 0 or 1
 unfoldable pub frameSettings : List ℤ → Frame

@@ -1,8 +1,8 @@
 // A frame's settings as a list of fifteen numbers.
-use entries::settings::count;
-use entries::settings::flag;
-use entries::settings::number;
-use entries::settings::size;
+use numbers::count;
+use numbers::flag;
+use numbers::number;
+use numbers::size;
 use rules::settings::Frame;
 ghost use mathlib.Core.Path.{_≡_};
 ghost use Prim.Native.Nat.{_≤_};

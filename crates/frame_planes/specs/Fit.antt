@@ -6,7 +6,9 @@ use mathlib.Core.List.{List}
 use Prim.Native.Nat.{ℕ, _*_, _≤_}
 use Rattle.rules.specs.declared.settings.Frame.{Frame}
 use Rattle.rules.specs.Numbers.{depthOk}
-use Rattle.grid.specs.Fit.{Fit, Cut, AllGood, QFit}
+use Rattle.tiles.specs.Fit.{Cut, AllGood}
+use Rattle.qindex.specs.Fit.{QFit}
+use Rattle.grid.specs.Fit.{Fit}
 use Rattle.cells.specs.Fit.{Sizes, Ready}
 use Rattle.frame_checks.specs.Settings.{Sized, planeOf, tuOf, qOf}
 

@@ -2,8 +2,8 @@
 use frame_checks::planes::kind_on;
 use frame_checks::planes::q_of;
 use frame_checks::planes::tu_of;
-use grid::qindex_grid::qindex_grid;
 use grid::tx_grid::tx_grid;
+use qindex::qindex_grid::qindex_grid;
 use rules::settings::Frame;
 ghost use mathlib.Core.Path.{_≡_};
 ghost use mathlib.Core.Bool.{true};

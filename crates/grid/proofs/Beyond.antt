@@ -1,4 +1,4 @@
--- "what lies beyond is kept": an entry past the plane's cells is as it was lent, in all four lists of a TU grid and in the qindex grid.
+-- "what lies beyond is kept": an entry past the plane's cells is as it was lent, in all four lists of a TU grid.
 -- Assumes nothing.
 use mathlib.Core.Path.{_≡_, refl, sym, ap, _∙_}
 use mathlib.Core.List.{List}
@@ -13,15 +13,11 @@ use Rattle.laws.specs.Choose.{pick, both}
 use Rattle.laws.specs.Loops.{turns-keep}
 use Rattle.rules.specs.declared.settings.TuGrid.{TuGrid}
 use Rattle.rules.specs.declared.settings.Tile.{Tile}
-use Rattle.rules.specs.declared.settings.QindexGrid.{QindexGrid}
 use Rattle.rules.specs.declared.refusals.Answer.{Answer}
 use Rattle.rules.specs.declared.refusals.Answer.the-variants.{Accepted, Refused}
 use Rattle.rules.specs.Refusals.{settle}
 use Rattle.rules.specs.TuGrid.{Marks, marks, markOf, log2Of, storeCell, paintCell, paintRow, paintOf, leafOf, leavesOf, clearOf, blankOf, txGridOf, txGridCheck, txGridAfter}
-use Rattle.rules.specs.QindexGrid.{qCell, qRow, qGridOf, qGridCheck, qGridAfter, superblockOf}
-use Rattle.grid.proofs.Places.{place-below}
-
--- ---- the TU grid
+use Rattle.tiles.proofs.Places.{place-below}
 
 module _ (s : TuGrid) (i : ℕ) (far : s .rows * s .cols ≤ i) (v h w t : ℕ) where
   abbrev Kept : Marks → Type 0
@@ -82,10 +78,3 @@ entry-beyond s ls skips g i far = by (txGridCheck s ls skips g)
     by : (a : Answer) → Alike (settle a g (txGridOf s ls skips g)) g i
     by Accepted = tx-beyond s ls skips g i far
     by (Refused r) = alike g i
-
--- ---- the qindex grid
-
-pub q-beyond : (s : QindexGrid) (sbq q : List ℕ) (i : ℕ) → s .rows * s .cols ≤ i → getD (qGridOf s sbq q) i 0 ≡ getD q i 0
-unfolding qGridOf qRow qCell
-q-beyond s sbq q i far =
-    turns-keep _ q (λ l. getD l i 0 ≡ getD q i 0) (s .rows) refl (λ r y hr p. turns-keep _ y (λ l. getD l i 0 ≡ getD q i 0) (s .cols) p (λ c z hc e. getD-set-other z (r * s .cols + c) i _ 0 (λ p. omega (arith, place-below r (s .rows) c (s .cols) hr hc)) ∙ e))

@@ -1,4 +1,4 @@
--- What a built grid holds: marks 0 or 1 and size indices 0..6 at every cell, so that none of its cells is bad; and entries of the superblocks' list.
+-- What a built TU grid holds: marks 0 or 1 and size indices 0..6 at every cell, so that none of its cells is bad.
 -- Assumes nothing.
 use mathlib.Core.Path.{_≡_, refl, sym, _∙_}
 use mathlib.Core.List.{List, [], _∷_}
@@ -13,15 +13,13 @@ use Rattle.laws.specs.Choose.{pick, both, all}
 use Rattle.laws.specs.Loops.{turns-keep}
 use Rattle.rules.specs.declared.settings.TuGrid.{TuGrid}
 use Rattle.rules.specs.declared.settings.Tile.{Tile}
-use Rattle.rules.specs.declared.settings.QindexGrid.{QindexGrid}
 use Rattle.rules.specs.declared.settings.Plane.{Plane}
 use Rattle.rules.specs.declared.refusals.Found.the-variants.{Nothing}
 use Rattle.rules.specs.Plane.{grid, cellGood, badCell}
 use Rattle.rules.specs.TuGrid.{Marks, markOf, log2Of, paintCell, paintRow, paintOf, leafOf, leavesOf, clearOf, txGridOf}
-use Rattle.rules.specs.QindexGrid.{superblockOf, qCell, qRow, qGridOf}
 use Rattle.scan.proofs.First.{all-nothing, found-unless-not}
-use Rattle.grid.proofs.Turns.{turns-hit}
-use Rattle.grid.proofs.Places.{same-row, same-col}
+use Rattle.tiles.proofs.Turns.{turns-hit}
+use Rattle.tiles.proofs.Places.{same-row, same-col}
 use Rattle.grid.proofs.Covers.{Column, stored, vedge-column, hedge-column, sqw-column, sqh-column}
 
 -- ---- stores in a list, at one of its places
@@ -109,36 +107,3 @@ pub no-bad-cell : (p : Plane) (s : TuGrid) (ls skips : List ℕ) (g : Marks) (q 
 unfolding badCell
 no-bad-cell p s ls skips g q er ec =
     rw (er, ec) (all-nothing _ (s .rows * s .cols) (λ k h. sym (found-unless-not _ k (sym (cell-good s ls skips g q k h)))))
-
--- ---- the qindex grid
-
-module _ (s : QindexGrid) (sbq : List ℕ) (r c : ℕ) (hr : r < s .rows) (hc : c < s .cols) where
-  abbrev Is : ℕ → List ℕ → Type 0
-  Is x l = getD l (r * s .cols + c) 0 ≡ x
-
-  abbrev Has : List ℕ → Type 0
-  Has l = r * s .cols + c < length l
-
-  q-has : (r' c' : ℕ) (l : List ℕ) → Has l → Has (qCell s sbq r' c' l)
-  unfolding qCell
-  q-has r' c' l h = rw length-set h
-
-  q-miss : (r' c' x : ℕ) (l : List ℕ) → c' < s .cols → (r' ≡ r → c' ≡ c → ⊥) → Is x l → Is x (qCell s sbq r' c' l)
-  unfolding qCell
-  q-miss r' c' x l hc' off k =
-      getD-set-other l (r' * s .cols + c') (r * s .cols + c) _ 0
-      (λ q. off (sym (same-row r r' c c' (s .cols) hc hc' q)) (sym (same-col r r' c c' (s .cols) hc hc' q)))
-      ∙ k
-
-  q-hit : (l : List ℕ) → Has l → Is (getD sbq (superblockOf s (length sbq) r c) 0) (qCell s sbq r c l)
-  unfolding qCell
-  q-hit l h = getD-set-same l (r * s .cols + c) _ 0 h
-
-  -- a cell holds its superblock's entry
-  pub q-cell-is : (l : List ℕ) → Has l → Is (getD sbq (superblockOf s (length sbq) r c) 0) (qGridOf s sbq l)
-  unfolding qGridOf qRow
-  q-cell-is l k =
-      turns-hit (Is (getD sbq (superblockOf s (length sbq) r c) 0)) Has (λ j. qRow s sbq j) (s .rows) r l hr
-      (λ j y q. turns-keep _ y Has (s .cols) q (λ c' z h. q-has j c' z)) k
-      (λ y q. turns-hit (Is (getD sbq (superblockOf s (length sbq) r c) 0)) Has (λ j. qCell s sbq r j) (s .cols) c y hc (λ j z. q-has r j z) q q-hit (λ j z lt h. q-miss r j _ z h (λ a b. omega arith)))
-      (λ j y lt h p. turns-keep (λ c'. qCell s sbq j c') y (Is (getD sbq (superblockOf s (length sbq) r c) 0)) (s .cols) p (λ c' z h'. q-miss j c' _ z h' (λ a b. omega arith)))

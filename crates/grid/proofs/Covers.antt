@@ -14,8 +14,8 @@ use Rattle.laws.specs.Loops.{turns-keep}
 use Rattle.rules.specs.declared.settings.TuGrid.{TuGrid}
 use Rattle.rules.specs.declared.settings.Tile.{Tile}
 use Rattle.rules.specs.TuGrid.{Marks, marks, markOf, log2Of, storeCell, paintCell, paintRow, paintOf, leafOf, leavesOf, clearOf, blankOf}
-use Rattle.grid.proofs.Places.{same-row, same-col}
-use Rattle.grid.proofs.Turns.{turns-hit}
+use Rattle.tiles.proofs.Places.{same-row, same-col}
+use Rattle.tiles.proofs.Turns.{turns-hit}
 
 -- the tile a covers the cell r, c
 pub record Covers (a : Tile) (r c : ℕ) : Type 0 where

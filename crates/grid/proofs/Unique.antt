@@ -4,13 +4,8 @@ use mathlib.Core.Path.{_≡_, sym, _∙_}
 use mathlib.Core.List.{List}
 use Prim.Native.Nat.{ℕ}
 use Rattle.rules.specs.declared.settings.TuGrid.{TuGrid}
-use Rattle.rules.specs.declared.settings.QindexGrid.{QindexGrid}
 use Rattle.rules.specs.declared.refusals.Answer.{Answer}
 use Rattle.rules.specs.TuGrid.{Marks, txGridCheck, txGridAfter}
-use Rattle.rules.specs.QindexGrid.{qGridCheck, qGridAfter}
 
 pub tx-unique : (s : TuGrid) (ls skips : List ℕ) (g : Marks) {r r' : Answer} {g1 g2 : Marks} → (r ≡ txGridCheck s ls skips g) × (g1 ≡ txGridAfter s ls skips g) → (r' ≡ txGridCheck s ls skips g) × (g2 ≡ txGridAfter s ls skips g) → (r ≡ r') × (g1 ≡ g2)
 tx-unique s ls skips g a b = (a .0 ∙ sym (b .0), a .1 ∙ sym (b .1))
-
-pub q-unique : (s : QindexGrid) (sbq q : List ℕ) {r r' : Answer} {q1 q2 : List ℕ} → (r ≡ qGridCheck s sbq q) × (q1 ≡ qGridAfter s sbq q) → (r' ≡ qGridCheck s sbq q) × (q2 ≡ qGridAfter s sbq q) → (r ≡ r') × (q1 ≡ q2)
-q-unique s sbq q a b = (a .0 ∙ sym (b .0), a .1 ∙ sym (b .1))

@@ -1,2 +1,3 @@
--- The words in which the grids' functions speak of what the checks have passed.
+-- The words in which the grid's functions speak of what the checks have passed, and its tests in their order.
 pub mod Fit
+pub mod Exactly

@@ -3,10 +3,11 @@ ghost use mathlib.Core.Path.{_≡_};
 ghost use Prim.Native.Nat.{_≤_, _<_, _/_, _%_};
 ghost use lib.ListN.{length};
 ghost use Rattle.rules.specs.TuGrid.{marks, log2Of, markOf, storeCell, paintCell, paintRow, paintOf, tileOf, leafOf, leavesOf, clearOf, blankOf};
-ghost use Rattle.grid.specs.Fit.{Fit, Cut, Placed, Good, AllGood};
-use super::tile::tile_of;
+ghost use Rattle.tiles.specs.Fit.{Cut, Placed, Good, AllGood};
+ghost use Rattle.grid.specs.Fit.{Fit};
 use rules::settings::Tile;
 use rules::settings::TuGrid;
+use tiles::tile::tile_of;
 
 fn log2(n: usize) -> u8
     ensures { λ r. ⌜ r ≡ log2Of n ⌝ }

@@ -7,18 +7,19 @@ ghost use Rattle.rules.specs.Numbers.{subsamplingOk};
 ghost use Rattle.rules.specs.Refusals.{orElse, found};
 ghost use Rattle.rules.specs.TuGrid.{marks, cellsOk, capOk, badLeaf, txGridOf, txGridCheck, txGridAfter};
 ghost use Rattle.rules.specs.declared.refusals.Refusal.the-variants.{Leaf};
-ghost use Rattle.grid.specs.Fit.{Fit, Cut, AllGood, TxChecked};
-use super::checks::cap_ok;
-use super::checks::cells_ok;
-use super::checks::lists_ok;
-use super::checks::subsampling_ok;
-use super::leaf::bad_leaf;
+ghost use Rattle.tiles.specs.Fit.{Cut, AllGood};
+ghost use Rattle.grid.specs.Fit.{Fit, TxChecked};
 use super::paint::blank;
 use super::paint::leaves;
 use rules::refusals::Answer;
 use rules::refusals::Found;
 use rules::refusals::Refusal;
 use rules::settings::TuGrid;
+use tiles::checks::cap_ok;
+use tiles::checks::cells_ok;
+use tiles::checks::lists_ok;
+use tiles::checks::subsampling_ok;
+use tiles::leaf::bad_leaf;
 
 // The grid of settings and leaves that the checks have passed.
 pub fn tx_grid(

@@ -13,3 +13,5 @@ pub mod Boxes
 pub mod Trace
 pub mod Schedules
 pub mod Reorder
+pub mod Rising
+pub mod Sums

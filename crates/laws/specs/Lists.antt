@@ -122,6 +122,10 @@ module _ {E : Type 0} where
   all-pairs-both P Q R f (x ∷ xs) h k =
       (each-both (P x) Q (R x) (λ y p q. f x y (k .0) q p) xs (h .0) (k .1), all-pairs-both P Q R f xs (h .1) (k .1))
 
+  pub all-pairs-append : (R : E → E → Type 0) (xs ys : List E) → AllPairs R xs → AllPairs R ys → Pairs R xs ys → AllPairs R (xs ++ ys)
+  all-pairs-append R [] ys h k p = k
+  all-pairs-append R (x ∷ xs) ys h k p = (each-append (R x) xs ys (h .0) (p .0), all-pairs-append R xs ys (h .1) k (p .1))
+
 -- a property of what a map makes
 pub each-of-map : {A B : Type 0} (P : B → Type 0) (f : A → B) (xs : List A) → Each (λ x. P (f x)) xs → Each P (map f xs)
 each-of-map P f [] h = tt

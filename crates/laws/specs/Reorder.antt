@@ -10,7 +10,7 @@ use native.Mathlib.Decide.{decLe}
 use native.Mathlib.Omega.{arith}
 use lib.Dec.{T, eqb, eqb→eq, ltb, ltb→lt, lt→ltb, T-not, not-T}
 use Rattle.laws.specs.Tests.{choose, and-l, and-r, and-i, bit, bit-yes, bit-no, eqb-of}
-use Rattle.laws.specs.Lists.{Each, each-map, each-both, each-append, each-left, each-right, AllPairs, all-pairs-map, all-pairs-both}
+use Rattle.laws.specs.Lists.{Each, Some, each-map, each-both, each-append, each-left, each-right, AllPairs, all-pairs-map, all-pairs-both}
 use Rattle.laws.specs.Trace.{Same, same, swap, after, andThen, same-eq, past, each-same}
 
 one-of : (n : ℕ) → n ≡ 1 → T (eqb n 1)
@@ -186,6 +186,11 @@ module _ {E : Type 0} (eq : E → E → Bool) where
     pub counted-each : (P : E → Type 0) (xs : List E) → ((a : E) → 0 < count eq a xs → P a) → Each P xs
     counted-each P [] f = tt
     counted-each P (x ∷ xs) f = (f x (omega (arith, bit-yes (eq x x) (eq-self x))), counted-each P xs (λ a k. f a (omega arith)))
+
+    pub some-counted : (a : E) (xs : List E) → Some (λ x. x ≡ a) xs → 0 < count eq a xs
+    some-counted a [] h = absurd h
+    some-counted a (x ∷ xs) (inl q) = let b : bit (eq a x) ≡ 1 = bit-yes (eq a x) (subst (λ (y : E). T (eq a y)) (sym q) (eq-self a)) in omega arith
+    some-counted a (x ∷ xs) (inr h) = omega (arith, some-counted a xs h)
 
     skip-no : (b : Bool) (n : ℕ) → T (not b) → skip b n ≡ suc n
     skip-no true n t = absurd t

@@ -3,10 +3,11 @@
 -- Assumes nothing.
 use mathlib.Core.Path.{_≡_, refl, sym, ap, _∙_, subst}
 use mathlib.Core.List.{List, [], _∷_, _++_, append-assoc, append-nil}
-use Prim.Native.Nat.{ℕ, _+_, _≤_}
+use Prim.Native.Nat.{ℕ, suc, _+_, _≤_}
 use native.Mathlib.Numerals.{add-one}
 use native.Mathlib.Nat.{le-antisymm}
 use native.Mathlib.Omega.{arith}
+use lib.ListN.{length}
 use Rattle.laws.specs.Loops.{each}
 use Rattle.laws.specs.Lists.{Each, Pairs}
 
@@ -46,6 +47,12 @@ module _ {E : Type 0} {Ind : E → E → Type 0} where
   each-same P (swap t) h = (h .1 .0, (h .0, h .1 .1))
   each-same P (after t) h = (h .0, each-same P t (h .1))
   each-same P (andThen t u) h = each-same P u (each-same P t h)
+
+  pub length-same : {xs ys : List E} → Same Ind xs ys → length xs ≡ length ys
+  length-same same = refl
+  length-same (swap t) = refl
+  length-same (after t) = ap suc (length-same t)
+  length-same (andThen t u) = length-same t ∙ length-same u
 
   -- one operation past a block
   pub past : (x : E) (ys zs : List E) → Each (Ind x) ys → Same Ind (x ∷ (ys ++ zs)) (ys ++ (x ∷ zs))

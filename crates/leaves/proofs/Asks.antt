@@ -41,7 +41,8 @@ use Rattle.rules.proofs.settings.TuGrid as S
 use Rattle.rules.proofs.settings.TuGrid.Laws as S′
 use Rattle.rules.proofs.refusals.Answer as N
 use Rattle.rules.proofs.refusals.Answer.Laws as N′
-use Rattle.grid.specs.Fit.{Fit, Cut, AllGood}
+use Rattle.tiles.specs.Fit.{Cut, AllGood}
+use Rattle.grid.specs.Fit.{Fit}
 use Rattle.leaves.specs.declared.records.Leaf.{Leaf}
 use Rattle.leaves.specs.Records.{flat, goodOf, refusedOf, recordCheck}
 use Rattle.leaves.proofs.records.Leaf as T

@@ -21,7 +21,8 @@ use Rattle.scan.proofs.First.{at-first, at-not-nothing, found-if, found-if-not}
 use Rattle.scan.proofs.Checks.{else-parts, unless-true}
 use Rattle.grid.specs.Fit.{Fit}
 use Rattle.grid.proofs.Painted.{grid-built}
-use Rattle.grid.proofs.Checked.{cols-most, rows-most, long-fit}
+use Rattle.tiles.proofs.Checked.{cols-most, rows-most}
+use Rattle.grid.proofs.Checked.{long-fit}
 use Rattle.leaves.specs.declared.records.Leaf.{Leaf}
 use Rattle.leaves.specs.Records.{flat, placeOr, goodOf, refusedOf, badAfter, leavesCheck, recordCheck}
 use Rattle.leaves.proofs.Flat.{flat-length, flat-count}

@@ -6,3 +6,4 @@ pub mod While
 pub mod Again
 pub mod Four
 pub mod Asks
+pub mod Exactly

@@ -2,11 +2,12 @@
 ghost use mathlib.Core.Path.{_≡_};
 ghost use lib.ListN.{length};
 ghost use Rattle.rules.specs.TuGrid.{marks, leavesOf};
-ghost use Rattle.grid.specs.Fit.{Fit, Cut, AllGood};
+ghost use Rattle.tiles.specs.Fit.{Cut, AllGood};
+ghost use Rattle.grid.specs.Fit.{Fit};
 ghost use Rattle.leaves.specs.Records.{flat, goodOf};
-use grid::leaf::leaf_good;
 use grid::paint::paint_leaf;
 use rules::settings::TuGrid;
+use tiles::leaf::leaf_good;
 
 // A leaf: its first row and column and its size, in luma cells; bit 4096 as in a list of numbers.
 pub struct Leaf {

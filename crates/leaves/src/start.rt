@@ -4,13 +4,13 @@ ghost use Prim.Native.Nat.{_*_};
 ghost use Rattle.rules.specs.Refusals.{settle};
 ghost use Rattle.rules.specs.TuGrid.{marks, blankOf};
 ghost use Rattle.leaves.specs.Records.{refusedOf, leavesCheck, recordCheck, Checked};
-use grid::checks::marks_long;
 use grid::paint::blank;
 use grid::tx_grid::caps_ok;
 use grid::tx_grid::sizes_ok;
 use rules::refusals::Answer;
 use rules::refusals::Refusal;
 use rules::settings::TuGrid;
+use tiles::checks::marks_long;
 
 pub fn refused(a: Answer) -> bool
     ensures { λ r. ⌜ r ≡ refusedOf a ⌝ }

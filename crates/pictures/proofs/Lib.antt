@@ -2,7 +2,6 @@
 pub mod Fronts
 pub mod Storing
 pub mod Places
-pub mod Steps
 pub mod Leaves
 pub mod Repeats
 pub mod Completing

@@ -1,8 +1,8 @@
--- What holds where the settings do not say: numbers, steps, a qindex for every superblock, a leaf for every superblock.
+-- What holds where the settings do not say: numbers, a qindex for every superblock, a leaf for every superblock.
 -- Assumes nothing.
 use mathlib.Core.Path.{_≡_}
 use mathlib.Core.List.{List, [], _∷_}
-use Prim.Native.Nat.{ℕ, _+_, _-_, _*_, _/_, _%_, _^_, _<_, min}
+use Prim.Native.Nat.{ℕ, _+_, _-_, _*_, _/_}
 use lib.Dec.{eqb}
 use lib.IntN.{ℤ, pos}
 use lib.ListN.{getD, set, replicate}
@@ -13,28 +13,6 @@ use Rattle.pictures.specs.Storing.{stored}
 -- luma's and chroma's caps of 16 cells each way at 3 to 6, chroma deblocked at 7; deltas and all else 0
 unfoldable pub defaultNumbers : List ℤ
 defaultNumbers = stored (replicate 64 (pos 0)) 3 (pos 16 ∷ pos 16 ∷ pos 16 ∷ pos 16 ∷ pos 1 ∷ [])
-
--- ---- the published AC steps
-
--- entries 1 to 24
-unfoldable pub octave : List ℕ
-octave =
-    40 ∷ 41 ∷ 43 ∷ 44 ∷ 45 ∷ 47 ∷ 48 ∷ 49 ∷ 51 ∷ 52 ∷ 54 ∷ 55 ∷ 57 ∷ 59 ∷ 60 ∷ 62 ∷ 64 ∷ 66 ∷ 68 ∷ 70 ∷ 72 ∷ 74 ∷ 76 ∷ 78 ∷ []
-
--- the same, doubled with every 24 further ones
-unfoldable pub doubling : ℕ → ℕ
-doubling j = getD octave (j % 24) 0 * 2 ^ (j / 24)
-
--- entry k: the first one is 64, and the one at 255 serves those after it
-unfoldable pub stepAt : ℕ → ℕ
-stepAt k = pick (eqb k 0) 64 (doubling (min k 255 - 1))
-
-unfoldable pub stepTable : List ℕ
-stepTable = each 352 (λ k. stepAt k ∷ [])
-
--- the first n entries of t are right
-abbrev pub StepsTo : ℕ → List ℕ → Type 0
-StepsTo n t = (k : ℕ) → k < n → getD t k 0 ≡ stepAt k
 
 -- ---- superblocks of 64 by 64 samples, 16 by 16 cells
 

@@ -1,9 +1,9 @@
-// What the settings do not say: numbers, steps, a qindex for every superblock, a leaf for every superblock.
+// What the settings do not say: numbers, a qindex for every superblock, a leaf for every superblock.
 ghost use mathlib.Core.Path.{_≡_};
 ghost use Prim.Native.Nat.{_+_, _≤_, _<_};
 ghost use lib.ListN.{length, set};
 ghost use Rattle.pictures.specs.Storing.{stored};
-ghost use Rattle.pictures.specs.Defaults.{defaultNumbers, stepAt, stepTable, StepsTo, blocksOf, lastRepeated, leaf, leafRow, tiled, tiledEnd, completeShorts, completePlaces};
+ghost use Rattle.pictures.specs.Defaults.{defaultNumbers, blocksOf, lastRepeated, leaf, leafRow, tiled, tiledEnd, completeShorts, completePlaces};
 
 // Deltas 0, caps of 16 cells, chroma deblocked.
 pub fn numbers() -> [i32; 64]
@@ -20,62 +20,6 @@ pub fn numbers() -> [i32; 64]
 
 pub fn shorts() -> [u16; 12587008] {
     [0; 12587008]
-}
-
-// The first 25 entries of the published table of AC steps.
-const FIRST: [u32; 25] = [
-    64,
-    40,
-    41,
-    43,
-    44,
-    45,
-    47,
-    48,
-    49,
-    51,
-    52,
-    54,
-    55,
-    57,
-    59,
-    60,
-    62,
-    64,
-    66,
-    68,
-    70,
-    72,
-    74,
-    76,
-    78,
-];
-
-// The table's next entry after i of them: twice the one 24 before it, and from 255 on the same.
-fn next_step(t: &[u32; 352], i: usize) -> u32
-    requires { ⌜ (i < 352) × StepsTo i (now t) ⌝ }
-    ensures { λ r. ⌜ r ≡ stepAt i ⌝ }
-{
-    if i < 25 {
-        return FIRST[i];
-    }
-    if 255 < i {
-        return t[i - 1];
-    }
-    2 * t[i - 24]
-}
-
-// The published table of AC steps.
-pub fn steps() -> [u32; 352]
-    ensures { λ r. ⌜ r ≡ stepTable ⌝ }
-{
-    let mut t = [0u32; 352];
-    let mut i: usize = 0;
-    while i < 352 {
-        t[i] = next_step(&t, i);
-        i += 1;
-    }
-    t
 }
 
 // The last qindex of n serves the superblocks after it.

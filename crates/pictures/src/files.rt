@@ -1,8 +1,32 @@
-// Files by their descriptors: a text, a line, a row of bytes.
+// Files: by their names, and what is read from them, a text or a line.
 ghost use mathlib.Core.Path.{_≡_};
 ghost use Prim.Native.Nat.{_≤_};
 ghost use lib.ListN.{length};
-ghost use Rattle.pictures.specs.Texts.{Line, partIn, partLength};
+ghost use Rattle.pictures.specs.Texts.{Line};
+
+// Whether a name is '-', which stands for a descriptor that is open already.
+fn is_dash(name: &[u8]) -> bool {
+    if name.len() != 1 {
+        return false;
+    }
+    name[0] == 45
+}
+
+// A file to read: standard input for '-'.
+pub fn open_in(name: &[u8]) -> i32 {
+    if is_dash(name) {
+        return 0;
+    }
+    os::open_read(name)
+}
+
+// A file to write: descriptor 3 for '-', since standard output has the answer.
+pub fn open_out(name: &[u8]) -> i32 {
+    if is_dash(name) {
+        return 3;
+    }
+    os::open_overwrite(name)
+}
 
 // How many bytes a settings text may have.
 pub fn text_room() -> [u8; 33554432] {
@@ -50,21 +74,4 @@ pub fn at_end(fd: i32) -> bool {
         Next::Byte(_) => false,
         Next::End => true,
     }
-}
-
-// A name with '.part' after it, into a buffer; answers its length, or 0 where it does not fit.
-pub fn part_name(name: &[u8], buf: &mut [u8]) -> usize
-    ensures { λ r. ⌜ (r ≤ length (now (buf .exit))) × (length (now (buf .exit)) ≡ length (now (buf .entry))) ⌝ }
-    ensures { λ r. ⌜ (r ≡ partLength (now (name .entry)) (now (buf .entry))) × (now (buf .exit) ≡ partIn (now (name .entry)) (now (buf .entry))) ⌝ }
-{
-    let n = name.len();
-    if buf.len() < 5 {
-        return 0;
-    }
-    if buf.len() - 5 < n {
-        return 0;
-    }
-    let at = bytes::copy(name, buf);
-    bytes::copy(b".part", &mut buf[at..]);
-    at + 5
 }

@@ -29,7 +29,8 @@ use Rattle.cells.specs.Fit.{Sizes, Long, Ready, badOf, oneWay}
 use Rattle.cells.proofs.Accepted.{sizes, sizes-by}
 use Rattle.cells.proofs.Marks.{none-good}
 use Rattle.plane.specs.Run.{Levels, Field, Ran}
-use Rattle.plane.specs.Checked.{Sized, Checked, Stated}
+use Rattle.plane.specs.Checked.{Sized, Checked, Filtered, Stated}
+use Rattle.plane.specs.declared.visited.Visited.{Visited}
 
 -- ---- lengths
 
@@ -153,9 +154,9 @@ module _ {s : Plane} {steps : List ℕ} (v h w t q : List ℕ) {n : ℕ} {table 
         room = no-lack .1;
       }
 
-  pub ran-plane : {a b : List ℕ} → Ran s table (λ st. edgesOf s st (grid v h w t q)) a b → b ≡ runPlane s steps (grid v h w t q) a
+  pub ran-plane : {x : Visited} {a b : List ℕ} → Ran s table (λ st. edgesOf s st (grid v h w t q)) a x b → Filtered s steps (grid v h w t q) a x b
   unfolding runPlane
-  ran-plane g = g .is steps (record { entries = by; accepted = k .steps-ok })
+  ran-plane r = record { plane = r .is steps (record { entries = by; accepted = k .steps-ok }); visited = r .visited steps }
 
 -- ---- the entry
 

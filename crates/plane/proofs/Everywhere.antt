@@ -3,7 +3,7 @@
 use mathlib.Core.Path.{_≡_, refl, sym, _∙_}
 use mathlib.Core.Bool.{Bool, true, false}
 use mathlib.Core.List.{List, [], _∷_}
-use Prim.Native.Nat.{ℕ, _+_, _*_, _-_, _<_}
+use Prim.Native.Nat.{ℕ, _+_, _*_, _-_, _≤_, _<_}
 use native.Mathlib.Omega.{arith}
 use lib.Dec.{eqb}
 use lib.ListN.{length}
@@ -16,7 +16,7 @@ use Rattle.rules.specs.declared.refusals.Answer.the-variants.{Accepted}
 use Rattle.rules.specs.declared.refusals.Found.the-variants.{Nothing}
 use Rattle.rules.specs.Thresholds.{qThreshold, sideThreshold}
 use Rattle.rules.specs.Segment.{hasRoom}
-use Rattle.rules.specs.Plane.{Grid, isEdge, edgeAt, visitOf, startOf, countOf, sbCols, vertRow, vertSb, horzCol, horzSb, turnOf, edgesOf, edgeRoom, lacksRoom, lacksRow, lacksDir, noRoom, planeCheck}
+use Rattle.rules.specs.Plane.{Grid, isEdge, edgeAt, visitOf, startOf, countOf, sbCols, sweepOf, columnOf, turnOf, edgesOf, edgeRoom, lacksRoom, lacksRow, lacksDir, noRoom, planeCheck}
 use Rattle.thresholds.proofs.Quants.{q-most}
 use Rattle.thresholds.proofs.Sides.{side-most}
 use Rattle.thresholds.proofs.TwoBlocks.{both-most}
@@ -64,39 +64,40 @@ module _ (s : Plane) (steps : List ℕ) (g : Grid) (size : ℕ) (k : Checked s s
   unfolding noRoom
   both-clear = sooner-nothing _ _ (k .room)
 
-  module _ (sb : ℕ) (h : sb < sbCols s) where
-    column : (j : ℕ) → j < countOf s sb → startOf s sb + j < s .cols
-    unfolding startOf
-    column j l = omega (arith, sb-end (k .sizes-ok) sb h refl)
+  -- the edges of a part of the cells
+  sweep-inside : (dir row rows col cols : ℕ) → lacksDir s g dir ≡ Nothing → row + rows ≤ s .rows → col + cols ≤ s .cols → Each Inside (sweepOf s steps g dir row rows col cols)
+  unfolding sweepOf pick
+  sweep-inside dir row rows col cols clear h m = go (eqb dir 0)
+    where
+      one : (i j : ℕ) → i < rows → j < cols → Each Inside (visitOf s steps g dir (row + i) (col + j))
+      one i j a b = visit-inside dir (row + i) (col + j) clear (record { in-rows = omega arith; in-cols = omega arith })
 
-    vert-inside : Each Inside (vertSb s steps g sb)
-    unfolding vertSb vertRow
-    vert-inside =
-        each-loop Inside (s .rows) (λ r. vertRow s steps g (startOf s sb) (countOf s sb) r) (λ r l.
-        each-loop Inside (countOf s sb) (λ j. visitOf s steps g 0 r (startOf s sb + j)) (λ j m.
-        visit-inside 0 r (startOf s sb + j) (both-clear .0) (record { in-rows = l; in-cols = column j m })))
+      go : (t : Bool) → Each Inside (pick t (each rows (λ i. each cols (λ j. visitOf s steps g dir (row + i) (col + j)))) (each cols (λ j. each rows (λ i. visitOf s steps g dir (row + i) (col + j)))))
+      go true =
+          each-loop Inside rows (λ i. each cols (λ j. visitOf s steps g dir (row + i) (col + j))) (λ i a.
+          each-loop Inside cols (λ j. visitOf s steps g dir (row + i) (col + j)) (λ j b. one i j a b))
+      go false =
+          each-loop Inside cols (λ j. each rows (λ i. visitOf s steps g dir (row + i) (col + j))) (λ j b.
+          each-loop Inside rows (λ i. visitOf s steps g dir (row + i) (col + j)) (λ i a. one i j a b))
 
-    horz-inside : Each Inside (horzSb s steps g sb)
-    unfolding horzSb horzCol
-    horz-inside =
-        each-loop Inside (countOf s sb) (λ j. horzCol s steps g (startOf s sb + j)) (λ j m.
-        each-loop Inside (s .rows) (λ r. visitOf s steps g 1 r (startOf s sb + j)) (λ r l.
-        visit-inside 1 r (startOf s sb + j) (both-clear .1) (record { in-rows = l; in-cols = column j m })))
+  column-inside : (dir sb : ℕ) → sb < sbCols s → lacksDir s g dir ≡ Nothing → Each Inside (columnOf s steps g dir sb)
+  unfolding columnOf
+  column-inside dir sb h clear = sweep-inside dir 0 (s .rows) (startOf s sb) (countOf s sb) clear (omega arith) (sb-end (k .sizes-ok) sb h)
 
   turn-inside : (sb : ℕ) → sb < sbCols s → Each Inside (turnOf s steps g sb)
   unfolding turnOf pick
-  turn-inside sb h = each-append Inside (vertSb s steps g sb) _ (vert-inside sb h) (go (eqb sb 0))
+  turn-inside sb h = each-append Inside (columnOf s steps g 0 sb) _ (column-inside 0 sb h (both-clear .0)) (go (eqb sb 0))
     where
-      go : (t : Bool) → Each Inside (pick t [] (horzSb s steps g (sb - 1)))
+      go : (t : Bool) → Each Inside (pick t [] (columnOf s steps g 1 (sb - 1)))
       go true = tt
-      go false = horz-inside (sb - 1) (omega arith)
+      go false = column-inside 1 (sb - 1) (omega arith) (both-clear .1)
 
   pub edges-inside : Each Inside (edgesOf s steps g)
   unfolding edgesOf
   edges-inside =
-      each-append Inside (each (sbCols s) (λ sb. turnOf s steps g sb)) (horzSb s steps g (sbCols s - 1))
+      each-append Inside (each (sbCols s) (λ sb. turnOf s steps g sb)) (columnOf s steps g 1 (sbCols s - 1))
       (each-loop Inside (sbCols s) (λ sb. turnOf s steps g sb) turn-inside)
-      (horz-inside (sbCols s - 1) (sb-last (k .sizes-ok)))
+      (column-inside 1 (sbCols s - 1) (sb-last (k .sizes-ok)) (both-clear .1))
 
 -- the same of an accepted plane
 pub every-edge : (s : Plane) (steps : List ℕ) (g : Grid) (l : List ℕ) → planeCheck s steps g l ≡ Accepted → Each (λ e. InPlane (s .stride) (4 * s .cols) (4 * s .rows) e (length l)) (edgesOf s steps g)

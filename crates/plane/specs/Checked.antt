@@ -3,6 +3,7 @@
 use mathlib.Core.Path.{_≡_}
 use mathlib.Core.Bool.{true}
 use mathlib.Core.List.{List}
+use lib.ListN.{length}
 use Prim.Native.Nat.{ℕ, _*_, _≤_}
 use Rattle.rules.specs.declared.settings.Plane.{Plane}
 use Rattle.rules.specs.declared.refusals.Refusal.the-variants.{Cell, Room, Sample}
@@ -12,8 +13,9 @@ use Rattle.rules.specs.declared.refusals.Found.the-variants.{Nothing}
 use Rattle.rules.specs.Numbers.{depthOk, deltaOk}
 use Rattle.rules.specs.Refusals.{orElse, found}
 use Rattle.rules.specs.Thresholds.{stepsCheck}
-use Rattle.rules.specs.Plane.{Grid, badCell, noRoom, overPlane, planeLengthsOk, planeCheck, planeAfter}
+use Rattle.rules.specs.Plane.{Grid, badCell, noRoom, overPlane, planeLengthsOk, edgesOf, runPlane, planeCheck, planeAfter}
 use Rattle.cells.specs.Fit.{Sizes, Long}
+use Rattle.plane.specs.declared.visited.Visited.{Visited}
 
 -- depth, sizes and lengths are good
 pub record Sized (s : Plane) (n v h w t : ℕ) : Type 0 where
@@ -36,6 +38,11 @@ pub record Checked (s : Plane) (steps : List ℕ) (g : Grid) (size : ℕ) : Type
   pub deltaside-ok : deltaOk (s .deltaside) ≡ true
   pub cells : badCell s g ≡ Nothing
   pub room : noRoom s g ≡ Nothing
+
+-- what a checked plane's run tells and leaves of the plane l: a and the plane m
+pub record Filtered (s : Plane) (steps : List ℕ) (g : Grid) (l : List ℕ) (a : Visited) (m : List ℕ) : Type 0 where
+  pub plane : m ≡ runPlane s steps g l
+  pub visited : a .edges ≡ length (edgesOf s steps g)
 
 -- all that the entry states: its answer a, and the plane afterwards m, of a plane l
 pub record Stated (s : Plane) (steps : List ℕ) (g : Grid) (l : List ℕ) (a : Answer) (m : List ℕ) : Type 0 where

@@ -3,8 +3,11 @@
 use mathlib.Core.Path.{_≡_}
 use mathlib.Core.Bool.{true}
 use mathlib.Core.List.{List, []}
-use Prim.Native.Nat.{ℕ, _*_, _/_, _%_, _≤_}
+use Prim.Native.Nat.{ℕ, _+_, _*_, _/_, _%_, _≤_}
+use lib.Dec.{eqb}
 use lib.ListN.{length, getD}
+use Rattle.laws.specs.Choose.{pick}
+use Rattle.laws.specs.Loops.{each}
 use Rattle.rules.specs.declared.edge.Edge.{Edge}
 use Rattle.rules.specs.declared.settings.Plane.{Plane}
 use Rattle.rules.specs.declared.refusals.Found.the-variants.{Nothing}
@@ -14,8 +17,10 @@ use Rattle.rules.specs.declared.refusals.Answer.the-variants.{Accepted}
 use Rattle.rules.specs.Thresholds.{stepsCheck}
 use Rattle.thresholds.specs.ByQindex.{ByQindex}
 use Rattle.rules.specs.Segment.{runEdges}
-use Rattle.rules.specs.Plane.{Grid, indexAt, shortenedAt, edgeAt, lacksDir}
+use Rattle.rules.specs.Plane.{Grid, indexAt, shortenedAt, edgeAt, visitOf, startOf, countOf, lacksDir}
 use Rattle.cells.specs.Fit.{Ready, oneWay}
+use Rattle.plane.specs.declared.part.Part.{Part}
+use Rattle.plane.specs.declared.visited.Visited.{Visited}
 
 -- ---- thresholds by qindex, made once a plane
 
@@ -41,9 +46,24 @@ pub record IsEdgeAt (s : Plane) (t : List ℕ) (g : Grid) (dir r c : ℕ) (e : E
   pub q-most : e .q ≤ 2048
   pub side-most : e .side ≤ 839
 
--- the plane q is what a list of edges, by any steps that the table was made of, leaves of the plane p
-pub record Ran (s : Plane) (t : List ℕ) (edges : List ℕ → List Edge) (p q : List ℕ) : Type 0 where
+-- what a run of a list of edges, by any steps that the table was made of, tells and leaves of the plane p: a and the plane q
+pub record Ran (s : Plane) (t : List ℕ) (edges : List ℕ → List Edge) (p : List ℕ) (a : Visited) (q : List ℕ) : Type 0 where
   pub is : (steps : List ℕ) → Table s steps t → q ≡ runEdges (topOf (s .depth)) (s .stride) (edges steps) p
+  pub visited : (steps : List ℕ) → a .edges ≡ length (edges steps)
+
+-- ---- parts of the cells
+
+pub record PartOf (s : Plane) (p : Part) : Type 0 where
+  pub rows-in : p .row + p .rows ≤ s .rows
+  pub cols-in : p .col + p .cols ≤ s .cols
+
+unfoldable pub superblockOf : Plane → ℕ → Part
+superblockOf s sb = record { row = 0; rows = s .rows; col = startOf s sb; cols = countOf s sb }
+
+-- the k-th line of a part: a row in direction 0, a column in direction 1
+unfoldable pub lineOf : Plane → List ℕ → Grid → ℕ → Part → ℕ → List Edge
+lineOf s steps g dir p k =
+    each (pick (eqb dir 0) (p .cols) (p .rows)) (λ j. visitOf s steps g dir (p .row + pick (eqb dir 0) k j) (p .col + pick (eqb dir 0) j k))
 
 -- a direction's own lists and the table, for a plane of so many samples: every edge has room
 pub record Field (s : Plane) (marks sizes qindex t : List ℕ) (size dir : ℕ) : Type 0 where

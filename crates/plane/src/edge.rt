@@ -13,6 +13,7 @@ ghost use Prim.Native.Nat.{_*_, _≤_};
 ghost use lib.ListN.{length};
 ghost use mathlib.Core.Bool.{true};
 ghost use Rattle.rules.specs.Numbers.{depthOk};
+ghost use Rattle.rules.specs.Plane.{shortenedAt};
 ghost use Rattle.cells.specs.Fit.{Sizes, Inner, Indices, oneWay};
 ghost use Rattle.plane.specs.Run.{Levels, IsEdgeAt};
 
@@ -22,18 +23,19 @@ pub fn edge_at(
     qindex: &[u16],
     table: &[u32; 1416],
     s: Plane,
+    shortened: bool,
     dir: usize,
     r: usize,
     c: usize,
 ) -> Edge
-    requires { ⌜ Sizes s × Inner s dir r c × Indices s (now sizes) × (s .rows * s .cols ≤ length (now qindex)) × Levels (now table) × (depthOk (s .depth) ≡ true) ⌝ }
+    requires { ⌜ Sizes s × Inner s dir r c × Indices s (now sizes) × (s .rows * s .cols ≤ length (now qindex)) × Levels (now table) × (depthOk (s .depth) ≡ true) × (shortened ≡ shortenedAt s dir r) ⌝ }
     ensures { λ e. ⌜ IsEdgeAt s (now (table .entry)) (oneWay [] (now (sizes .entry)) (now (qindex .entry))) dir r c e ⌝ }
 {
     let i = cell_of(s, r, c);
     let j = cell_before(s, dir, r, c);
     let a = entry(table, qindex[i]);
     let b = entry(table, qindex[j]);
-    let pair = pair_at(sizes, s, dir, r, c);
+    let pair = pair_at(sizes, s, shortened, dir, r, c);
     let q = q_of(a, b);
     let side = side_of(a, b);
     Edge {

@@ -3,6 +3,12 @@
 // The edge of a cell, with its thresholds.
 mod edge;
 
+// What a run tells.
+mod visited;
+
+// Parts of the cells.
+mod part;
+
 // The order in which the edges run.
 mod order;
 
@@ -15,3 +21,4 @@ mod run;
 pub use check::plane_check;
 pub use run::deblock_plane;
 pub use run::run_plane;
+pub use visited::Visited;

@@ -1,14 +1,15 @@
 // A checked plane's run, and the plane's entry on any input.
 use crate::check::plane_check;
 use crate::order::run;
+use crate::visited::Visited;
 use rules::depth::Depth;
 use rules::refusals::Answer;
 use rules::settings::Plane;
 use thresholds::by_qindex::thresholds_by_qindex;
 ghost use mathlib.Core.Path.{_≡_};
 ghost use lib.ListN.{length};
-ghost use Rattle.rules.specs.Plane.{grid, runPlane};
-ghost use Rattle.plane.specs.Checked.{Checked, Stated};
+ghost use Rattle.rules.specs.Plane.{grid};
+ghost use Rattle.plane.specs.Checked.{Checked, Filtered, Stated};
 
 // Runs every edge of a checked plane; the thresholds of each qindex are made once.
 pub fn run_plane(
@@ -20,13 +21,13 @@ pub fn run_plane(
     qindex: &[u16],
     steps: &[u32],
     s: Plane,
-)
+) -> Visited
     requires { ⌜ Checked s (now steps) (grid (now vedge) (now hedge) (now sqw) (now sqh) (now qindex)) (length (now plane)) ⌝ }
-    ensures { λ _. ⌜ now (plane .exit) ≡ runPlane s (now (steps .entry)) (grid (now (vedge .entry)) (now (hedge .entry)) (now (sqw .entry)) (now (sqh .entry)) (now (qindex .entry))) (now (plane .entry)) ⌝ }
+    ensures { λ a. ⌜ Filtered s (now (steps .entry)) (grid (now (vedge .entry)) (now (hedge .entry)) (now (sqw .entry)) (now (sqh .entry)) (now (qindex .entry))) (now (plane .entry)) a (now (plane .exit)) ⌝ }
 {
     let depth = Depth { bits: s.depth };
     let table = thresholds_by_qindex(s.deltaq, s.deltaside, depth, steps);
-    run(plane, vedge, hedge, sqw, sqh, qindex, &table, s);
+    run(plane, vedge, hedge, sqw, sqh, qindex, &table, s)
 }
 
 // Deblocks a plane, or refuses it and leaves it as lent.

@@ -2,12 +2,12 @@
 -- Assumes nothing.
 use mathlib.Core.Bool.{Bool, true, false}
 use mathlib.Core.List.{List, [], _∷_}
-use Prim.Native.Nat.{ℕ, _+_, _*_, _/_, _%_}
+use Prim.Native.Nat.{ℕ, _+_, _*_}
 use lib.Dec.{eqb}
 use lib.ListN.{getD, length}
 use lib.IntN.{ℤ, pos, negℤ}
-use Rattle.laws.specs.Choose.{pick}
 use Rattle.laws.specs.Loops.{each}
+use Rattle.low_first.specs.Bytes.{numberIn, lowFirst}
 use Rattle.rules.specs.declared.settings.Lone.{Lone}
 use Rattle.rules.specs.declared.refusals.Refusal.{Refusal}
 use Rattle.rules.specs.declared.refusals.Refusal.the-variants.{Depth, Length, Steps}
@@ -26,13 +26,9 @@ cAnswer (Refused r) n = negℤ (pos (numberOf r))
 
 -- ---- thresholds: "four bytes a step, low first; 4 if not 1,408 bytes"
 
-unfoldable pub stepAt : List ℕ → ℕ → ℕ
-stepAt bytes k =
-    getD bytes (4 * k) 0 + 256 * getD bytes (4 * k + 1) 0 + 65536 * getD bytes (4 * k + 2) 0 + 16777216 * getD bytes (4 * k + 3) 0
-
 -- the table of n whole steps
 unfoldable pub stepsIn : ℕ → List ℕ → List ℕ
-stepsIn n bytes = each n (λ k. stepAt bytes k ∷ [])
+stepsIn n bytes = each n (λ k. numberIn 4 bytes (4 * k) ∷ [])
 
 -- a byte list of another length is a table of the wrong length, refused at place 0 after the depth
 unfoldable pub cThresholdsCheck : ℕ → List ℕ → ℤ → ℤ → Answer
@@ -48,19 +44,13 @@ cThresholds curr prev deltaq deltaside depth bytes =
 
 -- ---- one segment: "a 144-byte window (four lines, each p8..p0 then q0..q8, two bytes a sample, low first; 3 if not 144)"
 
-unfoldable pub sampleOf : List ℕ → ℕ → ℕ
-sampleOf bytes k = getD bytes (2 * k) 0 + 256 * getD bytes (2 * k + 1) 0
-
 -- the window as a plane of four rows of eighteen samples, the edge between columns 8 and 9
 unfoldable pub samplesIn : List ℕ → List ℕ
-samplesIn bytes = each 72 (λ k. sampleOf bytes k ∷ [])
+samplesIn bytes = each 72 (λ k. numberIn 2 bytes (2 * k) ∷ [])
 
--- byte i of samples: its sample's low byte where i is even, its high byte where not
-unfoldable pub byteAt : List ℕ → ℕ → ℕ
-byteAt l i = pick (eqb (i % 2) 0) (getD l (i / 2) 0 % 256) (getD l (i / 2) 0 / 256)
-
+-- the bytes of its samples
 unfoldable pub bytesOf : List ℕ → List ℕ
-bytesOf l = each 144 (λ i. byteAt l i ∷ [])
+bytesOf l = each 72 (λ k. lowFirst 2 (getD l k 0))
 
 abbrev pub windowEdge : ℕ → ℕ → ℕ → ℕ → Lone
 windowEdge depth pair q side = record { columns = 18; rows = 4; stride = 18; depth = depth; q = q; side = side; pair = pair; dir = 0; x = 9; y = 0 }

@@ -91,27 +91,25 @@ countOf s sb = min (s .sbw) (s .cols - startOf s sb)
 unfoldable pub sbCols : Plane → ℕ
 sbCols s = (s .cols + s .sbw - 1) / s .sbw
 
--- count columns from start of row r; then all rows of them: "its vertical edges, rows outer"
-unfoldable pub vertRow : Plane → List ℕ → Grid → ℕ → ℕ → ℕ → List Edge
-vertRow s steps g start count r = each count (λ j. visitOf s steps g 0 r (start + j))
+-- one direction's edges of a part of the cells, `rows` rows from `row` and `cols` columns from `col`:
+-- "vertical edges, rows outer", "horizontal edges, columns outer"
+unfoldable pub sweepOf : Plane → List ℕ → Grid → ℕ → ℕ → ℕ → ℕ → ℕ → List Edge
+sweepOf s steps g dir row rows col cols =
+    pick (eqb dir 0)
+    (each rows (λ i. each cols (λ j. visitOf s steps g dir (row + i) (col + j))))
+    (each cols (λ j. each rows (λ i. visitOf s steps g dir (row + i) (col + j))))
 
-unfoldable pub vertSb : Plane → List ℕ → Grid → ℕ → List Edge
-vertSb s steps g sb = each (s .rows) (λ r. vertRow s steps g (startOf s sb) (countOf s sb) r)
-
--- all rows of column c; then count columns: "horizontal edges, columns outer"
-unfoldable pub horzCol : Plane → List ℕ → Grid → ℕ → List Edge
-horzCol s steps g c = each (s .rows) (λ r. visitOf s steps g 1 r c)
-
-unfoldable pub horzSb : Plane → List ℕ → Grid → ℕ → List Edge
-horzSb s steps g sb = each (countOf s sb) (λ j. horzCol s steps g (startOf s sb + j))
+-- one direction's edges of a superblock column
+unfoldable pub columnOf : Plane → List ℕ → Grid → ℕ → ℕ → List Edge
+columnOf s steps g dir sb = sweepOf s steps g dir 0 (s .rows) (startOf s sb) (countOf s sb)
 
 -- "For each superblock column: its vertical edges, then the previous column's horizontal edges"
 unfoldable pub turnOf : Plane → List ℕ → Grid → ℕ → List Edge
-turnOf s steps g sb = vertSb s steps g sb ++ pick (eqb sb 0) [] (horzSb s steps g (sb - 1))
+turnOf s steps g sb = columnOf s steps g 0 sb ++ pick (eqb sb 0) [] (columnOf s steps g 1 (sb - 1))
 
 -- "at the end the last column's"
 unfoldable pub edgesOf : Plane → List ℕ → Grid → List Edge
-edgesOf s steps g = each (sbCols s) (λ sb. turnOf s steps g sb) ++ horzSb s steps g (sbCols s - 1)
+edgesOf s steps g = each (sbCols s) (λ sb. turnOf s steps g sb) ++ columnOf s steps g 1 (sbCols s - 1)
 
 unfoldable pub runPlane : Plane → List ℕ → Grid → List ℕ → List ℕ
 runPlane s steps g l = runEdges (topOf (s .depth)) (s .stride) (edgesOf s steps g) l

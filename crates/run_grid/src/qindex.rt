@@ -2,7 +2,7 @@
 ghost use Prim.Native.Nat.{_≤_};
 ghost use lib.ListN.{length};
 use cases::Cursor;
-use grid::qindex_grid::build_qindex_grid;
+use qindex::qindex_grid::build_qindex_grid;
 use rules::settings::QindexGrid;
 use tally::Tally;
 

@@ -1,8 +1,8 @@
 // One case: what the entry is asked, and what the stream says that it answers and leaves.
 use cases::Cursor;
+use lone::filter_lone;
 use rules::refusals::Width;
 use rules::settings::Lone;
-use segment::filter_lone;
 use tally::Tally;
 ghost use mathlib.Core.Path.{_≡_};
 ghost use lib.ListN.{length};

@@ -1,4 +1,5 @@
 pub mod First
 pub mod Checks
+pub mod Exactly
 pub mod Rows
 pub mod Ranges

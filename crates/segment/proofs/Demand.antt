@@ -22,8 +22,8 @@ use Rattle.rules.specs.Width.{blank, pOf, qOf}
 use Rattle.rules.specs.Taps.{move, before, after}
 use Rattle.rules.specs.Ramp.{Near, rampBefore, rampAfter}
 use Rattle.rules.specs.Segment.{placed, placeOf, pAt, qAt, windowOf, chosenOf, storesOf, fourStores, differenceOf, widthAt, segmentOf}
-use Rattle.choice.proofs.Lengths.{PairFacts, pair-facts}
-use Rattle.choice.proofs.Most.{width-most}
+use Rattle.lengths.proofs.Lengths.{PairFacts, pair-facts}
+use Rattle.width.proofs.Most.{width-most}
 use Rattle.taps.proofs.Ramp.{ramp-before, ramp-after}
 use Rattle.segment.specs.Fit.{Room, Spread, Fit, InPlane}
 use Rattle.segment.specs.Promises.{pPlace, qPlace, narrowAt, differenceAt, Demand3, Outside}

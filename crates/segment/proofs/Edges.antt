@@ -20,8 +20,9 @@ use Rattle.rules.specs.Lengths.{mostBefore, mostAfter, reachBefore, reachAfter}
 use Rattle.rules.specs.Width.{blank}
 use Rattle.rules.specs.Taps.{mostOf, before, after}
 use Rattle.rules.specs.Segment.{placed, placeOf, hasRoom, pAt, qAt, differenceOf, windowOf, chosenOf, storesOf, fourStores, lineStores, widthAt, segmentOf}
-use Rattle.choice.proofs.Lengths.{PairFacts, pair-facts}
-use Rattle.choice.proofs.Most.{width-most}
+use Rattle.lengths.proofs.Lengths.{PairFacts, pair-facts}
+use Rattle.width.proofs.Most.{width-most}
+use Rattle.segment.specs.declared.outcome.Outcome.{Outcome}
 use Rattle.segment.specs.Fit.{Room, Spread, Fit, Filtered, InPlane, EdgeFiltered}
 use Rattle.segment.specs.Sides.{differenceIn, lineTaps, fourTaps, Lanes}
 use Rattle.segment.proofs.Window.{window-p, window-q}
@@ -116,7 +117,7 @@ no-stores : (top at step line n q : ℕ) (ls : List Line) (l : List ℕ) → n �
 unfolding fourStores lineStores each puts
 no-stores top at step line n q ls l h = rw h
 
-pub filtered-none : (top : ℕ) (e : Place) (l : List ℕ) {w : ℕ} → w ≡ chosenOf e (windowOf e l) → w ≡ 0 → Filtered top e l 0 l
+pub filtered-none : (top : ℕ) (e : Place) (l : List ℕ) {w : ℕ} → w ≡ chosenOf e (windowOf e l) → w ≡ 0 → Filtered top e l record { width = 0 } l
 unfolding storesOf
 filtered-none top e l {w} hw hz =
     let z : chosenOf e (windowOf e l) ≡ 0 = cc in
@@ -126,7 +127,7 @@ filtered-none top e l {w} hw hz =
     }
 
 pub filtered-some : (top : ℕ) (e : Place) (l m : List ℕ) {size n w k lim : ℕ} → Fit e size → w ≡ chosenOf e (windowOf e l) → (w ≡ 0 → ⊥) → n ≡ mostBefore (e .pair) → k ≡ min w n
-    → m ≡ puts (fourTaps top (e .at) (e .step) (e .line) k w lim l) l → lim ≡ e .q * mostOf w → Filtered top e l w m
+    → m ≡ puts (fourTaps top (e .at) (e .step) (e .line) k w lim l) l → lim ≡ e .q * mostOf w → Filtered top e l record { width = w } m
 unfolding storesOf
 filtered-some top e l m {size} {n} {w} {k} {lim} fit hw some hn hk hm hl =
     let f = pair-facts (e .pair) (fit .pair-is) in
@@ -189,7 +190,7 @@ pub place-horizontal : (stride : ℕ) (e : Edge) → (e .dir ≡ 0 → ⊥) → 
 unfolding placeOf
 place-horizontal stride e h = rw (ne-eqb _ _ h)
 
-pub edge-filtered : (top stride : ℕ) (e : Edge) {g : Place} {l : List ℕ} {r : ℕ} {m : List ℕ} → g ≡ placeOf stride e → Filtered top g l r m → EdgeFiltered top stride e l r m
+pub edge-filtered : (top stride : ℕ) (e : Edge) {g : Place} {l : List ℕ} {r : Outcome} {m : List ℕ} → g ≡ placeOf stride e → Filtered top g l r m → EdgeFiltered top stride e l r m
 unfolding widthAt segmentOf
 edge-filtered top stride e {g} {l} q f = record {
   width = f .width ∙ ap (λ (p : Place). chosenOf p (windowOf p l)) q;

@@ -12,8 +12,8 @@ use Rattle.rules.specs.declared.edge.Line.{Line}
 use Rattle.rules.specs.Lengths.{mostBefore, mostAfter, reachBefore, reachAfter}
 use Rattle.rules.specs.Width.{blank, pOf, qOf, widthOf}
 use Rattle.rules.specs.Segment.{pAt, qAt, windowOf, chosenOf}
-use Rattle.choice.proofs.Lengths.{PairFacts, pair-facts}
-use Rattle.choice.proofs.Agree.{Agree, agree-four, width-agree}
+use Rattle.lengths.proofs.Lengths.{PairFacts, pair-facts}
+use Rattle.width.proofs.Agree.{Agree, agree-four, width-agree}
 use Rattle.segment.specs.Fit.{Room}
 use Rattle.segment.specs.Near.{nearBefore, nearAfter, nearLine, nearLines, Span}
 use Rattle.segment.proofs.Places.{line-in}

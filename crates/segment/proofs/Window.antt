@@ -11,7 +11,7 @@ use Rattle.rules.specs.declared.edge.Line.{Line}
 use Rattle.rules.specs.Lengths.{reachBefore, reachAfter}
 use Rattle.rules.specs.Width.{blank, pOf, qOf}
 use Rattle.rules.specs.Segment.{pAt, qAt, zeros, zeroLines, lineOf, linesOf, windowOf}
-use Rattle.choice.proofs.Lengths.{PairFacts}
+use Rattle.lengths.proofs.Lengths.{PairFacts}
 use Rattle.segment.specs.Fit.{Within}
 
 -- ---- what was read

@@ -9,8 +9,8 @@ use Rattle.laws.specs.Choose.{is-eq, either-first, either-later}
 use Rattle.rules.specs.declared.edge.Line.{Line}
 use Rattle.rules.specs.declared.edge.Place.{Place}
 use Rattle.rules.specs.Segment.{chosenOf}
-use Rattle.choice.specs.Tests.{offOf}
-use Rattle.choice.proofs.Order.{off-none}
+use Rattle.width.specs.Tests.{offOf}
+use Rattle.width.proofs.Order.{off-none}
 
 module _ (e : Place) (ls : List Line) where
   pub zero-q : e .q ≡ 0 → 0 ≡ chosenOf e ls

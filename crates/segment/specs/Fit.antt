@@ -10,6 +10,7 @@ use Rattle.rules.specs.declared.edge.Edge.{Edge}
 use Rattle.rules.specs.declared.edge.Place.{Place}
 use Rattle.rules.specs.Lengths.{reachBefore, reachAfter}
 use Rattle.rules.specs.Segment.{pAt, qAt, hasRoom, windowOf, chosenOf, storesOf, widthAt, segmentOf}
+use Rattle.segment.specs.declared.outcome.Outcome.{Outcome}
 
 -- b samples before the edge and a after it lie in the plane, on four lines
 pub record Room (at step line b a size : ℕ) : Type 0 where
@@ -34,8 +35,8 @@ pub record Fit (e : Place) (size : ℕ) : Type 0 where
   pub spread : Spread (e .at) (e .step) (e .line) (reachBefore (e .pair)) (reachAfter (e .pair))
 
 -- what it answers, and what it leaves of a plane l
-pub record Filtered (top : ℕ) (e : Place) (l : List ℕ) (r : ℕ) (m : List ℕ) : Type 0 where
-  pub width : r ≡ chosenOf e (windowOf e l)
+pub record Filtered (top : ℕ) (e : Place) (l : List ℕ) (r : Outcome) (m : List ℕ) : Type 0 where
+  pub width : r .width ≡ chosenOf e (windowOf e l)
   pub plane : m ≡ puts (storesOf top e (windowOf e l)) l
 
 -- an edge of a plane of columns by rows samples, of accepted numbers, that has room there
@@ -48,8 +49,8 @@ pub record InPlane (stride columns rows : ℕ) (e : Edge) (size : ℕ) : Type 0 
   pub room : hasRoom columns rows e ≡ true
 
 -- what it answers, and what it leaves of a plane l
-pub record EdgeFiltered (top stride : ℕ) (e : Edge) (l : List ℕ) (r : ℕ) (m : List ℕ) : Type 0 where
-  pub width : r ≡ widthAt stride e l
+pub record EdgeFiltered (top stride : ℕ) (e : Edge) (l : List ℕ) (r : Outcome) (m : List ℕ) : Type 0 where
+  pub width : r .width ≡ widthAt stride e l
   pub plane : m ≡ segmentOf top stride e l
 
 -- two planes are equal within an edge's reach on its four lines

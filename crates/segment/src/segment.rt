@@ -1,16 +1,17 @@
 // One edge on a lent plane: the width chosen from its window, and its taps.
 use super::read::read_lines;
 use super::store::filter_lines;
-use choice::choice::filt_choice;
-use choice::pairs::most_after;
-use choice::pairs::most_before;
-use choice::pairs::reach_after;
-use choice::pairs::reach_before;
+use crate::outcome::Outcome;
 use laws::least;
+use lengths::pairs::most_after;
+use lengths::pairs::most_before;
+use lengths::pairs::reach_after;
+use lengths::pairs::reach_before;
 use rules::edge::Edge;
 use rules::edge::Place;
 use taps::tables::limit_of;
 use taps::tables::weight;
+use width::choice::filt_choice;
 ghost use mathlib.Core.Path.{_≡_};
 ghost use Prim.Native.Nat.{_+_, _*_, _<_};
 ghost use lib.ListN.{length};
@@ -39,14 +40,14 @@ fn chosen_width(plane: &[u16], e: Place) -> usize
     filt_choice(lines, most_before(e.pair), most_after(e.pair), e.q, e.side)
 }
 
-// Filters an edge that is given by offsets, and answers how many samples after it were filtered.
-pub fn filter_segment(plane: &mut [u16], e: Place, top: u16) -> usize
+// Filters an edge that is given by offsets, and answers what it came to.
+pub fn filter_segment(plane: &mut [u16], e: Place, top: u16) -> Outcome
     requires { ⌜ Fit e (length (now plane)) ⌝ }
     ensures { λ r. ⌜ Filtered top e (now (plane .entry)) r (now (plane .exit)) ⌝ }
 {
     let w = chosen_width(plane, e);
     if w == 0 {
-        return 0;
+        return Outcome { width: 0 };
     }
     let n = least(w, most_before(e.pair));
     filter_lines(
@@ -61,7 +62,7 @@ pub fn filter_segment(plane: &mut [u16], e: Place, top: u16) -> usize
         weight(w),
         top,
     );
-    w
+    Outcome { width: w }
 }
 
 // Where an edge stands in rows of stride samples.
@@ -99,7 +100,7 @@ pub fn filter_edge(
     rows: usize,
     e: Edge,
     top: u16,
-) -> usize
+) -> Outcome
     requires { ⌜ InPlane stride columns rows e (length (now plane)) ⌝ }
     ensures { λ r. ⌜ EdgeFiltered top stride e (now (plane .entry)) r (now (plane .exit)) ⌝ }
 {

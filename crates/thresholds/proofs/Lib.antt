@@ -6,3 +6,4 @@ pub mod TwoBlocks
 pub mod Accepted
 pub mod Unique
 pub mod Packed
+pub mod Exactly

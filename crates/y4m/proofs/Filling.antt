@@ -4,24 +4,21 @@ use mathlib.Core.Bool.{Bool, true, false}
 use mathlib.Core.List.{List}
 use Prim.Native.Nat.{ℕ, _+_, _-_, _*_, _/_, _%_, _≤_, _<_}
 use native.Mathlib.Omega.{arith}
-use lib.ListN.{length, getD, set, List·getD-eq-default}
-use lib.Dec.{ltb, eqb}
-use borrow.Author.Tests.{eq-eqb, ne-eqb}
+use lib.ListN.{length, getD, List·getD-eq-default}
+use lib.Dec.{ltb}
 use Rattle.laws.specs.Choose.{pick, tests, pick-yes, pick-no, is-lt, not-lt}
-use Rattle.laws.specs.Loops.{loops, filled, filled-more}
-use Rattle.rules.specs.CSide as CSide
+use Rattle.laws.specs.Loops.{loops}
+use Rattle.low_first.specs.Bytes.{numberIn, lowFirst, byteAt}
+use Rattle.low_first.proofs.RoundTrip.{read-two}
+use Rattle.low_first.proofs.Fills.{fill-more}
 use Rattle.y4m.specs.Rows.{sampleAt, paddedAt, byteOf}
-
--- one turn: the value was asked of a callee
-pub fill-more : (start : List ℕ) (f : ℕ → ℕ) (k : ℕ) {q : List ℕ} {v : ℕ} → q ≡ filled start f k → v ≡ f k → set q k v ≡ filled start f (k + 1)
-fill-more start f k {q} e g = filled-more start f k e (ap (λ (x : ℕ). set q k x) g)
 
 pub beyond : (xs : List ℕ) (k : ℕ) → length xs ≤ k → 0 ≡ getD xs k 0
 beyond xs k h = sym (List·getD-eq-default xs 0 h)
 
 -- ---- rows, by the callees' answers
 
-pub of-wide : (xs : List ℕ) (k r : ℕ) (wide : Bool) → wide ≡ true → r ≡ CSide.sampleOf xs k → r ≡ sampleAt wide xs k
+pub of-wide : (xs : List ℕ) (k r : ℕ) (wide : Bool) → wide ≡ true → r ≡ numberIn 2 xs (2 * k) → r ≡ sampleAt wide xs k
 unfolding sampleAt pick
 of-wide xs k r wide e f = rw e f
 
@@ -37,7 +34,7 @@ pub past-row : (wide : Bool) (width k r : ℕ) (xs : List ℕ) → width ≤ k �
 unfolding paddedAt
 past-row wide width k r xs h e = e ∙ ap (sampleAt wide xs) (pick-no (ltb k width) k (width - 1) (width - 1) (not-lt k width h) refl)
 
-pub wide-bytes : (row : List ℕ) (i r : ℕ) (wide : Bool) → wide ≡ true → r ≡ CSide.byteAt row i → r ≡ byteOf wide row i
+pub wide-bytes : (row : List ℕ) (i r : ℕ) (wide : Bool) → wide ≡ true → r ≡ byteAt 2 row i → r ≡ byteOf wide row i
 unfolding byteOf pick
 wide-bytes row i r wide e f = rw e f
 
@@ -45,16 +42,15 @@ pub narrow-bytes : (row : List ℕ) (i v r : ℕ) (wide : Bool) → wide ≡ fal
 unfolding byteOf pick
 narrow-bytes row i v r wide e f g = rw (e, ← f) g
 
-pub two-bytes : (xs : List ℕ) (k a b r : ℕ) → a ≡ getD xs (2 * k) 0 → b ≡ getD xs (2 * k + 1) 0 → r ≡ a + 256 * b → r ≡ CSide.sampleOf xs k
-unfolding CSide.sampleOf
-two-bytes xs k a b r e f g = rw (← e, ← f) g
+pub two-bytes : (xs : List ℕ) (k a b r : ℕ) → a ≡ getD xs (2 * k) 0 → b ≡ getD xs (2 * k + 1) 0 → r ≡ a + 256 * b → r ≡ numberIn 2 xs (2 * k)
+two-bytes xs k a b r e f g = read-two xs (2 * k) (rw (← e, ← f) g)
 
-pub low-byte : (row : List ℕ) (i v r : ℕ) → v ≡ getD row (i / 2) 0 → i % 2 ≡ 0 → r ≡ v % 256 → r ≡ CSide.byteAt row i
-unfolding CSide.byteAt pick
-low-byte row i v r e f g = rw (eq-eqb _ _ f, ← e) g
+pub low-byte : (row : List ℕ) (i v r : ℕ) → v ≡ getD row (i / 2) 0 → i % 2 ≡ 0 → r ≡ v % 256 → r ≡ byteAt 2 row i
+unfolding byteAt lowFirst
+low-byte row i v r e f g = rw (f, ← e) g
 
-pub high-byte : (row : List ℕ) (i v r : ℕ) → v ≡ getD row (i / 2) 0 → (i % 2 ≡ 0 → ⊥) → r ≡ v / 256 → r ≡ CSide.byteAt row i
-unfolding CSide.byteAt pick
-high-byte row i v r e f g = rw (ne-eqb _ _ f, ← e) g
+pub high-byte : (row : List ℕ) (i v r : ℕ) → v ≡ getD row (i / 2) 0 → (i % 2 ≡ 0 → ⊥) → r ≡ v / 256 % 256 → r ≡ byteAt 2 row i
+unfolding byteAt lowFirst
+high-byte row i v r e f g = let one : i % 2 ≡ 1 = omega arith in rw (one, ← e) g
 
 pub ruleset filling = (two-bytes, low-byte, high-byte, loops, fill-more, beyond, of-wide, of-narrow, within-row, past-row, wide-bytes, narrow-bytes)

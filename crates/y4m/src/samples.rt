@@ -1,9 +1,11 @@
 // Rows of samples from bytes and back: one byte a sample, or two with the low one first.
+use low_first::low;
+use low_first::two;
 ghost use mathlib.Core.Path.{_≡_};
-ghost use Prim.Native.Nat.{_+_, _*_, _/_, _%_, _≤_};
+ghost use Prim.Native.Nat.{_*_, _≤_};
 ghost use lib.ListN.{length, getD};
 ghost use Rattle.laws.specs.Loops.{filled};
-ghost use Rattle.rules.specs.CSide as CSide;
+ghost use Rattle.low_first.specs.Bytes.{numberIn, byteAt};
 ghost use Rattle.y4m.specs.Rows.{sampleAt, paddedAt, byteOf};
 
 // A byte of a list, 0 beyond its end.
@@ -26,17 +28,10 @@ fn sample_at(row: &[u16], at: usize) -> u16
     0
 }
 
-// A number of two bytes.
-fn two(low: u8, high: u8) -> u16
-    ensures { λ r. ⌜ r ≡ low + 256 * high ⌝ }
-{
-    low as u16 + 256 * high as u16
-}
-
 // Sample k of two bytes.
 fn wide_sample(bytes: &[u8], k: usize) -> u16
     requires { ⌜ k ≤ 4096 ⌝ }
-    ensures { λ r. ⌜ r ≡ CSide.sampleOf (now (bytes .entry)) k ⌝ }
+    ensures { λ r. ⌜ r ≡ numberIn 2 (now (bytes .entry)) (2 * k) ⌝ }
 {
     two(byte_at(bytes, 2 * k), byte_at(bytes, 2 * k + 1))
 }
@@ -76,29 +71,15 @@ pub fn to_samples(bytes: &[u8], row: &mut [u16], width: usize, wide: bool)
     }
 }
 
-// The low byte of a sample.
-fn low(v: u16) -> u8
-    ensures { λ r. ⌜ r ≡ v % 256 ⌝ }
-{
-    (v % 256) as u8
-}
-
-// The high byte of a sample.
-fn high(v: u16) -> u8
-    ensures { λ r. ⌜ r ≡ v / 256 ⌝ }
-{
-    (v / 256) as u8
-}
-
 // Byte i of samples of two bytes.
 fn wide_byte(row: &[u16], i: usize) -> u8
-    ensures { λ r. ⌜ r ≡ CSide.byteAt (now (row .entry)) i ⌝ }
+    ensures { λ r. ⌜ r ≡ byteAt 2 (now (row .entry)) i ⌝ }
 {
     let v = sample_at(row, i / 2);
     if i % 2 == 0 {
-        return low(v);
+        return low(v as u32);
     }
-    high(v)
+    low(v as u32 / 256)
 }
 
 // Byte i of a row.
@@ -108,7 +89,7 @@ fn byte(row: &[u16], i: usize, wide: bool) -> u8
     if wide {
         return wide_byte(row, i);
     }
-    low(sample_at(row, i))
+    low(sample_at(row, i) as u32)
 }
 
 // A whole row's bytes.

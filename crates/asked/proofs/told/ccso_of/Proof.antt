@@ -1,5 +1,5 @@
 -- `ccso_of` is a plane's settings, number by number. Assumes nothing.
-use Rattle.entries.proofs.Listed.{number-kept}
+use Rattle.numbers.proofs.Listed.{number-kept}
 use Rattle.asked.proofs.Numbered.{ccso-read}
 use borrow.Author.Needs.{needs}
 use Rattle.asked.proofs.told.ccso_of.Statement.{statement}

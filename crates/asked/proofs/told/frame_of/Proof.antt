@@ -1,5 +1,5 @@
 -- `frame_of` is the frame, number by number. Assumes nothing.
-use Rattle.entries.proofs.Listed.{number-kept}
+use Rattle.numbers.proofs.Listed.{number-kept}
 use Rattle.asked.specs.Numbers.{frameAsked}
 use borrow.Author.Needs.{needs}
 use Rattle.asked.proofs.told.frame_of.Statement.{statement}

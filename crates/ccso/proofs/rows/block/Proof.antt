@@ -1,6 +1,6 @@
 -- `block` keeps its columns where the flag is 0, else moves each. Assumes nothing.
 use Rattle.ccso.proofs.Blocks.{blocks, flag-below, start-below, count-le}
-use Rattle.ccso.proofs.Places.{width-most, block-most}
+use Rattle.ccso_sample.proofs.Places.{width-most, block-most}
 use native.Mathlib.Omega.{arith}
 use borrow.Author.Needs.{needs}
 use Rattle.ccso.proofs.rows.block.Statement.{statement}

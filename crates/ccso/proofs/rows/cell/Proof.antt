@@ -1,6 +1,6 @@
 -- `cell` is one store of the rules, within the target. Assumes nothing.
 use Rattle.ccso.proofs.Blocks.{stores}
-use Rattle.ccso.proofs.Places.{target-below, sample-bytes}
+use Rattle.ccso_sample.proofs.Places.{target-below, sample-bytes}
 use borrow.Author.Needs.{needs}
 use Rattle.ccso.proofs.rows.cell.Statement.{statement}
 use Rattle.ccso.proofs.rows.cell.Tie as tie

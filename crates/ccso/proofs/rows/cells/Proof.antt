@@ -1,5 +1,5 @@
 -- `cells`' loop: each column so far has its store. Assumes nothing.
-use Rattle.ccso.proofs.Places.{width-most}
+use Rattle.ccso_sample.proofs.Places.{width-most}
 use native.Mathlib.Omega.{arith}
 use mathlib.Core.Path.{_≡_}
 use Prim.Native.Nat.{_+_, _-_, _≤_}

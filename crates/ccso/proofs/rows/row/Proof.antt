@@ -8,7 +8,7 @@ use lib.ListN.{length}
 use Rattle.laws.specs.Loops.{turns}
 use Rattle.rules.specs.Ccso.{ccsoCell}
 use Rattle.ccso.specs.Lists.{columnsTo}
-use Rattle.ccso.proofs.Places.{blocks-most}
+use Rattle.ccso_sample.proofs.Places.{blocks-most}
 use Rattle.ccso.proofs.rows.row.Statement.{statement}
 use Rattle.ccso.proofs.rows.row.Tie as tie
 

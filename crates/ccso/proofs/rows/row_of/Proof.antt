@@ -1,5 +1,5 @@
 -- `row_of` finds where the row's lists start; its products fit. Assumes nothing.
-use Rattle.ccso.proofs.Places.{row-starts, line, height-most, width-most, product-fits, block-some, blocks-most, tap-row-is}
+use Rattle.ccso_sample.proofs.Places.{row-starts, line, height-most, width-most, product-fits, block-some, blocks-most, tap-row-is}
 use Rattle.rules.specs.Numbers.{up}
 use native.Mathlib.Nat.{div-le-self}
 use native.Mathlib.Omega.{arith}

@@ -6,9 +6,6 @@ use Rattle.cells.proofs.pair.pair_at.Tie as tie
 index-at-requires : tie.Need-index-at-requires
 index-at-requires c κs = search places
 
-shortened-at-requires : tie.Need-shortened-at-requires
-shortened-at-requires c κs = search places
-
 filter-lengths-requires : tie.Need-filter-lengths-requires
 filter-lengths-requires c κs = search places
 
@@ -17,4 +14,4 @@ returns c = (cc, search places)
 
 pub pair-at-spec : {M : Type 1} → statement M
 pair-at-spec =
-    tie.close (tie.spec index-at-requires shortened-at-requires filter-lengths-requires returns)
+    tie.close (tie.spec index-at-requires filter-lengths-requires returns)

@@ -9,6 +9,9 @@ is-edge-requires c κs = search rooms
 returns : tie.Need-returns
 returns c = search rooms
 
+shortened-at-requires : tie.Need-shortened-at-requires
+shortened-at-requires c κs = search rooms
+
 edge-room-requires : tie.Need-edge-room-requires
 edge-room-requires c κs = search rooms
 
@@ -24,4 +27,4 @@ returns-3 c = search rooms
 pub lacks-room-spec : {M : Type 1} → statement M
 lacks-room-spec =
     tie.close
-    (tie.spec is-edge-requires returns edge-room-requires returns-2 cell-of-requires returns-3)
+    (tie.spec is-edge-requires returns shortened-at-requires edge-room-requires returns-2 cell-of-requires returns-3)

@@ -1,5 +1,5 @@
 -- `bihargesh_ccso` answers by CCSO's rules. Assumes nothing.
-use Rattle.entries.proofs.Numbers.{reported}
+use Rattle.answers.proofs.Numbers.{reported}
 use borrow.Author.Needs.{needs}
 use Rattle.cside.proofs.gated_offsets.bihargesh_ccso.Statement.{statement}
 use Rattle.cside.proofs.gated_offsets.bihargesh_ccso.Tie as tie

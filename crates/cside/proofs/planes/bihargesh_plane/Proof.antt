@@ -1,5 +1,5 @@
 -- `bihargesh_plane` answers by a plane's rules. Assumes nothing.
-use Rattle.entries.proofs.Numbers.{reported}
+use Rattle.answers.proofs.Numbers.{reported}
 use borrow.Author.Needs.{needs}
 use Rattle.cside.proofs.planes.bihargesh_plane.Statement.{statement}
 use Rattle.cside.proofs.planes.bihargesh_plane.Tie as tie

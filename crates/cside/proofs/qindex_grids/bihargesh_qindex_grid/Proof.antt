@@ -1,5 +1,5 @@
 -- `bihargesh_qindex_grid` answers by a qindex grid's rules. Assumes nothing.
-use Rattle.entries.proofs.Numbers.{reported}
+use Rattle.answers.proofs.Numbers.{reported}
 use borrow.Author.Needs.{needs}
 use Rattle.cside.proofs.qindex_grids.bihargesh_qindex_grid.Statement.{statement}
 use Rattle.cside.proofs.qindex_grids.bihargesh_qindex_grid.Tie as tie

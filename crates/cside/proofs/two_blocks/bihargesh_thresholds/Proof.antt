@@ -10,11 +10,17 @@ use Rattle.cside.proofs.two_blocks.bihargesh_thresholds.Tie as tie
 is-requires : tie.Need-is-requires
 is-requires c κs = search needs
 
+minus-requires : tie.Need-minus-requires
+minus-requires c κs = search needs
+
 returns : tie.Need-returns
-returns c = bad-depth _ _ _ _ _ _ (sym (not-true _ (c .if1 .taken)) ∙ c .before .is .ensures)
+returns c = bad-depth _ _ _ _ _ _ (c .minus .ensures) (sym (not-true _ (c .before .if1 .taken)) ∙ c .before .before .is .ensures)
+
+minus-requires-2 : tie.Need-minus-requires-2
+minus-requires-2 c κs = search needs
 
 returns-2 : tie.Need-returns-2
-returns-2 c = bad-length _ _ _ _ _ _ (sym (not-false _ (c .before .if1 .left)) ∙ c .before .before .is .ensures) (c .if2 .taken)
+returns-2 c = bad-length _ _ _ _ _ _ (c .minus2 .ensures) (sym (not-false _ (c .before .before .if1 .left)) ∙ c .before .before .before .is .ensures) (c .before .if2 .taken)
 
 steps-requires : tie.Need-steps-requires
 steps-requires c κs = search needs
@@ -47,8 +53,8 @@ packed-requires c κs =
 enum-known-r : tie.Need-enum-known-r
 enum-known-r c = search needs
 
-minus-requires : tie.Need-minus-requires
-minus-requires c κs = search needs
+minus-requires-3 : tie.Need-minus-requires-3
+minus-requires-3 c κs = search needs
 
 returns-3 : tie.Need-returns-3
 returns-3 c =
@@ -82,14 +88,16 @@ returns-4 c =
     (toZ-ofZ (fits .deltaq))
     (toZ-ofZ (fits .deltaside))
     (way .r .given .1)
-    (c .minus .ensures)
+    (c .minus3 .ensures)
 
 pub bihargesh-thresholds-spec : {M : Type 1} → statement M
 bihargesh-thresholds-spec =
     tie.close
     (tie.spec
     is-requires
+    minus-requires
     returns
+    minus-requires-2
     returns-2
     steps-requires
     slice-aggregate-combine-thresholds
@@ -97,6 +105,6 @@ bihargesh-thresholds-spec =
     enum-known-q
     packed-requires
     enum-known-r
-    minus-requires
+    minus-requires-3
     returns-3
     returns-4)

@@ -1,5 +1,5 @@
 -- `bihargesh_tx_grid` answers by a TU grid's rules. Assumes nothing.
-use Rattle.entries.proofs.Numbers.{reported}
+use Rattle.answers.proofs.Numbers.{reported}
 use borrow.Author.Needs.{needs}
 use Rattle.cside.proofs.tx_grids.bihargesh_tx_grid.Statement.{statement}
 use Rattle.cside.proofs.tx_grids.bihargesh_tx_grid.Tie as tie

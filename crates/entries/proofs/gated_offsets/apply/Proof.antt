@@ -1,5 +1,5 @@
 -- `apply` tests the settings' length, and hands on what the entry gives. Assumes nothing.
-use Rattle.entries.proofs.Numbers.{short}
+use Rattle.answers.proofs.Numbers.{short}
 use Rattle.entries.proofs.Done.{offsets-done}
 use borrow.Author.Needs.{needs}
 use Rattle.entries.proofs.gated_offsets.apply.Statement.{statement}

@@ -1,5 +1,5 @@
 -- `lower` shifts right by a subsampling of 0 or 1. Assumes nothing.
-use Rattle.grid.proofs.Shifts.{down-none, down-half}
+use Rattle.tiles.proofs.Shifts.{down-none, down-half}
 use Rattle.frame_checks.proofs.planes.lower.Statement.{statement}
 use Rattle.frame_checks.proofs.planes.lower.Tie as tie
 

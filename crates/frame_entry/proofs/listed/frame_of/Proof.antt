@@ -1,5 +1,5 @@
 -- `frame_of` is a frame's settings, number by number. Assumes nothing.
-use Rattle.entries.proofs.Listed.{number-kept}
+use Rattle.numbers.proofs.Listed.{number-kept}
 use Rattle.frame_entry.specs.Listed.{frameSettings}
 use borrow.Author.Needs.{needs}
 use Rattle.frame_entry.proofs.listed.frame_of.Statement.{statement}

@@ -22,7 +22,7 @@ same-length : tie.Need-same-length
 same-length c = search needs
 
 returns-2 : tie.Need-returns-2
-returns-2 c = where-on _ (told-yes-not _ _ (c .before .before .before .before .before .before .kind-on .ensures) (c .before .before .before .before .before .if1 .left)) (rw (c .before .before .before .plane-of .ensures) at (c .before .before .run-plane .ensures))
+returns-2 c = where-on _ (told-yes-not _ _ (c .before .before .before .before .before .before .kind-on .ensures) (c .before .before .before .before .before .if1 .left)) (rw (c .before .before .before .plane-of .ensures) at (c .before .before .run-plane .ensures .plane))
 
 pub run-spec : {M : Type 1} → statement M
 run-spec = tie.close (tie.spec kind-on-requires returns plane-of-requires run-plane-requires same-length returns-2)

@@ -4,7 +4,7 @@ use Prim.Native.Nat.{_-_, _≤_}
 use lib.ListN.{length, set}
 use Rattle.laws.specs.Loops.{turns}
 use Rattle.rules.specs.TuGrid.{clearOf}
-use Rattle.grid.proofs.Turns.{loops}
+use Rattle.tiles.proofs.Turns.{loops}
 use Rattle.grid.proofs.paint.clear.Statement.{statement}
 use Rattle.grid.proofs.paint.clear.Tie as tie
 

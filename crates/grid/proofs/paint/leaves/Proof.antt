@@ -5,7 +5,7 @@ use lib.ListN.{length}
 use borrow.Author.Needs.{needs}
 use Rattle.laws.specs.Loops.{turns, turns-more}
 use Rattle.rules.specs.TuGrid.{marks, paintOf, leafOf, leavesOf}
-use Rattle.grid.proofs.Turns.{loops}
+use Rattle.tiles.proofs.Turns.{loops}
 use Rattle.grid.proofs.paint.leaves.Statement.{statement}
 use Rattle.grid.proofs.paint.leaves.Tie as tie
 

@@ -5,7 +5,7 @@ use lib.ListN.{length}
 use borrow.Author.Needs.{needs}
 use Rattle.laws.specs.Loops.{turns, turns-more}
 use Rattle.rules.specs.TuGrid.{marks, paintRow, paintOf}
-use Rattle.grid.proofs.Turns.{loops}
+use Rattle.tiles.proofs.Turns.{loops}
 use Rattle.grid.proofs.paint.paint.Statement.{statement}
 use Rattle.grid.proofs.paint.paint.Tie as tie
 

@@ -1,6 +1,6 @@
 -- `paint_leaf` paints the tile of its four numbers, which lies near the plane. Assumes nothing.
 use Rattle.grid.proofs.Painted.{tile-painted}
-use Rattle.grid.proofs.Leaves.{tile-placed}
+use Rattle.tiles.proofs.Leaves.{tile-placed}
 use borrow.Author.Needs.{needs}
 use Rattle.grid.proofs.paint.paint_leaf.Statement.{statement}
 use Rattle.grid.proofs.paint.paint_leaf.Tie as tie

@@ -48,10 +48,10 @@ use denote.Triple.Table.{entered, cited}
 use denote.Triple.Walked.{says, Stays, stay-dropped, walkOf, goes-dropped, Walks, ends-at, walked, walk-meets}
 use denote.Exit.{yes}
 use Rattle.scan.proofs.First.{first-none}
-use Rattle.grid.proofs.leaf.leaf_good as leaf-good
-use Rattle.grid.proofs.leaf.leaf_good.Symbol as leaf-good-def
-use Rattle.grid.proofs.leaf.leaf_good.Symbol.{name as #grid·leaf-good}
-use Rattle.grid.proofs.leaf.leaf_good.Met as leaf-good-thm
+use Rattle.tiles.proofs.leaf.leaf_good as leaf-good
+use Rattle.tiles.proofs.leaf.leaf_good.Symbol as leaf-good-def
+use Rattle.tiles.proofs.leaf.leaf_good.Symbol.{name as #tiles·leaf-good}
+use Rattle.tiles.proofs.leaf.leaf_good.Met as leaf-good-thm
 use Rattle.leaves.specs.declared.records.Leaf.{Leaf}
 use Rattle.leaves.specs.Records.{none, goodOf}
 use Rattle.leaves.proofs.records.Leaf as T
@@ -138,7 +138,7 @@ module _ {M : Type 1} (𝓤 : URA M) (H : Heap 𝓤) (A : Atoms 𝓤) (W : Given
   Nearer-wf : WellFounded Nearer
   Nearer-wf = InvImage·wf (λ (t : State). length ls - t .0) (Nat·lt-wfRel .wf)
 
-  module _ (𝓣 : Tables 𝓤 H) (known : Triple 𝓤 (𝓣 .C #grid·leaf-good) (LeafGood 𝓤 H A at-mem run)) (l₀ l₁ l₂ l₃ l₄ l₅ l₆ l₇ l₈ l₉ : ℕ) where
+  module _ (𝓣 : Tables 𝓤 H) (known : Triple 𝓤 (𝓣 .C #tiles·leaf-good) (LeafGood 𝓤 H A at-mem run)) (l₀ l₁ l₂ l₃ l₄ l₅ l₆ l₇ l₈ l₉ : ℕ) where
     abbrev C : Calls 𝓤 H
     C = 𝓣 .C
 
@@ -200,7 +200,7 @@ module _ {M : Type 1} (𝓤 : URA M) (H : Heap 𝓤) (A : Atoms 𝓤) (W : Given
         move ! (20 ∷ 21 ∷ []) $ free1 ! $ move ! (18 ∷ 19 ∷ []) $ free1 ! $ move ! (16 ∷ 17 ∷ []) $ free1 ! $ move ! (14 ∷ 15 ∷ []) $ free1 ! $ move ! (12 ∷ 13 ∷ []) $ free1 ! $ move ! (10 ∷ 11 ∷ []) $ free1 ! $ move ! (8 ∷ 9 ∷ []) $ free1 ! $ move ! (6 ∷ 7 ∷ []) $ free1 ! $ move ! (4 ∷ 5 ∷ []) $ free1 ! $ move ! (2 ∷ 3 ∷ []) $ free1 ! $ free0 ! $
         keep ! (1 ∷ []) $ by ! (exits (t .0) (within t) (good-end skip ls (t .0) (t .2) (t .1) (nltb→le (t .0) (length ls) over))))
 
-  walk : (𝓣 : Tables 𝓤 H) → Triple 𝓤 (𝓣 .C #grid·leaf-good) (LeafGood 𝓤 H A at-mem run) → ent 𝓤 (onEntry 𝓤 H A good-leaves.signature (κ, tt) (q, tt) a vals)
+  walk : (𝓣 : Tables 𝓤 H) → Triple 𝓤 (𝓣 .C #tiles·leaf-good) (LeafGood 𝓤 H A at-mem run) → ent 𝓤 (onEntry 𝓤 H A good-leaves.signature (κ, tt) (q, tt) a vals)
       (WpFn 𝓤 H (𝓣 .C) (𝓣 .Λ) code.function (s ∷ vbool skip ∷ []) Post)
   walk 𝓣 known =
       qed W ((‵ (flft κ q) ⊛ ‵ ftrue) ∷ ‵ (owns (ShrSlice (named 0) κ T.the-row ∷ Boolean ∷ []) a vals) ∷ []) ∵ enter ! (𝓣 .C) (𝓣 .Λ) code.function (s ∷ vbool skip ∷ []) _ $
@@ -211,7 +211,7 @@ module _ {M : Type 1} (𝓤 : URA M) (H : Heap 𝓤) (A : Atoms 𝓤) (W : Given
       move ! (21 ∷ []) $ fsplit ! $ fsplit ! $ let-go ! $ fsplit ! $ let-go ! $ move ! (1 ∷ []) $ let-go ! $ move ! (21 ∷ []) $ split ! $ move ! (1 ∷ []) $ let-go ! $ move ! (1 ∷ 0 ∷ []) $
       first ! $ blocks ! $ loops ! 𝓣 Nearer Nearer-wf (At 𝓣 known l₀ l₁ l₂ l₃ l₄ l₅ l₆ l₇ l₈ l₉) (turns 𝓣 known l₀ l₁ l₂ l₃ l₄ l₅ l₆ l₇ l₈ l₉) (0, zero-le, first-none _)))))))))))
 
-module _ {M : Type 1} (𝓤 : URA M) (H : Heap 𝓤) (A : Atoms 𝓤) (W : Given 𝓤 H A) (mem : Memory → SProp 𝓤) (run : Routine → Fun 𝓤) (𝓣 : Tables 𝓤 H) (known : Triple 𝓤 (𝓣 .C #grid·leaf-good) (LeafGood 𝓤 H A mem run)) where
+module _ {M : Type 1} (𝓤 : URA M) (H : Heap 𝓤) (A : Atoms 𝓤) (W : Given 𝓤 H A) (mem : Memory → SProp 𝓤) (run : Routine → Fun 𝓤) (𝓣 : Tables 𝓤 H) (known : Triple 𝓤 (𝓣 .C #tiles·leaf-good) (LeafGood 𝓤 H A mem run)) where
   good-leaves-walks : Walks 𝓤 H A good-leaves.ended stayed (WpFn 𝓤 H (𝓣 .C) (𝓣 .Λ) code.function) (good-leaves.clauses 𝓤 H A mem run)
   good-leaves-walks = walked 𝓤 H A good-leaves.ended stayed (good-leaves.clauses 𝓤 H A mem run) (WpFn 𝓤 H (𝓣 .C) (𝓣 .Λ) code.function)
       (λ κs. (slice-vals, (bool-vals, tt))) (λ κs. (shr-slice-tells (named 0) (κs .0) T.the-row, (bool-tells, tt)))
@@ -229,4 +229,4 @@ good-leaves-spec 𝓤 H 𝓜 𝓖 𝓡 =
     entered 𝓤 H (tripleOf 𝓤 H (𝓖 .A) good-leaves.signature (good-leaves.spec 𝓤 H (𝓖 .A) (𝓜 .mem) (𝓡 .run)))
     (tables 𝓤 H 𝓜 𝓡 code.env .C) (tables 𝓤 H 𝓜 𝓡 code.env .Λ) #leaves·good-leaves code.function (code.unfolded 𝓤 H 𝓜 𝓡)
     (good-leaves-meets 𝓤 H (𝓖 .A) (givenOf 𝓤 H 𝓜 𝓖) (𝓜 .mem) (𝓡 .run) (tablesOf 𝓤 H 𝓜 (tables 𝓤 H 𝓜 𝓡 code.env))
-    (cited 𝓤 H (LeafGood 𝓤 H (𝓖 .A) (𝓜 .mem) (𝓡 .run)) 𝓜 𝓡 code.env #grid·leaf-good leaf-good-def.routine code.calls-grid·leaf·leaf-good (leaf-good-thm.met 𝓤 H 𝓜 𝓖 𝓡)))
+    (cited 𝓤 H (LeafGood 𝓤 H (𝓖 .A) (𝓜 .mem) (𝓡 .run)) 𝓜 𝓡 code.env #tiles·leaf-good leaf-good-def.routine code.calls-tiles·leaf·leaf-good (leaf-good-thm.met 𝓤 H 𝓜 𝓖 𝓡)))

@@ -52,7 +52,8 @@ use Rattle.rules.specs.declared.settings.TuGrid.{TuGrid}
 use Rattle.rules.specs.TuGrid.{Marks, marks, tileOf, paintOf, leavesOf}
 use Rattle.rules.proofs.settings.TuGrid as S
 use Rattle.rules.proofs.settings.TuGrid.Laws as S′
-use Rattle.grid.specs.Fit.{Fit, Cut, Good, AllGood}
+use Rattle.tiles.specs.Fit.{Cut, Good, AllGood}
+use Rattle.grid.specs.Fit.{Fit}
 use Rattle.grid.proofs.Places.{fit-same}
 use Rattle.grid.proofs.paint.paint_leaf as paint-leaf
 use Rattle.grid.proofs.paint.paint_leaf.Symbol as paint-leaf-def

@@ -49,7 +49,8 @@ use Rattle.rules.proofs.settings.TuGrid as S
 use Rattle.rules.proofs.settings.TuGrid.Laws as S′
 use Rattle.rules.proofs.refusals.Answer as N
 use Rattle.rules.proofs.refusals.Answer.Laws as N′
-use Rattle.grid.specs.Fit.{Fit, Cut, AllGood}
+use Rattle.tiles.specs.Fit.{Cut, AllGood}
+use Rattle.grid.specs.Fit.{Fit}
 use Rattle.grid.proofs.Places.{fit-same}
 use Rattle.grid.proofs.Checked.{tx-accepted}
 use Rattle.leaves.specs.declared.records.Leaf.{Leaf}

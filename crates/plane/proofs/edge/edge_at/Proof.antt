@@ -36,11 +36,11 @@ q-of-requires c κs = search edges
 side-of-requires : tie.Need-side-of-requires
 side-of-requires c κs = search edges
 
-mul-t15 : tie.Need-mul-t15
-mul-t15 c = search edges
+mul-t16 : tie.Need-mul-t16
+mul-t16 c = search edges
 
-mul-t19 : tie.Need-mul-t19
-mul-t19 c = search edges
+mul-t20 : tie.Need-mul-t20
+mul-t20 c = search edges
 
 returns : tie.Need-returns
 returns c = search edges
@@ -60,6 +60,6 @@ edge-at-spec =
     pair-at-requires
     q-of-requires
     side-of-requires
-    mul-t15
-    mul-t19
+    mul-t16
+    mul-t20
     returns)

@@ -1,39 +1,53 @@
 -- `turn` meets its contract. Assumes nothing.
+use mathlib.Core.Path.{refl}
+use native.Mathlib.Omega.{arith}
 use borrow.Author.Needs.{needs}
 use Rattle.plane.proofs.Runs.{field-same}
-use Rattle.plane.proofs.Superblocks.{turn-first, turn-later}
+use Rattle.plane.proofs.Superblocks.{sb-part, vert-of, horz-of, turn-first, turn-later}
 use Rattle.plane.proofs.order.turn.Statement.{statement}
 use Rattle.plane.proofs.order.turn.Tie as tie
 
-vert-sb-requires : tie.Need-vert-sb-requires
-vert-sb-requires c κs = (c .before .before .before .before .before .before .before .pre .0, c .before .before .before .before .before .before .before .pre .2)
+superblock-requires : tie.Need-superblock-requires
+superblock-requires c κs = ((c .before .before .before .before .before .before .before .pre .0 .ready .sizes-ok), (c .before .before .before .before .before .before .before .pre .2))
+
+sweep-requires : tie.Need-sweep-requires
+sweep-requires c κs = ((c .before .before .before .before .before .before .before .before .pre .0), sb-part (c .before .before .before .before .before .before .before .before .pre .0 .ready .sizes-ok) _ (c .superblock .ensures) (c .before .before .before .before .before .before .before .before .pre .2))
 
 same-length : tie.Need-same-length
 same-length c = search needs
 
 returns : tie.Need-returns
-returns c = turn-first _ _ _ _ _ _ (c .before .before .before .vert-sb .ensures) (c .if1 .taken)
+returns c = (turn-first _ _ (vert-of _ _ _ _ _ _ (c .before .before .before .before .superblock .ensures) (c .before .before .before .sweep .ensures .0)) (c .if1 .taken), omega (arith, (c .before .before .before .sweep .ensures .1)))
 
-sub-horz-sb : tie.Need-sub-horz-sb
-sub-horz-sb c = search needs
+sub-superblock : tie.Need-sub-superblock
+sub-superblock c = search needs
 
-horz-sb-requires : tie.Need-horz-sb-requires
-horz-sb-requires c κs = (field-same (search needs) (c .before .before .before .before .before .before .before .before .before .before .before .before .pre .1), search needs)
+superblock-requires-2 : tie.Need-superblock-requires-2
+superblock-requires-2 c κs = ((c .before .before .before .before .before .before .before .before .before .before .before .before .before .pre .0 .ready .sizes-ok), omega (arith, (c .before .before .before .before .before .before .before .before .before .before .before .before .before .pre .2)))
+
+sweep-requires-2 : tie.Need-sweep-requires-2
+sweep-requires-2 c κs = (field-same (search needs) (c .before .before .before .before .before .before .before .before .before .before .before .before .before .before .pre .1), sb-part (c .before .before .before .before .before .before .before .before .before .before .before .before .before .before .pre .0 .ready .sizes-ok) _ (c .superblock2 .ensures) (omega (arith, (c .before .before .before .before .before .before .before .before .before .before .before .before .before .before .pre .2))))
+
+plus-requires : tie.Need-plus-requires
+plus-requires c κs = (omega (arith, (c .before .before .before .before .before .before .before .before .sweep .ensures .1)), omega (arith, (c .before .before .sweep2 .ensures .1)))
 
 same-length-2 : tie.Need-same-length-2
 same-length-2 c = search needs
 
 returns-2 : tie.Need-returns-2
-returns-2 c = turn-later _ _ _ _ _ _ (c .before .before .before .before .before .before .before .vert-sb .ensures) (c .before .before .before .before .if1 .left) (c .before .before .horz-sb .ensures) (search needs)
+returns-2 c = (turn-later _ _ (vert-of _ _ _ _ _ _ (c .before .before .before .before .before .before .before .before .before .before .superblock .ensures) (c .before .before .before .before .before .before .before .before .before .sweep .ensures .0)) (c .before .before .before .before .before .before .if1 .left) (horz-of _ _ _ _ _ _ (c .before .before .before .before .superblock2 .ensures) (c .before .before .before .sweep2 .ensures .0)) refl (c .plus .ensures), omega (arith, c .plus .ensures, (c .before .before .before .before .before .before .before .before .before .sweep .ensures .1), (c .before .before .before .sweep2 .ensures .1)))
 
 pub turn-spec : {M : Type 1} → statement M
 turn-spec =
     tie.close
     (tie.spec
-    vert-sb-requires
+    superblock-requires
+    sweep-requires
     same-length
     returns
-    sub-horz-sb
-    horz-sb-requires
+    sub-superblock
+    superblock-requires-2
+    sweep-requires-2
+    plus-requires
     same-length-2
     returns-2)

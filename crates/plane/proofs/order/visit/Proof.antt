@@ -1,4 +1,6 @@
 -- `visit` meets its contract. Assumes nothing.
+use mathlib.Core.Path.{refl}
+use native.Mathlib.Omega.{arith}
 use Rattle.cells.proofs.Accepted.{rows-fit}
 use Rattle.plane.proofs.Runs.{visit-none, visit-edge}
 use Rattle.plane.proofs.Edges.{asked}
@@ -11,19 +13,22 @@ is-edge-requires : tie.Need-is-edge-requires
 is-edge-requires c κs = search visits
 
 returns : tie.Need-returns
-returns c = visit-none _ _ _ _ _ _ _ (c .before .is-edge .ensures) (c .if1 .taken) _
+returns c = (visit-none _ _ _ _ _ _ _ (c .before .is-edge .ensures) (c .if1 .taken) refl _, search visits)
+
+shortened-at-requires : tie.Need-shortened-at-requires
+shortened-at-requires c κs = c .before .before .before .before .before .before .pre .0 .ready .sizes-ok
 
 edge-at-requires : tie.Need-edge-at-requires
 edge-at-requires c κs = search asked
 
 mul-filter-edge : tie.Need-mul-filter-edge
-mul-filter-edge c = search visits
+mul-filter-edge c = record { fits = omega (arith, c .before .before .before .before .before .before .before .before .before .before .pre .0 .ready .sizes-ok .cols-most) }
 
 mul-filter-edge-2 : tie.Need-mul-filter-edge-2
-mul-filter-edge-2 c = rows-fit (c .before .before .before .before .before .before .before .before .before .before .pre .0 .ready .sizes-ok)
+mul-filter-edge-2 c = rows-fit (c .before .before .before .before .before .before .before .before .before .before .before .pre .0 .ready .sizes-ok)
 
 top-requires : tie.Need-top-requires
-top-requires c κs = search visits
+top-requires c κs = c .before .before .before .before .before .before .before .before .before .before .before .pre .0 .depth
 
 filter-edge-requires : tie.Need-filter-edge-requires
 filter-edge-requires c κs = search edges
@@ -32,7 +37,7 @@ same-length : tie.Need-same-length
 same-length c = search visits
 
 returns-2 : tie.Need-returns-2
-returns-2 c = visit-edge _ _ _ _ _ _ _ (c .before .before .before .before .before .before .before .before .before .is-edge .ensures) (c .before .before .before .before .before .before .before .before .if1 .left) (c .before .before .before .before .before .before .before .edge-at .ensures) (c .before .before .before .top .ensures) (c .before .before .filter-edge .ensures)
+returns-2 c = (visit-edge _ _ _ _ _ _ _ (c .before .before .before .before .before .before .before .before .before .before .is-edge .ensures) (c .before .before .before .before .before .before .before .before .before .if1 .left) (c .before .before .before .before .before .before .before .edge-at .ensures) (c .before .before .before .top .ensures) (c .before .before .filter-edge .ensures) refl, search visits)
 
 pub visit-spec : {M : Type 1} → statement M
 visit-spec =
@@ -40,6 +45,7 @@ visit-spec =
     (tie.spec
     is-edge-requires
     returns
+    shortened-at-requires
     edge-at-requires
     mul-filter-edge
     mul-filter-edge-2

@@ -12,6 +12,9 @@ returns c = search filling
 sample-at-requires : tie.Need-sample-at-requires
 sample-at-requires c κs = search filling
 
+cast-low : tie.Need-cast-low
+cast-low c = search filling
+
 low-requires : tie.Need-low-requires
 low-requires c κs = search filling
 
@@ -20,4 +23,5 @@ returns-2 c = search filling
 
 pub byte-spec : {M : Type 1} → statement M
 byte-spec =
-    tie.close (tie.spec wide-byte-requires returns sample-at-requires low-requires returns-2)
+    tie.close
+    (tie.spec wide-byte-requires returns sample-at-requires cast-low low-requires returns-2)

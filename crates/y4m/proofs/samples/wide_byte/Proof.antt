@@ -6,18 +6,25 @@ use Rattle.y4m.proofs.samples.wide_byte.Tie as tie
 sample-at-requires : tie.Need-sample-at-requires
 sample-at-requires c κs = search filling
 
+cast-low : tie.Need-cast-low
+cast-low c = search filling
+
 low-requires : tie.Need-low-requires
 low-requires c κs = search filling
 
 returns : tie.Need-returns
 returns c = search filling
 
-high-requires : tie.Need-high-requires
-high-requires c κs = search filling
+cast-low-2 : tie.Need-cast-low-2
+cast-low-2 c = search filling
+
+low-requires-2 : tie.Need-low-requires-2
+low-requires-2 c κs = search filling
 
 returns-2 : tie.Need-returns-2
 returns-2 c = search filling
 
 pub wide-byte-spec : {M : Type 1} → statement M
 wide-byte-spec =
-    tie.close (tie.spec sample-at-requires low-requires returns high-requires returns-2)
+    tie.close
+    (tie.spec sample-at-requires cast-low low-requires returns cast-low-2 low-requires-2 returns-2)

@@ -1,0 +1,48 @@
+/* How a plane is filtered from C: its grids are built from one leaf and one superblock, then its edges are filtered. */
+#include "bihargesh.h"
+#include <stdio.h>
+#include <string.h>
+
+enum { COLS = 8, ROWS = 8, CELLS = COLS * ROWS, STRIDE = 4 * COLS, SAMPLES = STRIDE * 4 * ROWS };
+
+static uint8_t vedge[CELLS], hedge[CELLS], sqw[CELLS], sqh[CELLS];
+static uint16_t qindex[CELLS], plane[SAMPLES], lent[SAMPLES];
+static uint32_t steps[352];
+
+/* What C is told: 0, or minus the number of a refusal, whose place is in `place`. */
+static int said(const char *what, int32_t answer, size_t place) {
+  if (answer != 0) printf("%s: refused by %d at place %zu\n", what, -answer, place);
+  return answer;
+}
+
+static int32_t deblock(size_t *place) {
+  const int32_t settings[BIHARGESH_PLANE_SETTINGS] = {
+      [BIHARGESH_PLANE_COLS] = COLS,        [BIHARGESH_PLANE_ROWS] = ROWS,        [BIHARGESH_PLANE_STRIDE] = STRIDE,
+      [BIHARGESH_PLANE_WIDTH] = STRIDE,     [BIHARGESH_PLANE_HEIGHT] = 4 * ROWS,  [BIHARGESH_PLANE_SB_WIDTH] = 16,
+      [BIHARGESH_PLANE_SB_HEIGHT] = 16,     [BIHARGESH_PLANE_CHROMA] = 0,         [BIHARGESH_PLANE_DEPTH] = 8};
+  return bihargesh_plane(plane, SAMPLES, vedge, CELLS, hedge, CELLS, sqw, CELLS, sqh, CELLS, qindex, CELLS, steps, 352, settings,
+                         BIHARGESH_PLANE_SETTINGS, place, 1);
+}
+
+int main(void) {
+  /* one leaf of 8 by 8 cells, cut into TUs of 4 by 4 cells; one superblock, of qindex 200 */
+  const uint16_t leaves[4] = {0, 0, 8, 8}, superblocks[1] = {200};
+  const int32_t tx[6] = {COLS, ROWS, 0, 0, 4, 4}, q[5] = {COLS, ROWS, 0, 0, 1};
+  size_t place = 0;
+  if (said("the TU grid", bihargesh_tx_grid(leaves, 4, NULL, 0, vedge, CELLS, hedge, CELLS, sqw, CELLS, sqh, CELLS, tx, 6, &place, 1), place)) return 1;
+  if (said("the qindex grid", bihargesh_qindex_grid(superblocks, 1, qindex, CELLS, q, 5, &place, 1), place)) return 1;
+
+  /* 100 in the left half, 108 in the right */
+  for (int k = 0; k < SAMPLES; k++) plane[k] = k % STRIDE < STRIDE / 2 ? 100 : 108;
+  if (said("the steps", bihargesh_steps(steps, 352), place)) return 1;
+  if (said("the plane", deblock(&place), place)) return 1;
+  printf("C, a plane:");
+  for (int k = 8; k < 24; k++) printf(" %d", plane[k]);
+  printf("\n");
+  if (plane[15] <= 100 || plane[16] >= 108) return 1;
+
+  /* a sample that is too large is refused with its place, and the plane stays as it was */
+  plane[70] = 256;
+  memcpy(lent, plane, sizeof lent);
+  return deblock(&place) == -BIHARGESH_BAD_SAMPLE && place == 70 && memcmp(lent, plane, sizeof lent) == 0 ? 0 : 1;
+}

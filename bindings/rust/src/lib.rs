@@ -1,0 +1,387 @@
+//! Bihargesh, the proved AV2 loop filters, for Rust: safe calls of the static library libbihargesh.a, with a type for each answer.
+//!
+//! Every function takes any numbers and lists of any length. It does its work, or says why it does not and leaves every lent list as it was
+//! (but a frame refused by `Room` or `Sample` has built its grids).
+//! include/bihargesh.h says what each number means and which are accepted.
+//!
+//! ```
+//! use bihargesh::{segment, thresholds, Reason, Thresholds};
+//!
+//! // both thresholds of the edge between two blocks of qindex 200, with the published steps
+//! let steps: Vec<u8> = bihargesh::steps().iter().flat_map(|s| s.to_le_bytes()).collect();
+//! let Thresholds { q, side } = thresholds(200, 200, 0, 0, 8, &steps)?;
+//!
+//! // a step from 100 to 108 on four lines of eighteen samples, two bytes a sample
+//! let line = [[100u16; 9], [108; 9]].concat();
+//! let mut window: Vec<u8> = line.repeat(4).iter().flat_map(|s| s.to_le_bytes()).collect();
+//! assert_eq!(segment(&mut window, 8, 3, q, side)?, 8);
+//! assert_eq!(window[16], 104);
+//!
+//! // what can't be done is refused, and the window stays as it was
+//! assert_eq!(segment(&mut window, 9, 3, q, side), Err(Reason::Depth));
+//! # Ok::<(), Reason>(())
+//! ```
+
+mod raw;
+
+use raw::*;
+use std::error::Error;
+use std::fmt;
+
+/// The version of the library and of this package.
+pub const VERSION: &str = env!("CARGO_PKG_VERSION");
+
+/// The refusals by name, in the order of their numbers.
+#[derive(Clone, Copy, Debug, PartialEq, Eq)]
+pub enum Reason {
+    /// The depth is not 8, 10 or 12.
+    Depth = 1,
+    /// A size, stride, subsampling or count is out of range.
+    Size,
+    /// A list is shorter than needed, or a list of leaves is cut.
+    Length,
+    /// The step table is bad.
+    Steps,
+    /// A delta, cap, threshold, pair or CCSO setting is out of range.
+    Setting,
+    /// A grid cell has a bad mark or size index.
+    Cell,
+    /// An edge lacks room.
+    Room,
+    /// A used sample exceeds the depth's largest.
+    Sample,
+    /// A leaf is bad.
+    Leaf,
+}
+
+const REASONS: [Reason; 9] = [
+    Reason::Depth,
+    Reason::Size,
+    Reason::Length,
+    Reason::Steps,
+    Reason::Setting,
+    Reason::Cell,
+    Reason::Room,
+    Reason::Sample,
+    Reason::Leaf,
+];
+
+impl Reason {
+    /// Its number in include/bihargesh.h.
+    pub fn number(self) -> u32 {
+        self as u32
+    }
+
+    /// The reason of an answer below 0.
+    fn of(answer: i32) -> Reason {
+        REASONS[-answer as usize - 1]
+    }
+}
+
+impl fmt::Display for Reason {
+    fn fmt(&self, f: &mut fmt::Formatter) -> fmt::Result {
+        f.write_str(match self {
+            Reason::Depth => "the depth is not 8, 10 or 12",
+            Reason::Size => "a size, stride, subsampling or count is out of range",
+            Reason::Length => "a list is shorter than needed, or a list of leaves is cut",
+            Reason::Steps => "the step table is not 352 entries from 64 on, each at most 1048576",
+            Reason::Setting => "a delta, cap, threshold, length pair or CCSO setting is out of range",
+            Reason::Cell => "a grid cell has a bad mark or size index",
+            Reason::Room => "an edge lacks room",
+            Reason::Sample => "a sample exceeds the depth's largest",
+            Reason::Leaf => "a leaf is bad",
+        })
+    }
+}
+
+impl Error for Reason {}
+
+/// Why an entry did nothing, and at which step, cell, leaf or sample: 0 where a refusal has no place.
+#[derive(Clone, Copy, Debug, PartialEq, Eq)]
+pub struct Refusal {
+    pub reason: Reason,
+    pub place: usize,
+}
+
+impl fmt::Display for Refusal {
+    fn fmt(&self, f: &mut fmt::Formatter) -> fmt::Result {
+        match self.reason {
+            Reason::Steps | Reason::Cell | Reason::Room | Reason::Sample | Reason::Leaf => write!(f, "{}, at place {}", self.reason, self.place),
+            _ => self.reason.fmt(f),
+        }
+    }
+}
+
+impl Error for Refusal {}
+
+/// Both thresholds of an edge.
+#[derive(Clone, Copy, Debug, PartialEq, Eq)]
+pub struct Thresholds {
+    pub q: u32,
+    pub side: u32,
+}
+
+/// Settings of a plane.
+#[derive(Clone, Copy, Debug, Default)]
+pub struct Plane {
+    pub cols: i32,
+    pub rows: i32,
+    pub stride: i32,
+    pub width: i32,
+    pub height: i32,
+    pub superblock_width: i32,
+    pub superblock_height: i32,
+    pub chroma: bool,
+    pub depth: i32,
+    pub delta_q: i32,
+    pub delta_side: i32,
+}
+
+/// A plane's grid: a number for each cell, row by row.
+#[derive(Clone, Copy, Debug)]
+pub struct Grid<'a> {
+    pub vedge: &'a [u8],
+    pub hedge: &'a [u8],
+    pub sqw: &'a [u8],
+    pub sqh: &'a [u8],
+    pub qindex: &'a [u16],
+}
+
+/// The four lists that a TU grid fills.
+#[derive(Debug)]
+pub struct Marks<'a> {
+    pub vedge: &'a mut [u8],
+    pub hedge: &'a mut [u8],
+    pub sqw: &'a mut [u8],
+    pub sqh: &'a mut [u8],
+}
+
+/// Settings of a TU grid.
+#[derive(Clone, Copy, Debug, Default)]
+pub struct TxGrid {
+    pub cols: i32,
+    pub rows: i32,
+    pub ssx: i32,
+    pub ssy: i32,
+    pub cap_width: i32,
+    pub cap_height: i32,
+}
+
+/// Settings of a qindex grid.
+#[derive(Clone, Copy, Debug, Default)]
+pub struct QindexGrid {
+    pub cols: i32,
+    pub rows: i32,
+    pub ssx: i32,
+    pub ssy: i32,
+    pub superblocks_across: i32,
+}
+
+/// The planes of a frame; `u` and `v` may be empty where no chroma is filtered.
+#[derive(Debug)]
+pub struct Planes<'a> {
+    pub y: &'a mut [u16],
+    pub u: &'a mut [u16],
+    pub v: &'a mut [u16],
+}
+
+/// A grid that a frame builds: its marks and size indices, and its qindex.
+#[derive(Debug)]
+pub struct BuiltGrid<'a> {
+    pub marks: Marks<'a>,
+    pub qindex: &'a mut [u16],
+}
+
+/// What a frame's grids are built from, four numbers a leaf.
+#[derive(Clone, Copy, Debug)]
+pub struct Blocks<'a> {
+    pub superblocks: &'a [u16],
+    pub leaves: &'a [u16],
+    pub chroma_leaves: &'a [u16],
+    pub skips: &'a [u16],
+}
+
+/// Settings of a frame.
+#[derive(Clone, Copy, Debug, Default)]
+pub struct Frame {
+    pub width: i32,
+    pub height: i32,
+    pub ssx: i32,
+    pub ssy: i32,
+    pub has_chroma: bool,
+    pub chroma_deblock: bool,
+    pub depth: i32,
+    pub delta_luma: i32,
+    pub delta_chroma: i32,
+    pub luma_stride: i32,
+    pub chroma_stride: i32,
+    pub cap_width: i32,
+    pub cap_height: i32,
+    pub chroma_cap_width: i32,
+    pub chroma_cap_height: i32,
+}
+
+/// Settings of the CCSO offsets.
+#[derive(Clone, Copy, Debug, Default)]
+pub struct Ccso {
+    pub width: i32,
+    pub height: i32,
+    pub ssx: i32,
+    pub ssy: i32,
+    pub depth: i32,
+    pub scale: i32,
+    pub lo: i32,
+    pub hi: i32,
+    pub below: i32,
+    pub within: i32,
+    pub above: i32,
+    pub dx0: i32,
+    pub dy0: i32,
+    pub dx1: i32,
+    pub dy1: i32,
+    pub band_log2: i32,
+}
+
+/// What was asked for, or the refusal with its place.
+fn told(answer: i32, place: [usize; 1]) -> Result<(), Refusal> {
+    if answer < 0 {
+        return Err(Refusal { reason: Reason::of(answer), place: place[0] });
+    }
+    Ok(())
+}
+
+// In each call below every pointer is that of a live list, beside its length, and the borrow checker keeps a `&mut` list apart from the others.
+
+/// The 352 AC steps of the published encoder, for `deblock_plane` and `deblock_frame`.
+///
+/// ```
+/// let steps = bihargesh::steps();
+/// assert_eq!((steps[0], steps[1], steps[25], steps[351]), (64, 40, 80, steps[255]));
+/// ```
+pub fn steps() -> [u32; 352] {
+    let mut list = [0; 352];
+    // SAFETY: as above.
+    unsafe { bihargesh_steps(list.as_mut_ptr(), list.len()) };
+    list
+}
+
+/// Both thresholds of the edge between two blocks; `steps` has four bytes a step, low first.
+pub fn thresholds(curr: u16, prev: u16, delta_q: i32, delta_side: i32, depth: u32, steps: &[u8]) -> Result<Thresholds, Reason> {
+    // SAFETY: as above.
+    let answer = unsafe { bihargesh_thresholds(curr, prev, delta_q, delta_side, depth, steps.as_ptr(), steps.len()) };
+    if answer < 0 {
+        return Err(Reason::of(answer));
+    }
+    Ok(Thresholds { q: answer as u32 >> 16, side: answer as u32 & 65535 })
+}
+
+/// Filters one segment on a window of 144 bytes; how many samples after the edge were filtered.
+pub fn segment(window: &mut [u8], depth: u32, pair: u32, q: u32, side: u32) -> Result<usize, Reason> {
+    // SAFETY: as above.
+    let answer = unsafe { bihargesh_segment(window.as_mut_ptr(), window.len(), depth, pair, q, side) };
+    if answer < 0 {
+        return Err(Reason::of(answer));
+    }
+    Ok(answer as usize)
+}
+
+/// Filters every marked edge of a plane.
+pub fn deblock_plane(plane: &mut [u16], grid: Grid, steps: &[u32], s: Plane) -> Result<(), Refusal> {
+    let settings = [
+        s.cols, s.rows, s.stride, s.width, s.height, s.superblock_width, s.superblock_height, s.chroma as i32, s.depth, s.delta_q, s.delta_side,
+    ];
+    let mut place = [0];
+    // SAFETY: as above.
+    let answer = unsafe {
+        bihargesh_plane(
+            plane.as_mut_ptr(), plane.len(), grid.vedge.as_ptr(), grid.vedge.len(), grid.hedge.as_ptr(), grid.hedge.len(),
+            grid.sqw.as_ptr(), grid.sqw.len(), grid.sqh.as_ptr(), grid.sqh.len(), grid.qindex.as_ptr(), grid.qindex.len(),
+            steps.as_ptr(), steps.len(), settings.as_ptr(), settings.len(), place.as_mut_ptr(), place.len(),
+        )
+    };
+    told(answer, place)
+}
+
+/// Builds a plane's marks and size indices from its leaves and skip leaves, four numbers a leaf.
+pub fn build_tx_grid(leaves: &[u16], skips: &[u16], marks: Marks, s: TxGrid) -> Result<(), Refusal> {
+    let settings = [s.cols, s.rows, s.ssx, s.ssy, s.cap_width, s.cap_height];
+    let mut place = [0];
+    // SAFETY: as above.
+    let answer = unsafe {
+        bihargesh_tx_grid(
+            leaves.as_ptr(), leaves.len(), skips.as_ptr(), skips.len(), marks.vedge.as_mut_ptr(), marks.vedge.len(),
+            marks.hedge.as_mut_ptr(), marks.hedge.len(), marks.sqw.as_mut_ptr(), marks.sqw.len(), marks.sqh.as_mut_ptr(), marks.sqh.len(),
+            settings.as_ptr(), settings.len(), place.as_mut_ptr(), place.len(),
+        )
+    };
+    told(answer, place)
+}
+
+/// Gives each cell of a plane the qindex of its superblock.
+///
+/// ```
+/// use bihargesh::{build_qindex_grid, QindexGrid, Reason, Refusal};
+///
+/// let mut qindex = [0; 4];
+/// let settings = QindexGrid { cols: 2, rows: 2, superblocks_across: 1, ..QindexGrid::default() };
+/// build_qindex_grid(&[200], &mut qindex, settings)?;
+/// assert_eq!(qindex, [200; 4]);
+///
+/// let refusal = build_qindex_grid(&[], &mut qindex, settings).unwrap_err();
+/// assert_eq!(refusal, Refusal { reason: Reason::Length, place: 0 });
+/// assert_eq!(refusal.to_string(), "a list is shorter than needed, or a list of leaves is cut");
+/// # Ok::<(), Refusal>(())
+/// ```
+pub fn build_qindex_grid(superblocks: &[u16], qindex: &mut [u16], s: QindexGrid) -> Result<(), Refusal> {
+    let settings = [s.cols, s.rows, s.ssx, s.ssy, s.superblocks_across];
+    let mut place = [0];
+    // SAFETY: as above.
+    let answer = unsafe {
+        bihargesh_qindex_grid(
+            superblocks.as_ptr(), superblocks.len(), qindex.as_mut_ptr(), qindex.len(),
+            settings.as_ptr(), settings.len(), place.as_mut_ptr(), place.len(),
+        )
+    };
+    told(answer, place)
+}
+
+/// Filters a whole frame; a refusal of `Room` or `Sample` leaves the grids built, every other leaves them as lent.
+pub fn deblock_frame(planes: Planes, luma: BuiltGrid, chroma: BuiltGrid, steps: &[u32], b: Blocks, s: Frame) -> Result<(), Refusal> {
+    let settings = [
+        s.width, s.height, s.ssx, s.ssy, s.has_chroma as i32, s.chroma_deblock as i32, s.depth, s.delta_luma, s.delta_chroma, s.luma_stride,
+        s.chroma_stride, s.cap_width, s.cap_height, s.chroma_cap_width, s.chroma_cap_height,
+    ];
+    let mut place = [0];
+    // SAFETY: as above.
+    let answer = unsafe {
+        bihargesh_frame(
+            planes.y.as_mut_ptr(), planes.y.len(), planes.u.as_mut_ptr(), planes.u.len(), planes.v.as_mut_ptr(), planes.v.len(),
+            luma.marks.vedge.as_mut_ptr(), luma.marks.vedge.len(), luma.marks.hedge.as_mut_ptr(), luma.marks.hedge.len(),
+            luma.marks.sqw.as_mut_ptr(), luma.marks.sqw.len(), luma.marks.sqh.as_mut_ptr(), luma.marks.sqh.len(),
+            luma.qindex.as_mut_ptr(), luma.qindex.len(),
+            chroma.marks.vedge.as_mut_ptr(), chroma.marks.vedge.len(), chroma.marks.hedge.as_mut_ptr(), chroma.marks.hedge.len(),
+            chroma.marks.sqw.as_mut_ptr(), chroma.marks.sqw.len(), chroma.marks.sqh.as_mut_ptr(), chroma.marks.sqh.len(),
+            chroma.qindex.as_mut_ptr(), chroma.qindex.len(),
+            steps.as_ptr(), steps.len(), b.superblocks.as_ptr(), b.superblocks.len(), b.leaves.as_ptr(), b.leaves.len(),
+            b.chroma_leaves.as_ptr(), b.chroma_leaves.len(), b.skips.as_ptr(), b.skips.len(),
+            settings.as_ptr(), settings.len(), place.as_mut_ptr(), place.len(),
+        )
+    };
+    told(answer, place)
+}
+
+/// Adds the gated CCSO offsets to a plane.
+pub fn apply_edge_gated(luma: &[u16], target: &mut [u16], flags: &[u8], offsets: &[i8], s: Ccso) -> Result<(), Refusal> {
+    let settings = [
+        s.width, s.height, s.ssx, s.ssy, s.depth, s.scale, s.lo, s.hi, s.below, s.within, s.above, s.dx0, s.dy0, s.dx1, s.dy1, s.band_log2,
+    ];
+    let mut place = [0];
+    // SAFETY: as above.
+    let answer = unsafe {
+        bihargesh_ccso(
+            luma.as_ptr(), luma.len(), target.as_mut_ptr(), target.len(), flags.as_ptr(), flags.len(),
+            offsets.as_ptr(), offsets.len(), settings.as_ptr(), settings.len(), place.as_mut_ptr(), place.len(),
+        )
+    };
+    told(answer, place)
+}

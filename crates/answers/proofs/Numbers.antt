@@ -1,0 +1,120 @@
+-- What C is answered: a number that the machine holds, and the answer of a check in its terms.
+-- Assumes nothing.
+use mathlib.Core.Path.{_≡_, refl, ap, _∙_}
+use mathlib.Core.List.{List, [], _∷_}
+use Prim.Native.Nat.{ℕ, zero, suc, _≤_, _<_}
+use native.Mathlib.Omega.{arith}
+use lib.ListN.{length, set}
+use lib.IntN.{ℤ, pos, negsuc, negℤ, _-ℤ_}
+use mir.Syntax.{w32}
+use mir.Val.{SFits, toZ, ofZ}
+use Rattle.laws.specs.Choose.{is-le, not-le}
+use Rattle.laws.specs.Whole.{same, count, neg, differ}
+use Rattle.laws.specs.Machine.{back}
+use Rattle.rules.specs.declared.refusals.Refusal.{Refusal}
+use Rattle.rules.specs.declared.refusals.Refusal.the-variants.{Length}
+use Rattle.rules.specs.declared.refusals.Answer.{Answer}
+use Rattle.rules.specs.declared.refusals.Answer.the-variants.{Accepted, Refused}
+use Rattle.rules.specs.Refusals.{numberOf, placeOf, settle}
+use Rattle.rules.specs.CSide.{cAnswer}
+use Rattle.rules.proofs.Numbered.{number-most}
+use Rattle.scan.proofs.Checks.{stop, go-on, unless-bad, unless-good, settle-refused}
+use Rattle.answers.specs.Told.{placed, Told, listed, Handed, Reported}
+
+-- a count that the machine holds
+pub held : (z : ℤ) (n : ℕ) → z ≡ pos n → n < 2147483648 → toZ w32 (ofZ w32 z) ≡ pos n
+held z n e h = rw e (back (pos n) h)
+
+-- minus a small count
+pub held-below : (z : ℤ) (n : ℕ) → z ≡ negℤ (pos n) → n ≤ 255 → toZ w32 (ofZ w32 z) ≡ negℤ (pos n)
+held-below z zero e h = rw e (back (pos 0) (omega arith))
+held-below z (suc n) e h = rw e (back (negsuc n) (omega arith))
+
+-- minus a refusal's number
+pub held-minus : (z : ℤ) (r : Refusal) → z ≡ negℤ (pos (numberOf r)) → toZ w32 (ofZ w32 z) ≡ negℤ (pos (numberOf r))
+held-minus z r e = held-below z (numberOf r) e (number-most r)
+
+-- 0 less a refusal's number, as the machine takes it off: it fits, and is minus that number
+less : (n : ℕ) → pos 0 -ℤ pos n ≡ negℤ (pos n)
+less n = same (pos 0 -ℤ pos n) (negℤ (pos n)) (differ 0 n) (neg (pos n) (count n)) (omega arith)
+
+taken-off : (n : ℕ) → n ≤ 255 → pos 0 -ℤ toZ w32 n ≡ negℤ (pos n)
+taken-off n h = ap (λ (z : ℤ). pos 0 -ℤ z) (held (pos n) n refl (omega arith)) ∙ less n
+
+below-fits : (n : ℕ) → n ≤ 255 → SFits w32 (negℤ (pos n))
+below-fits zero h = record { sfits = omega arith }
+below-fits (suc n) h = record { sfits = omega arith }
+
+module _ (r : Refusal) {n : ℕ} (e : n ≡ numberOf r) where
+  small : n ≤ 255
+  small = omega (arith, number-most r)
+
+  pub number-fits : SFits w32 (pos n)
+  number-fits = record { sfits = omega (arith, small) }
+
+  pub minus-fits : SFits w32 (pos 0 -ℤ toZ w32 n)
+  minus-fits = rw (taken-off n small) (below-fits n small)
+
+  pub minus-is : toZ w32 (ofZ w32 (pos 0 -ℤ toZ w32 n)) ≡ negℤ (pos (numberOf r))
+  minus-is = held-minus _ r (taken-off n small ∙ ap (λ (k : ℕ). negℤ (pos k)) e)
+
+-- the answer of a check
+pub answer-refused : (a : Answer) (n : ℕ) {r : Refusal} → Refused r ≡ a → negℤ (pos (numberOf r)) ≡ cAnswer a n
+unfolding cAnswer
+answer-refused a n e = rw (← e)
+
+pub answer-accepted : (a : Answer) (n : ℕ) {m : ℕ} → Accepted ≡ a → m ≡ n → pos m ≡ cAnswer a n
+unfolding cAnswer
+answer-accepted a n e f = rw (← e) (ap pos f)
+
+-- ---- an answer and the place of a refusal
+
+-- an empty list takes no place
+pub empty-set : (l : List ℕ) (k : ℕ) → length l ≡ 0 → l ≡ set l 0 k
+empty-set [] k e = refl
+empty-set (x ∷ l) k e = absurd (omega arith)
+
+pub told-accepted : {a : Answer} (lent : List ℕ) → a ≡ Accepted → Told a lent (pos 0) lent
+unfolding cAnswer placed
+told-accepted lent e = rw e (record { answer = refl; place-is = refl })
+
+pub told-refused : {a : Answer} {r : Refusal} (lent : List ℕ) {z : ℤ} {k : ℕ} {place : List ℕ} → a ≡ Refused r → k ≡ placeOf r → place ≡ set lent 0 k → z ≡ negℤ (pos (numberOf r)) → Told a lent (toZ w32 (ofZ w32 z)) place
+unfolding cAnswer placed
+told-refused {a} {r} lent {z} e f g h = rw e (record { answer = held-minus z r h; place-is = g ∙ ap (λ (k : ℕ). set lent 0 k) f })
+
+held-answer : (z : ℤ) (a : Answer) → z ≡ cAnswer a 0 → toZ w32 (ofZ w32 z) ≡ cAnswer a 0
+unfolding cAnswer
+held-answer z Accepted e = held z 0 e (omega arith)
+held-answer z (Refused r) e = held-minus z r e
+
+-- handed on by an export, whose check b gave the answer a
+pub told-by : {a b : Answer} {lent place : List ℕ} {z : ℤ} → a ≡ b → Told a lent z place → Told b lent (toZ w32 (ofZ w32 z)) place
+told-by {a} {b} {lent} {place} {z} e t =
+    record { answer = held-answer z b (t .answer ∙ ap (λ (a : Answer). cAnswer a 0) e); place-is = t .place-is ∙ ap (λ (a : Answer). placed a lent) e }
+
+-- ---- what is left of the lent lists
+
+module _ {A : Type 0} {check : Answer} (lent new : A) where
+  pub handed-refused : {r : Refusal} → Refused r ≡ check → Handed check lent new (Refused r) lent
+  handed-refused e = record { answer = e; left-is = settle-refused _ _ _ e }
+
+  -- by a check of the entry's own
+  pub handed-on : {own a : Answer} {left : A} → own ≡ check → a ≡ own → left ≡ settle own lent new → Handed check lent new a left
+  handed-on e f g = record { answer = f ∙ e; left-is = g ∙ ap (λ (x : Answer). settle x lent new) e }
+
+-- told to C
+pub reported : {A : Type 0} {check a : Answer} {lent new left : A} {p q : List ℕ} {z : ℤ} → Handed check lent new a left → Told a p z q → Reported check lent new p (toZ w32 (ofZ w32 z)) left q
+reported d t = record { told = told-by (d .answer) t; left-is = d .left-is }
+
+-- a settings list: too short, and long enough
+module _ {A : Type 0} (n : ℕ) (settings : List ℤ) (check : Answer) (lent new : A) where
+  pub short : length settings < n → Handed (listed n settings check) lent new (Refused Length) lent
+  unfolding listed
+  short h = handed-refused lent new (stop _ _ (unless-bad _ _ (not-le n (length settings) h)))
+
+  pub long-is : n ≤ length settings → check ≡ listed n settings check
+  unfolding listed
+  long-is h = go-on _ _ _ (unless-good _ _ (is-le n (length settings) h)) refl
+
+  pub long : n ≤ length settings → {a : Answer} {left : A} → a ≡ check → left ≡ settle check lent new → Handed (listed n settings check) lent new a left
+  long h e f = handed-on lent new (long-is h) e f

@@ -1,0 +1,20 @@
+-- Two results that a statement allows are equal: what C is told, what an entry hands back, and both together.
+-- Assumes nothing.
+use mathlib.Core.Path.{_≡_, sym, _∙_}
+use mathlib.Core.List.{List}
+use Prim.Native.Nat.{ℕ}
+use lib.IntN.{ℤ}
+use Rattle.rules.specs.declared.refusals.Answer.{Answer}
+use Rattle.answers.specs.Told.{Told, Handed, Reported}
+
+pub told-unique : {a : Answer} {lent : List ℕ} {n m : ℤ} {p q : List ℕ} → Told a lent n p → Told a lent m q → (n ≡ m) × (p ≡ q)
+told-unique t u = (t .answer ∙ sym (u .answer), t .place-is ∙ sym (u .place-is))
+
+module _ {A : Type 0} {check : Answer} {lent new : A} where
+  pub handed-unique : {a b : Answer} {l m : A} → Handed check lent new a l → Handed check lent new b m → (a ≡ b) × (l ≡ m)
+  handed-unique t u = (t .answer ∙ sym (u .answer), t .left-is ∙ sym (u .left-is))
+
+  pub reported-unique : {place : List ℕ} {n m : ℤ} {k l : A} {p q : List ℕ} → Reported check lent new place n k p → Reported check lent new place m l q → (n ≡ m) × (k ≡ l) × (p ≡ q)
+  reported-unique t u =
+      let e = told-unique (t .told) (u .told) in
+      (e .0, t .left-is ∙ sym (u .left-is), e .1)

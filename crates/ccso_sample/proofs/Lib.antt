@@ -1,0 +1,4 @@
+pub mod Signed
+pub mod Classes
+pub mod Offsets
+pub mod Places

@@ -1,8 +1,0 @@
-pub mod Picks
-pub mod Lengths
-pub mod Differences
-pub mod Averages
-pub mod Stands
-pub mod Order
-pub mod Most
-pub mod Agree

@@ -1,0 +1,40 @@
+-- Two results that an entry's statement allows are equal.
+-- Assumes nothing.
+use mathlib.Core.Path.{_≡_}
+use mathlib.Core.List.{List}
+use Prim.Native.Nat.{ℕ}
+use lib.IntN.{ℤ}
+use Rattle.rules.specs.declared.refusals.Answer.{Answer}
+use Rattle.rules.specs.Plane.{Grid, runPlane}
+use Rattle.rules.specs.TuGrid.{Marks, txGridCheck, txGridOf}
+use Rattle.rules.specs.QindexGrid.{qGridCheck, qGridOf}
+use Rattle.rules.specs.Ccso.{ccsoCheck, ccsoOf}
+use Rattle.answers.specs.Told.{listed, Handed}
+use Rattle.answers.proofs.Unique.{handed-unique}
+use Rattle.numbers.specs.Settings.{planeOf, tuGridOf, qindexGridOf, offsetsOf}
+use Rattle.entries.specs.Planes.{cPlaneCheck}
+
+module _ {a b : Answer} (settings : List ℤ) where
+  pub deblock-unique : {steps l m n : List ℕ} {g : Grid}
+      → Handed (cPlaneCheck settings steps g l) l (runPlane (planeOf settings) steps g l) a m
+      → Handed (cPlaneCheck settings steps g l) l (runPlane (planeOf settings) steps g l) b n
+      → (a ≡ b) × (m ≡ n)
+  deblock-unique = handed-unique
+
+  pub build-unique : {leaves skips : List ℕ} {g m n : Marks}
+      → Handed (listed 6 settings (txGridCheck (tuGridOf settings) leaves skips g)) g (txGridOf (tuGridOf settings) leaves skips g) a m
+      → Handed (listed 6 settings (txGridCheck (tuGridOf settings) leaves skips g)) g (txGridOf (tuGridOf settings) leaves skips g) b n
+      → (a ≡ b) × (m ≡ n)
+  build-unique = handed-unique
+
+  pub fill-unique : {sbq q m n : List ℕ}
+      → Handed (listed 5 settings (qGridCheck (qindexGridOf settings) sbq q)) q (qGridOf (qindexGridOf settings) sbq q) a m
+      → Handed (listed 5 settings (qGridCheck (qindexGridOf settings) sbq q)) q (qGridOf (qindexGridOf settings) sbq q) b n
+      → (a ≡ b) × (m ≡ n)
+  fill-unique = handed-unique
+
+  pub apply-unique : {luma flags t m n : List ℕ} {offsets : List ℤ}
+      → Handed (listed 16 settings (ccsoCheck (offsetsOf settings) luma flags offsets t)) t (ccsoOf (offsetsOf settings) luma flags offsets t) a m
+      → Handed (listed 16 settings (ccsoCheck (offsetsOf settings) luma flags offsets t)) t (ccsoOf (offsetsOf settings) luma flags offsets t) b n
+      → (a ≡ b) × (m ≡ n)
+  apply-unique = handed-unique

@@ -1,0 +1,195 @@
+-- A lone segment's checks: what each that passed says, and the answer and plane at each way out.
+-- Assumes nothing.
+use mathlib.Core.Path.{_≡_, refl, sym, ap, _∙_}
+use mathlib.Core.Bool.{Bool, true, false, not}
+use mathlib.Core.List.{List, [], _∷_}
+use Prim.Native.Nat.{ℕ, _+_, _-_, _*_, _≤_, _<_}
+use native.Mathlib.Nat.{mul-le-mul, mul-le-mul-right, add-mul}
+use native.Mathlib.Omega.{arith}
+use borrow.Author.Needs.{needs}
+use borrow.Author.Tests.{eq-eqb, ne-eqb, leb-true}
+use lib.Dec.{eqb, leb}
+use lib.ListN.{length}
+use Rattle.laws.specs.Choose.{all, all-parts, both-parts, is-le, told-yes-not}
+use Rattle.rules.specs.declared.edge.Edge.{Edge}
+use Rattle.rules.specs.declared.settings.Lone.{Lone}
+use Rattle.rules.specs.declared.refusals.Refusal.{Refusal}
+use Rattle.rules.specs.declared.refusals.Answer.{Answer}
+use Rattle.rules.specs.declared.refusals.Answer.the-variants.{Accepted, Refused}
+use Rattle.rules.specs.declared.refusals.Width.{Width}
+use Rattle.rules.specs.declared.refusals.Width.the-variants.{Samples, Refused as «NoWidth»}
+use Rattle.rules.specs.declared.refusals.Found.{Found}
+use Rattle.rules.specs.declared.refusals.Found.the-variants.{Nothing}
+use Rattle.rules.specs.declared.refusals.Refusal.the-variants.{Depth, Size, Length, Setting, Room, Sample}
+use Rattle.rules.specs.Numbers.{depthOk, topOf, inRange}
+use Rattle.rules.specs.Refusals.{orElse, unless, found, settle, overBox}
+use Rattle.rules.specs.Lengths.{reachBefore, reachAfter}
+use Rattle.rules.specs.Segment.{roomAlong, hasRoom, widthAt, segmentOf}
+use Rattle.rules.specs.Lone.{edgeOf, sizesOk, settingsOk, overEdge, loneCheck, lonePlane, answerWidth, loneWidth}
+use Rattle.lengths.proofs.Lengths.{PairFacts, pair-facts}
+use Rattle.scan.specs.Rows.{Box}
+use Rattle.scan.proofs.Rows.{box-inner}
+use Rattle.scan.proofs.Ranges.{in-range}
+use Rattle.scan.proofs.Checks.{stop, go-on, unless-bad, unless-good, else-parts, unless-true, found-nothing, settle-refused-by, settle-accepted-by}
+use Rattle.segment.specs.declared.outcome.Outcome.{Outcome}
+use Rattle.segment.specs.Fit.{InPlane, EdgeFiltered}
+use Rattle.segment.proofs.Cells.{along-of}
+
+-- ---- what a check that passed says
+pub record Sizes (s : Lone) : Type 0 where
+  pub columns-some : 1 ≤ s .columns
+  pub columns-most : s .columns ≤ 4096
+  pub rows-some : 1 ≤ s .rows
+  pub rows-most : s .rows ≤ 4096
+  pub row : s .columns ≤ s .stride
+  pub stride-most : s .stride ≤ 8192
+
+pub sizes-are : (s : Lone) → true ≡ sizesOk s → Sizes s
+unfolding sizesOk
+sizes-are s h =
+    let p = all-parts _ _ (sym h) in
+    let q = all-parts _ _ (p .1) in
+    let r = all-parts _ _ (q .1) in
+    let x = in-range 1 4096 (s .columns) (p .0) in
+    let y = in-range 1 4096 (s .rows) (q .0) in
+    let z = in-range (s .columns) 8192 (s .stride) (r .0) in
+    record { columns-some = x .0; columns-most = x .1; rows-some = y .0; rows-most = y .1; row = z .0; stride-most = z .1 }
+
+pub product-most : (s : Lone) → true ≡ sizesOk s → s .rows * s .stride ≤ 33554432
+product-most s h = let z = sizes-are s h in mul-le-mul (z .rows-most) (z .stride-most)
+
+pub record Settings (s : Lone) : Type 0 where
+  pub q-most : s .q ≤ 2048
+  pub side-most : s .side ≤ 839
+  pub pair-most : s .pair ≤ 7
+  pub dir-most : s .dir ≤ 1
+
+pub settings-are : (s : Lone) → true ≡ settingsOk s → Settings s
+unfolding settingsOk
+settings-are s h =
+    let p = all-parts _ _ (sym h) in
+    let q = all-parts _ _ (p .1) in
+    let r = all-parts _ _ (q .1) in
+    let t = all-parts _ _ (r .1) in
+    record { q-most = leb-true (s .q) 2048 (p .0); side-most = leb-true (s .side) 839 (q .0); pair-most = leb-true (s .pair) 7 (r .0); dir-most = leb-true (s .dir) 1 (t .0) }
+
+pub in-plane : (s : Lone) {e : Edge} {size : ℕ} → true ≡ sizesOk s → s .rows * s .stride ≤ size → true ≡ settingsOk s → e ≡ edgeOf s → true ≡ hasRoom (s .columns) (s .rows) e
+    → InPlane (s .stride) (s .columns) (s .rows) e size
+unfolding edgeOf
+in-plane s h k l q r =
+    let x = sizes-are s h in
+    let y = settings-are s l in
+    record { pair-is = rw q (omega arith); q-most = rw q (y .q-most); side-most = rw q (y .side-most); row = x .row; plane = k; room = sym r }
+
+-- ---- room
+pub room-upright : (columns rows b a : ℕ) (e : Edge) {r : Bool} → e .dir ≡ 0 → b ≡ reachBefore (e .pair) → a ≡ reachAfter (e .pair) → r ≡ roomAlong true columns rows (e .x) (e .y) b a → r ≡ hasRoom columns rows e
+unfolding hasRoom
+room-upright columns rows b a e d p q h = rw (eq-eqb _ _ d, ← p, ← q) h
+
+pub room-level : (columns rows b a : ℕ) (e : Edge) {r : Bool} → (e .dir ≡ 0 → ⊥) → b ≡ reachBefore (e .pair) → a ≡ reachAfter (e .pair) → r ≡ roomAlong true rows columns (e .y) (e .x) b a → r ≡ hasRoom columns rows e
+unfolding hasRoom
+room-level columns rows b a e d p q h = rw (ne-eqb _ _ d, ← p, ← q) h
+
+-- ---- the samples within the reach
+module _ {stride columns rows size : ℕ} {e : Edge} (h : InPlane stride columns rows e size) (b a : ℕ) (hb : b ≡ reachBefore (e .pair)) (ha : a ≡ reachAfter (e .pair)) where
+  pub upright : e .dir ≡ 0 → (b ≤ e .x) × (b + a ≤ 16) × (e .y * stride + e .x ≤ size) × (Box (e .y * stride + (e .x - b)) stride (b + a) 4 size)
+  unfolding hasRoom
+  upright d =
+      let f = pair-facts (e .pair) (h .pair-is) in
+      let bf = f .before in
+      let af = f .after in
+      let g = rw (eq-eqb _ _ d) at (h .room) in
+      let r = along-of true columns rows (e .x) (e .y) (reachBefore (e .pair)) (reachAfter (e .pair)) g in
+      let i = h .row in
+      let j = h .plane in
+      let k = mul-le-mul-right stride (r .2) in
+      (omega arith, omega arith, omega (arith, add-mul (e .y) 4 stride), box-inner (e .x - b) (e .y) (omega arith) (omega arith))
+
+  pub level : (e .dir ≡ 0 → ⊥) → (b ≤ e .y) × (b + a ≤ 16) × ((e .y - b) * stride + e .x ≤ size) × (Box ((e .y - b) * stride + e .x) stride 4 (b + a) size)
+  unfolding hasRoom
+  level d =
+      let f = pair-facts (e .pair) (h .pair-is) in
+      let bf = f .before in
+      let af = f .after in
+      let g = rw (ne-eqb _ _ d) at (h .room) in
+      let r = along-of false columns rows (e .x) (e .y) (reachBefore (e .pair)) (reachAfter (e .pair)) g in
+      let i = h .row in
+      let j = h .plane in
+      let m : e .y - b + (b + a) ≤ rows = omega arith in
+      let k = mul-le-mul-right stride m in
+      let n : e .y - b + 1 ≤ rows = omega arith in
+      let o = mul-le-mul-right stride n in
+      (omega arith, omega arith, omega (arith, add-mul (e .y - b) 1 stride), box-inner (e .x) (e .y - b) (omega arith) (omega arith))
+
+  pub over-upright : (top : ℕ) (l : List ℕ) {r : Found} → e .dir ≡ 0 → r ≡ overBox top l (e .y * stride + (e .x - b)) stride (b + a) 4 → r ≡ overEdge top stride e l
+  unfolding overEdge
+  over-upright top l d q = rw (eq-eqb _ _ d, ← hb, ← ha) q
+
+  pub over-level : (top : ℕ) (l : List ℕ) {r : Found} → (e .dir ≡ 0 → ⊥) → r ≡ overBox top l ((e .y - b) * stride + e .x) stride 4 (b + a) → r ≡ overEdge top stride e l
+  unfolding overEdge
+  over-level top l d q = rw (ne-eqb _ _ d, ← hb, ← ha) q
+
+-- ---- an accepted segment
+pub record Passed (s : Lone) (l : List ℕ) : Type 0 where
+  pub depth-ok : depthOk (s .depth) ≡ true
+  pub dir-most : s .dir ≤ 1
+  pub inside : InPlane (s .stride) (s .columns) (s .rows) (edgeOf s) (length l)
+  pub clean : overEdge (topOf (s .depth)) (s .stride) (edgeOf s) l ≡ Nothing
+
+pub passed : (s : Lone) (l : List ℕ) → loneCheck s l ≡ Accepted → Passed s l
+unfolding loneCheck
+passed s l h =
+    let a = else-parts _ _ h in
+    let b = else-parts _ _ (a .1) in
+    let c = else-parts _ _ (b .1) in
+    let d = else-parts _ _ (c .1) in
+    let e = else-parts _ _ (d .1) in
+    let sizes = unless-true _ _ (b .0) in
+    let long = leb-true _ _ (unless-true _ _ (c .0)) in
+    let settings = unless-true _ _ (d .0) in
+    let room = unless-true _ _ (e .0) in
+    record {
+      depth-ok = unless-true _ _ (a .0);
+      dir-most = settings-are s (sym settings) .dir-most;
+      inside = in-plane s (sym sizes) long (sym settings) refl (sym room);
+      clean = found-nothing _ _ (e .1);
+    }
+
+module _ (s : Lone) (l : List ℕ) (a : Answer) (h : a ≡ loneCheck s l) where
+  pub depth-passed : a ≡ Accepted → depthOk (s .depth) ≡ true
+  depth-passed e = passed s l (sym h ∙ e) .depth-ok
+
+  pub plane-passed : {e : Edge} → a ≡ Accepted → e ≡ edgeOf s → InPlane (s .stride) (s .columns) (s .rows) e (length l)
+  plane-passed e q = rw q (passed s l (sym h ∙ e) .inside)
+
+  pub lone-refused : {r : Refusal} → a ≡ Refused r → («NoWidth» r ≡ loneWidth s l) × (l ≡ lonePlane s l)
+  unfolding loneWidth answerWidth lonePlane
+  lone-refused e = (rw (← h, e), settle-refused-by (loneCheck s l) a l _ h e)
+
+  pub lone-accepted : {e : Edge} {top : ℕ} {o : Outcome} {m : List ℕ} → a ≡ Accepted → e ≡ edgeOf s → top ≡ topOf (s .depth) → EdgeFiltered top (s .stride) e l o m → (Samples (o .width) ≡ loneWidth s l) × (m ≡ lonePlane s l)
+  unfolding loneWidth answerWidth lonePlane
+  lone-accepted {e} {top} {o} {m} q he ht f =
+      let g : o .width ≡ widthAt (s .stride) (edgeOf s) l = cc (f .width) in
+      let k : m ≡ segmentOf (topOf (s .depth)) (s .stride) (edgeOf s) l = cc (f .plane) in
+      (rw (← h, q) (ap Samples g), settle-accepted-by (loneCheck s l) a l _ m h q k)
+
+pub sure : (t u : Bool) → u ≡ t → not u ≡ false → t ≡ true
+sure t u e f = sym (told-yes-not t u e f)
+
+pub pair-below : (s : Lone) {e : Edge} → true ≡ settingsOk s → e ≡ edgeOf s → e .pair < 8
+unfolding edgeOf
+pair-below s h q = let y = settings-are s h in rw q (omega arith)
+
+-- the last two checks, after those that passed
+module _ (s : Lone) (l : List ℕ) {e : Edge} (d : true ≡ depthOk (s .depth)) (z : true ≡ sizesOk s) (p : s .rows * s .stride ≤ length l) (t : true ≡ settingsOk s) (q : e ≡ edgeOf s) where
+  later : {b : Answer} → b ≡ orElse (unless (hasRoom (s .columns) (s .rows) (edgeOf s)) (Room 0)) (found (overEdge (topOf (s .depth)) (s .stride) (edgeOf s) l) Sample) → b ≡ loneCheck s l
+  unfolding loneCheck
+  later h = go-on _ _ _ (unless-good _ _ d) (go-on _ _ _ (unless-good _ _ z) (go-on _ _ _ (unless-good _ _ (is-le _ _ p)) (go-on _ _ _ (unless-good _ _ t) h)))
+
+  pub room-refused : false ≡ hasRoom (s .columns) (s .rows) e → Refused (Room 0) ≡ loneCheck s l
+  room-refused h = later (stop _ _ (unless-bad _ _ (rw q at h)))
+
+  pub room-passed : {top : ℕ} {a : Answer} → true ≡ hasRoom (s .columns) (s .rows) e → top ≡ topOf (s .depth) → a ≡ found (overEdge top (s .stride) e l) Sample → a ≡ loneCheck s l
+  room-passed {top} {a} h k r =
+      let x : a ≡ found (overEdge (topOf (s .depth)) (s .stride) (edgeOf s) l) Sample = cc in
+      later (go-on _ _ _ (unless-good _ _ (rw q at h)) x)

@@ -1,0 +1,3 @@
+-- The words in which the grid's functions speak of what the checks have passed, and its tests in their order.
+pub mod Fit
+pub mod Exactly

@@ -1,0 +1,19 @@
+-- `marks_long` tests the four lengths in turn. Assumes nothing.
+use Rattle.laws.specs.Choose.{tests}
+use Rattle.tiles.proofs.checks.marks_long.Statement.{statement}
+use Rattle.tiles.proofs.checks.marks_long.Tie as tie
+
+returns : tie.Need-returns
+returns c = search tests
+
+returns-2 : tie.Need-returns-2
+returns-2 c = search tests
+
+returns-3 : tie.Need-returns-3
+returns-3 c = search tests
+
+returns-4 : tie.Need-returns-4
+returns-4 c = search tests
+
+pub marks-long-spec : {M : Type 1} → statement M
+marks-long-spec = tie.close (tie.spec returns returns-2 returns-3 returns-4)

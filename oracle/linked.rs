@@ -1,0 +1,462 @@
+//! The functions of include/bihargesh.h beside the published Rust, linked into one program.
+//!
+//!     linked N SEED    N cases of each function: how many were accepted and refused, by number; 1 at the first difference
+//!
+//! The cases are the oracle's, with its answers: the Rust's where a case is accepted, document 01's refusals where not. Here they are lent as C
+//! lends them, with a settings list that is sometimes too short or longer than needed, flags that are none, and bytes too few or too many.
+//! Every lent list is compared whole afterwards, those for reading too.
+
+#[path = "src/ccso.rs"]
+mod ccso;
+#[path = "src/damage.rs"]
+mod damage;
+#[path = "src/frame.rs"]
+mod frame;
+#[path = "src/grid.rs"]
+mod grid;
+#[path = "src/line.rs"]
+mod line;
+#[path = "src/made.rs"]
+mod made;
+#[path = "src/picture.rs"]
+mod picture;
+#[path = "src/plane.rs"]
+mod plane;
+#[path = "src/random.rs"]
+mod random;
+#[path = "../bindings/rust/src/raw.rs"]
+mod raw;
+#[path = "src/refusals.rs"]
+mod refusals;
+#[path = "src/rust.rs"]
+mod rust;
+#[path = "src/segment.rs"]
+mod segment;
+#[path = "src/thresholds.rs"]
+mod thresholds;
+
+// The published files name each other below `crate::av2`.
+use rust as av2;
+
+use made::{Made, Make};
+use random::Random;
+use std::fmt::Debug;
+use std::process::exit;
+
+/// What a case is due: 0 or the number of a refusal, with its place.
+#[derive(Clone, Copy)]
+struct Due {
+    no: i32,
+    place: usize,
+}
+
+/// The number that was due, or what differs.
+type Compared = Result<i32, String>;
+
+/// The numbers of a case's line, read from the first on.
+struct Numbers<'a> {
+    all: &'a [i64],
+    at: usize,
+}
+
+impl Numbers<'_> {
+    /// A line without its kind.
+    fn of(made: &Made) -> Numbers<'_> {
+        Numbers { all: made.line.numbers(), at: 1 }
+    }
+
+    fn some<T: Entry>(&mut self, n: usize) -> Vec<T> {
+        let from = self.at;
+        self.at += n;
+        self.all[from..self.at].iter().map(|&n| T::from(n)).collect()
+    }
+
+    fn one<T: Entry>(&mut self) -> T {
+        self.some(1)[0]
+    }
+
+    fn list<T: Entry>(&mut self) -> Vec<T> {
+        let n = self.all[self.at] as usize;
+        self.at += 1;
+        self.some(n)
+    }
+
+    fn due(&mut self) -> Due {
+        Due { no: self.one(), place: self.one::<u64>() as usize }
+    }
+}
+
+/// An entry of a lent list; a number that its type can't hold becomes one that is bad too.
+trait Entry: Copy {
+    fn from(n: i64) -> Self;
+}
+
+impl Entry for u8 {
+    fn from(n: i64) -> u8 {
+        n as u8
+    }
+}
+
+impl Entry for u16 {
+    fn from(n: i64) -> u16 {
+        n.min(65535) as u16
+    }
+}
+
+impl Entry for u32 {
+    fn from(n: i64) -> u32 {
+        u32::try_from(n).unwrap_or(u32::MAX)
+    }
+}
+
+impl Entry for u64 {
+    fn from(n: i64) -> u64 {
+        n as u64
+    }
+}
+
+impl Entry for i8 {
+    fn from(n: i64) -> i8 {
+        n.clamp(-128, 127) as i8
+    }
+}
+
+impl Entry for i32 {
+    fn from(n: i64) -> i32 {
+        i32::try_from(n).unwrap_or(-1)
+    }
+}
+
+fn same<T: PartialEq + Debug>(what: &str, got: T, due: T) -> Result<(), String> {
+    if got == due {
+        return Ok(());
+    }
+    Err(format!("{what} differs: {}", cut(&format!("got {got:?}, due {due:?}"))))
+}
+
+/// A long text's beginning.
+fn cut(text: &str) -> String {
+    text.chars().take(400).collect()
+}
+
+/// Settings as C lends them, and what a case is due with them: a short list is refused by 3 before all else, a flag that is none by 2
+/// after the depth, and what stands beyond the numbers is not looked at.
+fn settings(random: &Random, all: Vec<i32>, due: Due, flags: &[usize]) -> (Vec<i32>, Due) {
+    let mut list = all;
+    let most = list.len();
+    match random.below(40) {
+        0 => {
+            list.truncate(random.one_of(&[0, 1, most / 2, most - 1]));
+            return (list, Due { no: 3, place: 0 });
+        }
+        1 if !flags.is_empty() => {
+            list[random.one_of(flags)] = random.one_of(&[2, 3, -1, i32::MIN, i32::MAX]);
+            return (list, if due.no == 1 { due } else { Due { no: 2, place: 0 } });
+        }
+        2..=5 => list.extend([i32::MIN, -1, 7]),
+        _ => (),
+    }
+    (list, due)
+}
+
+/// A lent list for the place of a refusal, and what is due in it.
+fn places(random: &Random, due: Due) -> (Vec<usize>, Vec<usize>) {
+    let lent = if random.once_in(10) { Vec::new() } else { vec![usize::MAX, 77] };
+    let mut after = lent.clone();
+    if due.no != 0 && !after.is_empty() {
+        after[0] = due.place;
+    }
+    (lent, after)
+}
+
+/// Bytes of another length now and then.
+fn miscounted(random: &Random, bytes: &mut Vec<u8>) -> bool {
+    let lent = bytes.len();
+    match random.below(40) {
+        0 => bytes.truncate(random.one_of(&[0, 1, lent / 2, lent.saturating_sub(1)])),
+        1 => bytes.extend(vec![0; random.size(1, 4)]),
+        _ => (),
+    }
+    bytes.len() != lent
+}
+
+fn of_thresholds(random: &Random, made: &Made) -> Compared {
+    let mut n = Numbers::of(made);
+    let (curr, prev): (u16, u16) = (n.one(), n.one());
+    let (delta_q, delta_side, depth): (i32, i32, u32) = (n.one(), n.one(), n.one());
+    let (mut no, q, side): (i32, i32, i32) = (n.one(), n.one(), n.one());
+    let mut steps: Vec<u8> = made.steps.as_deref().unwrap_or(&[]).iter().flat_map(|s| s.to_le_bytes()).collect();
+    if steps.len() == 1408 && miscounted(random, &mut steps) && no != 1 {
+        no = 4;
+    }
+    let lent = steps.clone();
+    // SAFETY: every pointer is that of a live list, beside its length; so below.
+    let answer = unsafe { raw::bihargesh_thresholds(curr, prev, delta_q, delta_side, depth, steps.as_ptr(), steps.len()) };
+    same("the answer", answer, if no == 0 { q * 65536 + side } else { -no })?;
+    same("the step table", steps, lent)?;
+    Ok(no)
+}
+
+fn of_segment(random: &Random, made: &Made) -> Compared {
+    let mut n = Numbers::of(made);
+    let [_, _, _, depth, q, side, pair, _, _, _]: [u32; 10] = n.some(10).try_into().expect("ten numbers");
+    let plane: Vec<u16> = n.list();
+    let Due { mut no, place: width } = n.due();
+    let bytes = |samples: &[u16]| -> Vec<u8> { samples.iter().flat_map(|s| s.to_le_bytes()).collect() };
+    let mut window = bytes(&plane);
+    if miscounted(random, &mut window) && no != 1 {
+        no = 3;
+    }
+    let after = if no == 0 { bytes(&n.some::<u16>(72)) } else { window.clone() };
+    let answer = unsafe { raw::bihargesh_segment(window.as_mut_ptr(), window.len(), depth, pair, q, side) };
+    same("the answer", answer, if no == 0 { width as i32 } else { -no })?;
+    same("the window", window, after)?;
+    Ok(no)
+}
+
+fn of_plane(random: &Random, made: &Made) -> Compared {
+    let mut n = Numbers::of(made);
+    let all = n.some(11);
+    let grid: [Vec<u8>; 4] = [n.list(), n.list(), n.list(), n.list()];
+    let (qindex, mut plane): (Vec<u16>, Vec<u16>) = (n.list(), n.list());
+    let steps = made.steps.clone().unwrap_or_default();
+    let due = n.due();
+    let (settings, due) = settings(random, all, due, &[7]);
+    let after = if due.no == 0 { n.some(plane.len()) } else { plane.clone() };
+    let (mut place, place_after) = places(random, due);
+    let lent = (grid.clone(), qindex.clone(), steps.clone(), settings.clone());
+    let [v, h, w, t] = &grid;
+    let answer = unsafe {
+        raw::bihargesh_plane(
+            plane.as_mut_ptr(), plane.len(), v.as_ptr(), v.len(), h.as_ptr(), h.len(), w.as_ptr(), w.len(), t.as_ptr(), t.len(),
+            qindex.as_ptr(), qindex.len(), steps.as_ptr(), steps.len(), settings.as_ptr(), settings.len(), place.as_mut_ptr(), place.len(),
+        )
+    };
+    same("the answer", answer, -due.no)?;
+    same("the place", place, place_after)?;
+    same("the plane", plane, after)?;
+    same("a list for reading", (grid, qindex, steps, settings), lent)?;
+    Ok(due.no)
+}
+
+/// The numbers of a TU grid's case.
+struct Tiles {
+    all: Vec<i32>,
+    leaves: Vec<u16>,
+    skips: Vec<u16>,
+    marks: [Vec<u8>; 4],
+    due: Due,
+    built: Option<[Vec<u8>; 4]>,
+}
+
+impl Tiles {
+    fn of(made: &Made) -> Tiles {
+        let mut n = Numbers::of(made);
+        let all = n.some(6);
+        let (leaves, skips) = (n.list(), n.list());
+        let marks: [Vec<u8>; 4] = [n.list(), n.list(), n.list(), n.list()];
+        let due = n.due();
+        let built = (due.no == 0).then(|| [0, 1, 2, 3].map(|k: usize| n.some(marks[k].len())));
+        Tiles { all, leaves, skips, marks, due, built }
+    }
+}
+
+fn of_tx_grid(random: &Random, made: &Made) -> Compared {
+    let c = Tiles::of(made);
+    let (settings, due) = settings(random, c.all, c.due, &[]);
+    let after = c.built.filter(|_| due.no == 0).unwrap_or_else(|| c.marks.clone());
+    let (mut place, place_after) = places(random, due);
+    let mut marks = c.marks;
+    let lent = (c.leaves.clone(), c.skips.clone(), settings.clone());
+    let [v, h, w, t] = &mut marks;
+    let answer = unsafe {
+        raw::bihargesh_tx_grid(
+            c.leaves.as_ptr(), c.leaves.len(), c.skips.as_ptr(), c.skips.len(), v.as_mut_ptr(), v.len(), h.as_mut_ptr(), h.len(),
+            w.as_mut_ptr(), w.len(), t.as_mut_ptr(), t.len(), settings.as_ptr(), settings.len(), place.as_mut_ptr(), place.len(),
+        )
+    };
+    same("the answer", answer, -due.no)?;
+    same("the place", place, place_after)?;
+    same("the grid", marks, after)?;
+    same("a list for reading", (c.leaves, c.skips, settings), lent)?;
+    Ok(due.no)
+}
+
+fn of_qindex_grid(random: &Random, made: &Made) -> Compared {
+    let mut n = Numbers::of(made);
+    let all = n.some(5);
+    let (superblocks, mut qindex): (Vec<u16>, Vec<u16>) = (n.list(), n.list());
+    let due = n.due();
+    let (settings, due) = settings(random, all, due, &[]);
+    let after = if due.no == 0 { n.some(qindex.len()) } else { qindex.clone() };
+    let (mut place, place_after) = places(random, due);
+    let lent = (superblocks.clone(), settings.clone());
+    let answer = unsafe {
+        raw::bihargesh_qindex_grid(
+            superblocks.as_ptr(), superblocks.len(), qindex.as_mut_ptr(), qindex.len(),
+            settings.as_ptr(), settings.len(), place.as_mut_ptr(), place.len(),
+        )
+    };
+    same("the answer", answer, -due.no)?;
+    same("the place", place, place_after)?;
+    same("the grid", qindex, after)?;
+    same("a list for reading", (superblocks, settings), lent)?;
+    Ok(due.no)
+}
+
+/// A plane kind's five lists.
+#[derive(Clone, PartialEq, Debug)]
+struct Grid {
+    marks: [Vec<u8>; 4],
+    qindex: Vec<u16>,
+}
+
+impl Grid {
+    fn lent(n: &mut Numbers) -> Grid {
+        Grid { marks: [n.list(), n.list(), n.list(), n.list()], qindex: n.list() }
+    }
+
+    /// As many entries as a grid that was lent.
+    fn left(n: &mut Numbers, lent: &Grid) -> Grid {
+        Grid { marks: [0, 1, 2, 3].map(|k: usize| n.some(lent.marks[k].len())), qindex: n.some(lent.qindex.len()) }
+    }
+}
+
+fn of_frame(random: &Random, made: &Made) -> Compared {
+    let mut n = Numbers::of(made);
+    let all = n.some(15);
+    let read: [Vec<u16>; 4] = [n.list(), n.list(), n.list(), n.list()];
+    let mut planes: [Vec<u16>; 3] = [n.list(), n.list(), n.list()];
+    let mut grids = [Grid::lent(&mut n), Grid::lent(&mut n)];
+    let steps = made.steps.clone().unwrap_or_default();
+    let due = n.due();
+    let left = if due.no == 0 { [0, 1, 2].map(|k: usize| n.some(planes[k].len())) } else { planes.clone() };
+    let built = if [0, 7, 8].contains(&due.no) { [0, 1].map(|k: usize| Grid::left(&mut n, &grids[k])) } else { grids.clone() };
+    let (settings, now) = settings(random, all, due, &[4, 5]);
+    // a fault of the settings list stands before all that the case is due
+    let (left, built) = if now.no == due.no { (left, built) } else { (planes.clone(), grids.clone()) };
+    let (mut place, place_after) = places(random, now);
+    let lent = (read.clone(), steps.clone(), settings.clone());
+    let [superblocks, leaves, chroma_leaves, skips] = &read;
+    let ([y, u, v], [luma, chroma]) = (&mut planes, &mut grids);
+    let ([lv, lh, lw, lt], [cv, ch, cw, ct]) = (&mut luma.marks, &mut chroma.marks);
+    let answer = unsafe {
+        raw::bihargesh_frame(
+            y.as_mut_ptr(), y.len(), u.as_mut_ptr(), u.len(), v.as_mut_ptr(), v.len(),
+            lv.as_mut_ptr(), lv.len(), lh.as_mut_ptr(), lh.len(), lw.as_mut_ptr(), lw.len(), lt.as_mut_ptr(), lt.len(),
+            luma.qindex.as_mut_ptr(), luma.qindex.len(),
+            cv.as_mut_ptr(), cv.len(), ch.as_mut_ptr(), ch.len(), cw.as_mut_ptr(), cw.len(), ct.as_mut_ptr(), ct.len(),
+            chroma.qindex.as_mut_ptr(), chroma.qindex.len(),
+            steps.as_ptr(), steps.len(), superblocks.as_ptr(), superblocks.len(), leaves.as_ptr(), leaves.len(),
+            chroma_leaves.as_ptr(), chroma_leaves.len(), skips.as_ptr(), skips.len(),
+            settings.as_ptr(), settings.len(), place.as_mut_ptr(), place.len(),
+        )
+    };
+    same("the answer", answer, -now.no)?;
+    same("the place", place, place_after)?;
+    same("a plane", planes, left)?;
+    same("a grid", grids, built)?;
+    same("a list for reading", (read, steps, settings), lent)?;
+    Ok(now.no)
+}
+
+fn of_ccso(random: &Random, made: &Made) -> Compared {
+    let mut n = Numbers::of(made);
+    let all = n.some(16);
+    let (luma, mut target): (Vec<u16>, Vec<u16>) = (n.list(), n.list());
+    let (flags, offsets): (Vec<u8>, Vec<i8>) = (n.list(), n.list());
+    let due = n.due();
+    let (settings, due) = settings(random, all, due, &[]);
+    let after = if due.no == 0 { n.some(target.len()) } else { target.clone() };
+    let (mut place, place_after) = places(random, due);
+    let lent = (luma.clone(), flags.clone(), offsets.clone(), settings.clone());
+    let answer = unsafe {
+        raw::bihargesh_ccso(
+            luma.as_ptr(), luma.len(), target.as_mut_ptr(), target.len(), flags.as_ptr(), flags.len(), offsets.as_ptr(), offsets.len(),
+            settings.as_ptr(), settings.len(), place.as_mut_ptr(), place.len(),
+        )
+    };
+    same("the answer", answer, -due.no)?;
+    same("the place", place, place_after)?;
+    same("the target", target, after)?;
+    same("a list for reading", (luma, flags, offsets, settings), lent)?;
+    Ok(due.no)
+}
+
+/// A function: what makes its cases, in turn; the kind of their lines where a maker has others too; and how one is compared.
+struct Part {
+    name: &'static str,
+    makes: &'static [Make],
+    kind: Option<i64>,
+    compare: fn(&Random, &Made) -> Compared,
+}
+
+const PARTS: [Part; 7] = [
+    Part { name: "bihargesh_thresholds", makes: &[thresholds::make], kind: None, compare: of_thresholds },
+    Part { name: "bihargesh_segment", makes: &[segment::make_window], kind: None, compare: of_segment },
+    Part { name: "bihargesh_plane", makes: &[plane::make, plane::make_bins], kind: None, compare: of_plane },
+    Part { name: "bihargesh_tx_grid", makes: &[grid::make], kind: Some(1), compare: of_tx_grid },
+    Part { name: "bihargesh_qindex_grid", makes: &[grid::make], kind: Some(2), compare: of_qindex_grid },
+    Part { name: "bihargesh_frame", makes: &[frame::make, frame::make_bins], kind: None, compare: of_frame },
+    Part { name: "bihargesh_ccso", makes: &[ccso::make], kind: None, compare: of_ccso },
+];
+
+/// How the cases of a part came out.
+#[derive(Default)]
+struct Counts {
+    accepted: u64,
+    changed: u64,
+    refused: [u64; 10],
+}
+
+impl Counts {
+    fn print(&self, name: &str) {
+        let refused: Vec<String> = (1..10).filter(|&k| self.refused[k] > 0).map(|k| format!("by {k}: {}", self.refused[k])).collect();
+        let cases = self.accepted + self.refused.iter().sum::<u64>();
+        println!("linked: {name}: {cases} cases, {} accepted ({} changed what was lent), {}, 0 different", self.accepted, self.changed, refused.join(", "));
+    }
+}
+
+/// N cases of a part, or the first that differs.
+fn run(part: &Part, n: u64, seed: u64) -> Result<Counts, String> {
+    let random = Random::new(seed);
+    let mut counts = Counts::default();
+    let mut last: Option<Vec<u32>> = None;
+    let mut left = n;
+    while left > 0 {
+        let make = part.makes[left as usize % part.makes.len()];
+        let made = make(&random, random.once_in(3), last.as_deref());
+        last = made.steps.clone().filter(|_| !random.once_in(20));
+        if part.kind.is_some_and(|kind| kind != made.line.numbers()[0]) {
+            continue;
+        }
+        let no = (part.compare)(&random, &made).map_err(|what| {
+            format!("{}, case {} of seed {seed}: {what}\n{}", part.name, n - left + 1, cut(&String::from_utf8_lossy(&made.line.text())))
+        })?;
+        if no == 0 {
+            counts.accepted += 1;
+            counts.changed += made.changed as u64;
+        } else {
+            counts.refused[no as usize] += 1;
+        }
+        left -= 1;
+    }
+    Ok(counts)
+}
+
+fn main() {
+    let words: Vec<u64> = std::env::args().skip(1).filter_map(|w| w.parse().ok()).collect();
+    let [n, seed] = words[..] else {
+        eprintln!("linked N SEED");
+        exit(2);
+    };
+    for part in &PARTS {
+        match run(part, n, seed) {
+            Ok(counts) => counts.print(part.name),
+            Err(what) => {
+                println!("linked: a DIFFERENCE: {what}");
+                exit(1);
+            }
+        }
+    }
+}

@@ -1,0 +1,19 @@
+//! A case with its answer, and what makes one.
+
+use crate::line::Line;
+use crate::random::Random;
+use crate::refusals::Refusal;
+
+/// A case with its answer.
+pub struct Made {
+    pub line: Line,
+    pub refusal: Option<Refusal>,
+    pub width: Option<usize>,
+    /// Whether some lent sample or grid entry ends otherwise than it was.
+    pub changed: bool,
+    /// The step table that the case is asked with, where its part has one.
+    pub steps: Option<Vec<u32>>,
+}
+
+/// Makes a case, one to be refused if asked so; it is given the step table of the case before.
+pub type Make = fn(&Random, bool, Option<&[u32]>) -> Made;
