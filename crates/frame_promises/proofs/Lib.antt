@@ -1,5 +1,4 @@
 -- The laws of a frame's answer, one file a subject.
-pub mod Chain
 pub mod Answers
 pub mod Theorems
 pub mod Lengths
