@@ -1,0 +1,3 @@
+pub mod Edges
+pub mod Exactly
+pub mod Witness

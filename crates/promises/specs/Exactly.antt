@@ -1,0 +1,23 @@
+-- A plane's tests with document 01's numbers, in their order: 1, 2, 3, 4, 5, 6, 7, 8.
+-- Assumes nothing.
+use mathlib.Core.List.{List, [], _∷_}
+use Prim.Native.Nat.{ℕ}
+use lib.ListN.{length}
+use Rattle.laws.specs.Choose.{both}
+use Rattle.rules.specs.declared.settings.Plane.{Plane}
+use Rattle.rules.specs.Numbers.{depthOk, deltaOk}
+use Rattle.rules.specs.Thresholds.{badStep}
+use Rattle.rules.specs.Plane.{Grid, planeSizesOk, planeLengthsOk, badCell, noRoom, overPlane}
+use Rattle.scan.specs.Exactly.{ask, seek, Check, check}
+
+abbrev pub planeTests : Plane → List ℕ → Grid → List ℕ → List Check
+planeTests s steps g l =
+    check 1 (ask (depthOk (s .depth)))
+    ∷ check 2 (ask (planeSizesOk s))
+    ∷ check 3 (ask (planeLengthsOk s g (length l)))
+    ∷ check 4 (seek (badStep steps))
+    ∷ check 5 (ask (both (deltaOk (s .deltaq)) (deltaOk (s .deltaside))))
+    ∷ check 6 (seek (badCell s g))
+    ∷ check 7 (seek (noRoom s g))
+    ∷ check 8 (seek (overPlane s l))
+    ∷ []
