@@ -3,4 +3,5 @@ pub mod Answers
 pub mod Theorems
 pub mod Lengths
 pub mod Planes
+pub mod Edges
 pub mod Accepts
