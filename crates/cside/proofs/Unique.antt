@@ -22,39 +22,39 @@ module _ {r s : ℤ} where
   pub steps-unique : {l m n : List ℕ} → StepsTold l r m → StepsTold l s n → (r ≡ s) × (m ≡ n)
   steps-unique t u = (t .answer ∙ sym (u .answer), t .left-is ∙ sym (u .left-is))
 
-  pub thresholds-unique : {curr prev depth : ℕ} {deltaq deltaside : ℤ} {bytes : List ℕ} → r ≡ cThresholds curr prev deltaq deltaside depth bytes → s ≡ cThresholds curr prev deltaq deltaside depth bytes → r ≡ s
-  thresholds-unique e f = e ∙ sym f
+  pub thresholds-unique : (curr prev depth : ℕ) (deltaq deltaside : ℤ) (bytes : List ℕ) → r ≡ cThresholds curr prev deltaq deltaside depth bytes → s ≡ cThresholds curr prev deltaq deltaside depth bytes → r ≡ s
+  thresholds-unique curr prev depth deltaq deltaside bytes e f = e ∙ sym f
 
-  pub segment-unique : {depth pair q side : ℕ} {bytes m n : List ℕ}
+  pub segment-unique : (depth pair q side : ℕ) (bytes : List ℕ) {m n : List ℕ}
       → (r ≡ cSegment depth pair q side bytes) × (m ≡ cWindow depth pair q side bytes)
       → (s ≡ cSegment depth pair q side bytes) × (n ≡ cWindow depth pair q side bytes)
       → (r ≡ s) × (m ≡ n)
-  segment-unique e f = (e .0 ∙ sym (f .0), e .1 ∙ sym (f .1))
+  segment-unique depth pair q side bytes e f = (e .0 ∙ sym (f .0), e .1 ∙ sym (f .1))
 
-  module _ {settings : List ℤ} {place p q : List ℕ} where
-    pub plane-unique : {steps l m n : List ℕ} {g : Grid}
+  module _ (settings : List ℤ) {place p q : List ℕ} where
+    pub plane-unique : (steps l : List ℕ) (g : Grid) {m n : List ℕ}
         → Reported (cPlaneCheck settings steps g l) l (runPlane (planeOf settings) steps g l) place r m p
         → Reported (cPlaneCheck settings steps g l) l (runPlane (planeOf settings) steps g l) place s n q
         → (r ≡ s) × (m ≡ n) × (p ≡ q)
-    plane-unique = reported-unique
+    plane-unique steps l g = reported-unique
 
-    pub tx-grid-unique : {leaves skips : List ℕ} {g m n : Marks}
+    pub tx-grid-unique : (leaves skips : List ℕ) (g : Marks) {m n : Marks}
         → Reported (listed 6 settings (txGridCheck (tuGridOf settings) leaves skips g)) g (txGridOf (tuGridOf settings) leaves skips g) place r m p
         → Reported (listed 6 settings (txGridCheck (tuGridOf settings) leaves skips g)) g (txGridOf (tuGridOf settings) leaves skips g) place s n q
         → (r ≡ s) × (m ≡ n) × (p ≡ q)
-    tx-grid-unique = reported-unique
+    tx-grid-unique leaves skips g = reported-unique
 
-    pub qindex-grid-unique : {sbq l m n : List ℕ}
+    pub qindex-grid-unique : (sbq l : List ℕ) {m n : List ℕ}
         → Reported (listed 5 settings (qGridCheck (qindexGridOf settings) sbq l)) l (qGridOf (qindexGridOf settings) sbq l) place r m p
         → Reported (listed 5 settings (qGridCheck (qindexGridOf settings) sbq l)) l (qGridOf (qindexGridOf settings) sbq l) place s n q
         → (r ≡ s) × (m ≡ n) × (p ≡ q)
-    qindex-grid-unique = reported-unique
+    qindex-grid-unique sbq l = reported-unique
 
-    pub ccso-unique : {luma flags t m n : List ℕ} {offsets : List ℤ}
+    pub ccso-unique : (luma flags t : List ℕ) (offsets : List ℤ) {m n : List ℕ}
         → Reported (listed 16 settings (ccsoCheck (offsetsOf settings) luma flags offsets t)) t (ccsoOf (offsetsOf settings) luma flags offsets t) place r m p
         → Reported (listed 16 settings (ccsoCheck (offsetsOf settings) luma flags offsets t)) t (ccsoOf (offsetsOf settings) luma flags offsets t) place s n q
         → (r ≡ s) × (m ≡ n) × (p ≡ q)
-    ccso-unique = reported-unique
+    ccso-unique luma flags t offsets = reported-unique
 
-    pub whole-frame-unique : {given : Given} {l m n : Lent} → FrameTold (cFrameOf settings given l) place r m p → FrameTold (cFrameOf settings given l) place s n q → (r ≡ s) × (m ≡ n) × (p ≡ q)
-    whole-frame-unique = frame-unique
+    pub whole-frame-unique : (given : Given) (l : Lent) {m n : Lent} → FrameTold (cFrameOf settings given l) place r m p → FrameTold (cFrameOf settings given l) place s n q → (r ≡ s) × (m ≡ n) × (p ≡ q)
+    whole-frame-unique given l = frame-unique

@@ -15,26 +15,26 @@ use Rattle.numbers.specs.Settings.{planeOf, tuGridOf, qindexGridOf, offsetsOf}
 use Rattle.entries.specs.Planes.{cPlaneCheck}
 
 module _ {a b : Answer} (settings : List ℤ) where
-  pub deblock-unique : {steps l m n : List ℕ} {g : Grid}
+  pub deblock-unique : (steps l : List ℕ) (g : Grid) {m n : List ℕ}
       → Handed (cPlaneCheck settings steps g l) l (runPlane (planeOf settings) steps g l) a m
       → Handed (cPlaneCheck settings steps g l) l (runPlane (planeOf settings) steps g l) b n
       → (a ≡ b) × (m ≡ n)
-  deblock-unique = handed-unique
+  deblock-unique steps l g = handed-unique
 
-  pub build-unique : {leaves skips : List ℕ} {g m n : Marks}
+  pub build-unique : (leaves skips : List ℕ) (g : Marks) {m n : Marks}
       → Handed (listed 6 settings (txGridCheck (tuGridOf settings) leaves skips g)) g (txGridOf (tuGridOf settings) leaves skips g) a m
       → Handed (listed 6 settings (txGridCheck (tuGridOf settings) leaves skips g)) g (txGridOf (tuGridOf settings) leaves skips g) b n
       → (a ≡ b) × (m ≡ n)
-  build-unique = handed-unique
+  build-unique leaves skips g = handed-unique
 
-  pub fill-unique : {sbq q m n : List ℕ}
+  pub fill-unique : (sbq q : List ℕ) {m n : List ℕ}
       → Handed (listed 5 settings (qGridCheck (qindexGridOf settings) sbq q)) q (qGridOf (qindexGridOf settings) sbq q) a m
       → Handed (listed 5 settings (qGridCheck (qindexGridOf settings) sbq q)) q (qGridOf (qindexGridOf settings) sbq q) b n
       → (a ≡ b) × (m ≡ n)
-  fill-unique = handed-unique
+  fill-unique sbq q = handed-unique
 
-  pub apply-unique : {luma flags t m n : List ℕ} {offsets : List ℤ}
+  pub apply-unique : (luma flags t : List ℕ) (offsets : List ℤ) {m n : List ℕ}
       → Handed (listed 16 settings (ccsoCheck (offsetsOf settings) luma flags offsets t)) t (ccsoOf (offsetsOf settings) luma flags offsets t) a m
       → Handed (listed 16 settings (ccsoCheck (offsetsOf settings) luma flags offsets t)) t (ccsoOf (offsetsOf settings) luma flags offsets t) b n
       → (a ≡ b) × (m ≡ n)
-  apply-unique = handed-unique
+  apply-unique luma flags t offsets = handed-unique

@@ -17,7 +17,7 @@ same-length : tie.Need-same-length
 same-length c = search needs
 
 returns-2 : tie.Need-returns-2
-returns-2 c = taken _ (c .before .before .if1 .left) (c .before .put-steps .ensures)
+returns-2 c = taken _ (c .before .before .before .before .if1 .left) (c .before .before .put-steps .ensures)
 
 pub bihargesh-steps-spec : {M : Type 1} → statement M
 bihargesh-steps-spec =
