@@ -8,8 +8,8 @@ use Rattle.rules.specs.declared.refusals.Answer.the-variants.{Accepted, Refused
 use Rattle.rules.specs.Refusals.{orElse}
 use Rattle.rules.specs.Thresholds.{stepsCheck}
 use Rattle.rules.specs.Frame.{Given, Lent, Done, done, lengthsOf, builtGrids, frameSizes, frameLengths, frameShape, frameSettings, frameLeaves, frameGiven, frameEarly, frameRoom, frameSamples, frameLate, frameBuilt, orDone, frameOf}
-use Rattle.frame_promises.specs.Chain.{Exactly}
-use Rattle.frame_promises.proofs.Chain.{exactly, else-joined}
+use Rattle.scan.specs.Exactly.{Exactly}
+use Rattle.scan.proofs.Exactly.{exactly, else-joined}
 use Rattle.frame_promises.specs.Exactly.{frameTests}
 
 -- the early checks, then the late ones

@@ -1,7 +1,7 @@
 -- The laws of a frame's answer, one file a subject.
-pub mod Chain
 pub mod Answers
 pub mod Theorems
 pub mod Lengths
 pub mod Planes
+pub mod Edges
 pub mod Accepts

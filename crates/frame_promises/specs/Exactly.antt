@@ -9,7 +9,7 @@ use Rattle.rules.specs.Thresholds.{badStep}
 use Rattle.rules.specs.TuGrid.{capOk, badLeaf}
 use Rattle.rules.specs.Plane.{noRoom, overPlane}
 use Rattle.rules.specs.Frame.{Given, Lent, lengthsOf, lumaPlane, chromaPlane, chromaOn, strideOk, lumaLong, chromaLong, givenLong, builtGrids}
-use Rattle.frame_promises.specs.Chain.{Check, check, ask, seek, andThen, askedIf}
+use Rattle.scan.specs.Exactly.{Check, check, ask, seek, andThen, askedIf}
 
 -- 6 can't occur: the grids are built
 abbrev pub frameTests : Frame → Given → Lent → List Check

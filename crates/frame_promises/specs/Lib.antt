@@ -1,3 +1,2 @@
 -- The tests of a frame in document 01's order.
-pub mod Chain
 pub mod Exactly

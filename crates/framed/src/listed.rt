@@ -18,7 +18,7 @@ pub struct Outcome {
 }
 
 // Deblocks a frame, or says where it was refused and leaves its planes as lent.
-fn outcome(
+fn deblock_given(
     y: &mut [u16],
     u: &mut [u16],
     v: &mut [u16],
@@ -66,7 +66,7 @@ pub fn deblock_asked(
     let d = at.chromaend;
     let e = at.skips;
     let g = at.skipsend;
-    outcome(
+    deblock_given(
         y,
         u,
         v,

@@ -5,34 +5,34 @@ use Rattle.framed.proofs.deblocking.deblock.Statement.{statement}
 use Rattle.framed.proofs.deblocking.deblock.Tie as tie
 
 marks-requires : tie.Need-marks-requires
-marks-requires c κs = search needs
+marks-requires c κs = tt
 
 marks-requires-2 : tie.Need-marks-requires-2
-marks-requires-2 c κs = search needs
+marks-requires-2 c κs = tt
 
 marks-requires-3 : tie.Need-marks-requires-3
-marks-requires-3 c κs = search needs
+marks-requires-3 c κs = tt
 
 marks-requires-4 : tie.Need-marks-requires-4
-marks-requires-4 c κs = search needs
+marks-requires-4 c κs = tt
 
 indices-requires : tie.Need-indices-requires
-indices-requires c κs = search needs
+indices-requires c κs = tt
 
 marks-requires-5 : tie.Need-marks-requires-5
-marks-requires-5 c κs = search needs
+marks-requires-5 c κs = tt
 
 marks-requires-6 : tie.Need-marks-requires-6
-marks-requires-6 c κs = search needs
+marks-requires-6 c κs = tt
 
 marks-requires-7 : tie.Need-marks-requires-7
-marks-requires-7 c κs = search needs
+marks-requires-7 c κs = tt
 
 marks-requires-8 : tie.Need-marks-requires-8
-marks-requires-8 c κs = search needs
+marks-requires-8 c κs = tt
 
 indices-requires-2 : tie.Need-indices-requires-2
-indices-requires-2 c κs = search needs
+indices-requires-2 c κs = tt
 
 slice-aggregate-deblock-frame : tie.Need-slice-aggregate-deblock-frame
 slice-aggregate-deblock-frame c = search needs
@@ -65,7 +65,7 @@ slice-aggregate-deblock-frame-10 : tie.Need-slice-aggregate-deblock-frame-10
 slice-aggregate-deblock-frame-10 c = search needs
 
 deblock-frame-requires : tie.Need-deblock-frame-requires
-deblock-frame-requires c κs = search needs
+deblock-frame-requires c κs = tt
 
 same-length : tie.Need-same-length
 same-length c = search needs
