@@ -1,4 +1,4 @@
--- The number at a place of a line: one space before it, a minus sign, digits, and the line's end or a space after it. Assumes nothing.
+-- The number at a place of a line: one space before it, a minus sign, digits, and the line's end, a space or a tab after it. Assumes nothing.
 use Prim.Native.Nat.{ℕ, _+_, _-_}
 use mathlib.Core.List.{List}
 use mathlib.Core.Bool.{Bool, true, false}
@@ -22,9 +22,13 @@ nothing end = record { negative = false; size = 0; rest = record { at = end; end
 unfoldable pub past : List ℕ → ℕ → ℕ → ℕ → ℕ
 past xs at end b = pick (ltb at end) (pick (eqb (getD xs at 0) b) (at + 1) at) at
 
--- the line ends here, or a space stands here
+-- a space or a tab
+unfoldable pub blankOf : ℕ → Bool
+blankOf b = pick (eqb b 32) true (eqb b 9)
+
+-- the line ends here, or a space or a tab stands here
 unfoldable pub ends : List ℕ → ℕ → ℕ → Bool
-ends xs at end = pick (ltb at end) (eqb (getD xs at 0) 32) true
+ends xs at end = pick (ltb at end) (blankOf (getD xs at 0)) true
 
 -- a run of at least one digit that ends where it should is a number
 unfoldable pub closed : List ℕ → Bool → ℕ → Run → ℕ → Number

@@ -4,7 +4,7 @@ ghost use mathlib.Core.Bool.{true};
 ghost use Prim.Native.Nat.{_+_, _-_, _*_, _≤_, _<_};
 ghost use lib.ListN.{length};
 ghost use Rattle.cases.specs.Digits.{goesOn, readDigits};
-ghost use Rattle.cases.specs.Numbers.{nothing, past, ends, closed, signedAt, wholeLine, numberAt};
+ghost use Rattle.cases.specs.Numbers.{nothing, past, blankOf, ends, closed, signedAt, wholeLine, numberAt};
 
 // A place in a line: its next byte, the line's end, and whether every number so far was there.
 pub struct Cursor {
@@ -98,13 +98,23 @@ fn past_byte(text: &[u8], at: usize, end: usize, b: u8) -> usize
     at
 }
 
-// The line or a space follows a number.
+// A space or a tab.
+fn blank(b: u8) -> bool
+    ensures { λ r. ⌜ r ≡ blankOf b ⌝ }
+{
+    if b == 32 {
+        return true;
+    }
+    b == 9
+}
+
+// The line's end, a space or a tab follows a number.
 fn ends_here(text: &[u8], at: usize, end: usize) -> bool
     requires { ⌜ end ≤ length (now text) ⌝ }
     ensures { λ r. ⌜ r ≡ ends (now (text .entry)) at end ⌝ }
 {
     if at < end {
-        return text[at] == 32;
+        return blank(text[at]);
     }
     true
 }

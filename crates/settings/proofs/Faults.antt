@@ -27,24 +27,24 @@ unfolding pick
 by-test P true a b f g = f refl
 by-test P false a b f g = g refl
 
-ended-given : (l : ℕ) (s : State) → Faultless (ended l s)
+ended-given : (at l : ℕ) (s : State) → Faultless (ended at l s)
 unfolding ended missingOf
-ended-given l s =
-    by-test (λ (k : ℕ). k ≡ 0 → Given s) (eqb (getD (s .places) 1 0) 0) 1 (pick (eqb (getD (s .places) 2 0) 0) 2 0)
+ended-given at l s =
+    by-test (λ (k : ℕ). k ≡ 0 → Given s) (eqb (getD (s .places) 1 0) 0) _ _
     (λ e h. absurd (omega arith))
-    (λ e. by-test (λ (k : ℕ). k ≡ 0 → Given s) (eqb (getD (s .places) 2 0) 0) 2 0
+    (λ e. by-test (λ (k : ℕ). k ≡ 0 → Given s) (eqb (getD (s .places) 2 0) 0) _ _
     (λ f h. absurd (omega arith))
     (λ f h. record { version = eqb-false (getD (s .places) 1 0) 0 e; qindex = eqb-false (getD (s .places) 2 0) 0 f }))
 
 walk-given : (xs : List ℕ) (n at l : ℕ) (s : State) → Faultless (walk xs n at l s)
 unfolding walk
-walk-given xs zero at l s = ended-given l s
+walk-given xs zero at l s = ended-given at l s
 walk-given xs (suc n) at l s =
     by-test Faultless (ltb at (length xs)) _ _
     (λ e. by-test Faultless (eqb (saidAt xs at s .answer) 0) _ _
     (λ f. walk-given xs n (lineEnd xs at + 1) (l + 1) (saidAt xs at s .state))
     (λ f h. absurd (eqb-false (saidAt xs at s .answer) 0 f h)))
-    (λ e. ended-given l s)
+    (λ e. ended-given at l s)
 
 -- where the answer is no fault, both are there
 pub parse-given : (xs : List ℕ) (s : State) → Faultless (parseOf xs s)
@@ -52,6 +52,6 @@ unfolding parseOf
 parse-given xs s = walk-given xs (length xs) 0 1 s
 
 -- an empty text lacks `settings`, kind 1, at line 1
-pub parse-empty : (ls : Lists) → parseOf [] (record { lists = ls; places = firstPlaces }) .fault ≡ record { line = 1; kind = 1 }
+pub parse-empty : (ls : Lists) → parseOf [] (record { lists = ls; places = firstPlaces }) .fault ≡ record { line = 1; kind = 1; at = 0 }
 unfolding parseOf walk ended missingOf firstPlaces ruleOf each pick
 parse-empty ls = refl

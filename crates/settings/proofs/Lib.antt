@@ -4,5 +4,6 @@ pub mod Taking
 pub mod Signs
 pub mod Settling
 pub mod Walking
+pub mod Numbering
 pub mod Faults
 pub mod Smallest

@@ -1,18 +1,18 @@
 -- What a line says, put together from what its parts say. Assumes nothing.
-use mathlib.Core.Path.{_≡_, refl, ap, _∙_}
+use mathlib.Core.Path.{_≡_, refl, sym, ap, _∙_}
 use mathlib.Core.List.{List, [], _∷_}
 use mathlib.Core.Bool.{Bool, true, false, not}
-use Prim.Native.Nat.{ℕ, _-_}
+use Prim.Native.Nat.{ℕ, _-_, _≤_, _<_}
 use native.Mathlib.Omega.{arith}
-use borrow.Author.Tests.{eq-eqb, ne-eqb}
-use lib.ListN.{length, getD, set}
+use borrow.Author.Tests.{eq-eqb, ne-eqb, le-leb, lt-leb}
+use lib.ListN.{length, getD, set, List·getD-eq-default}
 use lib.IntN.{ℤ, pos, negsuc}
-use lib.Dec.{eqb}
+use lib.Dec.{eqb, leb}
 use mir.Syntax.{w32}
 use mir.Val.{SFits, toZ, ofZ}
 use mir.Facts.{toZ-ofZ}
 use Rattle.laws.specs.Choose.{pick, both}
-use Rattle.laws.specs.Whole.{over}
+use Rattle.laws.specs.Whole.{over, under}
 use Rattle.words.specs.declared.spell.Word.{Word}
 use Rattle.words.specs.Places.{seek, inkAt}
 use Rattle.words.specs.Words.{wordAt}
@@ -22,7 +22,7 @@ use Rattle.settings.specs.declared.values.Taken.{Taken}
 use Rattle.settings.specs.Names.{kindOf}
 use Rattle.settings.specs.Rules.{ruleOf}
 use Rattle.settings.specs.Values.{readSigned, readUpTo, readOffset, takenTo}
-use Rattle.settings.specs.Lines.{Lists, Kept, State, Said, lists, inNumbers, inShorts, inSteps, inFlags, inOffsets, takeOf, startOf, isOne, versionBad, verdictOf, settled, judged, ruled, fillOf, tooSoon, settingOf, namedOf, inkedOf, lineOf}
+use Rattle.settings.specs.Lines.{Lists, Kept, State, Said, lists, inNumbers, inShorts, inSteps, inFlags, inOffsets, takeOf, startOf, isOne, versionBad, isFlag, flagBad, verdictOf, settled, judged, ruled, fillOf, tooSoon, settingOf, namedOf, inkedOf, lineOf}
 
 -- ---- the lists' lengths
 
@@ -96,6 +96,44 @@ pub version-some : (kind up : ℕ) (numbers : List ℤ) → kind ≡ 1 → SFits
     → not (eqb up 1) ≡ versionBad kind numbers
 unfolding versionBad both
 version-some kind up numbers k f e = rw (k, e, toZ-ofZ f, one-is (getD numbers 0 (pos 0)))
+
+-- ---- the flag
+
+flag-is : (z : ℤ) → under z ≡ 0 → leb (over z) 1 ≡ isFlag z
+unfolding isFlag
+flag-is (pos n) h = refl
+flag-is (negsuc n) h = absurd (omega arith)
+
+flag-below : (z : ℤ) → (under z ≡ 0 → ⊥) → false ≡ isFlag z
+unfolding isFlag
+flag-below (pos n) h = absurd (h refl)
+flag-below (negsuc n) h = refl
+
+module _ (kind : ℕ) (numbers : List ℤ) (k : kind ≡ 11) where
+  pub flag-none : length numbers < 8 → false ≡ flagBad kind numbers
+  unfolding flagBad both isFlag
+  flag-none h = rw (k, List·getD-eq-default numbers (pos 0) {n = 7} (omega arith))
+
+  -- as `split` gave it
+  module _ (down up : ℕ) (f : SFits w32 (getD numbers 7 (pos 0)))
+      (e : (up ≡ over (toZ w32 (ofZ w32 (getD numbers 7 (pos 0))))) × (down ≡ under (toZ w32 (ofZ w32 (getD numbers 7 (pos 0)))))) where
+    below-is : down ≡ under (getD numbers 7 (pos 0))
+    below-is = e .1 ∙ ap (λ (z : ℤ). under z) (toZ-ofZ f)
+
+    pub flag-down : (down ≡ 0 → ⊥) → true ≡ flagBad kind numbers
+    unfolding flagBad both
+    flag-down n = rw (k, ← flag-below (getD numbers 7 (pos 0)) (λ z. n (below-is ∙ z)))
+
+    above-is : up ≡ over (getD numbers 7 (pos 0))
+    above-is = e .0 ∙ ap (λ (z : ℤ). over z) (toZ-ofZ f)
+
+    pub flag-good : down ≡ 0 → up ≤ 1 → false ≡ flagBad kind numbers
+    unfolding flagBad both
+    flag-good n h = rw (k, ← flag-is (getD numbers 7 (pos 0)) (sym below-is ∙ n), ← above-is, le-leb _ _ h)
+
+    pub flag-big : down ≡ 0 → 1 < up → true ≡ flagBad kind numbers
+    unfolding flagBad both
+    flag-big n h = rw (k, ← flag-is (getD numbers 7 (pos 0)) (sym below-is ∙ n), ← above-is, lt-leb _ _ h)
 
 -- ---- the line's numbers, judged
 

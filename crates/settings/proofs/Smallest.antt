@@ -6,16 +6,17 @@ use lib.IntN.{pos}
 use lib.ListN.{getD}
 use Rattle.laws.specs.Choose.{pick, both, either, all}
 use Rattle.laws.specs.Loops.{each}
-use Rattle.words.specs.Places.{seek, newlineAt, remark, remarkAt, inkAt}
+use Rattle.words.specs.Places.{seek, newlineAt, remark, remarkAt, blankOf, inkAt}
 use Rattle.words.specs.Words as Words
 use Rattle.cases.specs.Digits as Digits
+use Rattle.cases.specs.Numbers as Numbers
 use Rattle.cases.specs.Numbers.{nothing, past, ends, closed, signedAt, numberAt}
 use Rattle.cases.specs.Typed.{unsignedOf, fromZero, signedOf}
 use Rattle.settings.specs.Names.{kindOf}
 use Rattle.settings.specs.Rules.{ruleOf, firstPlaces}
 use Rattle.settings.specs.Values.{readSigned, readUpTo, skipped, goesOn, taken, takenTo}
-use Rattle.settings.specs.Lines.{State, lists, inNumbers, inShorts, takeOf, startOf, wholeOf, isOne, versionBad, verdictOf, settled, judged, ruled, fillOf, tooSoon, settingOf, namedOf, inkedOf, lineOf}
-use Rattle.settings.specs.Text.{missingOf, ended, lineEnd, saidAt, walk, parseOf}
+use Rattle.settings.specs.Lines.{State, lists, inNumbers, inShorts, takeOf, startOf, wholeOf, isOne, versionBad, flagBad, verdictOf, settled, judged, ruled, fillOf, tooSoon, settingOf, namedOf, inkedOf, lineOf}
+use Rattle.settings.specs.Text.{aloneOf, missingOf, ended, lineEnd, saidAt, walk, parseOf}
 
 -- settings 1, a newline, qindex 160
 abbrev smallest : List ℕ
@@ -29,7 +30,7 @@ start = record { lists = lists (pos 0 ∷ []) (0 ∷ []) (0 ∷ []) (0 ∷ []) (
 
 -- no fault after two lines, the version and the qindex stand in their lists
 pub smallest-read :
-    (parseOf smallest start .fault ≡ record { line = 3; kind = 0 })
+    (parseOf smallest start .fault ≡ record { line = 3; kind = 0; at = 22 })
     × (parseOf smallest start .state .lists ≡ lists (pos 1 ∷ []) (160 ∷ []) (0 ∷ []) (0 ∷ []) (pos 0 ∷ []))
-unfolding parseOf walk ended missingOf lineEnd saidAt lineOf inkedOf namedOf settingOf tooSoon fillOf ruled judged settled verdictOf versionBad isOne wholeOf startOf takeOf inNumbers inShorts takenTo taken skipped goesOn readSigned readUpTo kindOf ruleOf firstPlaces each pick both either all seek newlineAt remark remarkAt inkAt Words.wordAt Words.endedAt Words.readLetters Words.goesOn Digits.readDigits Digits.goesOn nothing past ends closed signedAt numberAt unsignedOf fromZero signedOf
+unfolding parseOf walk ended missingOf aloneOf lineEnd saidAt lineOf inkedOf namedOf settingOf tooSoon fillOf ruled judged settled verdictOf versionBad isOne flagBad wholeOf startOf takeOf inNumbers inShorts takenTo taken skipped goesOn readSigned readUpTo kindOf ruleOf firstPlaces each pick both either all seek newlineAt remark remarkAt blankOf inkAt Words.wordAt Words.endedAt Words.readLetters Words.goesOn Digits.readDigits Digits.goesOn nothing past Numbers.blankOf ends closed signedAt numberAt unsignedOf fromZero signedOf
 smallest-read = (refl, refl)

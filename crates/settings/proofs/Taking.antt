@@ -20,7 +20,7 @@ use Rattle.cases.specs.declared.typed.Signed.{Signed}
 use Rattle.cases.specs.declared.typed.Unsigned.{Unsigned}
 use Rattle.cases.specs.Numbers.{numberAt}
 use Rattle.cases.specs.Typed.{signedOf, unsignedOf}
-use Rattle.settings.specs.Values.{Read, Put, readSigned, readUpTo, readOffset, offsetOf, skipped, goesOn, taken, takenTo}
+use Rattle.settings.specs.Values.{Read, Put, readSigned, readUpTo, readOffset, offsetOf, offsetRest, skipped, goesOn, taken, takenTo}
 
 -- a line that is not in the text, and one that is
 module _ (xs : List ℕ) (c : Cursor) where
@@ -64,9 +64,9 @@ module _ (xs : List ℕ) (c : Cursor) where
     unfolding readOffset
     offset-value v g f = toZ-ofZ f ∙ g ∙ ap (λ (m : Number). offsetOf (m .negative) (m .size)) e
 
-    pub offset-rest : n .rest ≡ readOffset xs c .rest
+    pub offset-rest : (r : Cursor) → r ≡ offsetRest n → r ≡ readOffset xs c .rest
     unfolding readOffset
-    offset-rest = ap (λ (m : Number). m .rest) e
+    offset-rest r f = f ∙ ap offsetRest e
 
 pub ruleset reading = (needs, signed-value, signed-rest, unsigned-value, unsigned-rest, offset-value, offset-rest)
 

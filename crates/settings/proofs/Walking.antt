@@ -25,7 +25,7 @@ module _ (xs : List ℕ) (n at l : ℕ) (s : State) (whole : Parsed) (sized : n 
     unfolding saidAt
     saying = rw (← ending, ← stops) said
 
-    step : walk xs (n + 1 - l) at l s ≡ pick (eqb k 0) (walk xs (n + 1 - (l + 1)) (e + 1) (l + 1) s′) (record { state = s′; fault = record { line = l; kind = k } })
+    step : walk xs (n + 1 - l) at l s ≡ pick (eqb k 0) (walk xs (n + 1 - (l + 1)) (e + 1) (l + 1) s′) (record { state = s′; fault = record { line = l; kind = k; at = at } })
     unfolding walk
     step =
         let m : n + 1 - l ≡ suc (n + 1 - (l + 1)) = omega arith in
@@ -36,21 +36,21 @@ module _ (xs : List ℕ) (n at l : ℕ) (s : State) (whole : Parsed) (sized : n 
     pub walk-on : (a m : ℕ) → k ≡ 0 → a ≡ e + 1 → m ≡ l + 1 → walk xs (n + 1 - m) a m s′ ≡ whole
     walk-on a m h p q = rw (p, q) (pick-yes _ _ _ _ (is-eq k 0 h) refl ∙ sym step ∙ inv)
 
-    pub walk-bad : (m : ℕ) → (k ≡ 0 → ⊥) → m ≡ l → record { state = s′; fault = record { line = m; kind = k } } ≡ whole
+    pub walk-bad : (m : ℕ) → (k ≡ 0 → ⊥) → m ≡ l → record { state = s′; fault = record { line = m; kind = k; at = at } } ≡ whole
     walk-bad m h q = rw q (pick-no _ _ _ _ (not-eq k 0 h) refl ∙ sym step ∙ inv)
 
   -- no line is left
   module _ (k : ℕ) (past : n ≤ at) (missed : k ≡ missingOf (s .places)) where
-    ended-is : record { state = s; fault = record { line = l; kind = k } } ≡ ended l s
+    ended-is : record { state = s; fault = record { line = l; kind = k; at = at } } ≡ ended at l s
     unfolding ended
     ended-is = rw (← missed)
 
-    over-is : (m : ℕ) → record { state = s; fault = record { line = l; kind = k } } ≡ walk xs m at l s
+    over-is : (m : ℕ) → record { state = s; fault = record { line = l; kind = k; at = at } } ≡ walk xs m at l s
     unfolding walk
     over-is zero = ended-is
     over-is (suc m) = pick-no _ _ _ _ (sym (le-ltb at (length xs) (omega arith))) ended-is
 
-    pub walk-end : (m : ℕ) → m ≡ l → record { state = s; fault = record { line = m; kind = k } } ≡ whole
+    pub walk-end : (m : ℕ) → m ≡ l → record { state = s; fault = record { line = m; kind = k; at = at } } ≡ whole
     walk-end m q = rw q (over-is (n + 1 - l) ∙ inv)
 
 -- the first line is line 1

@@ -98,9 +98,18 @@ isOne (negsuc n) = false
 unfoldable pub versionBad : ℕ → List ℤ → Bool
 versionBad kind numbers = both (eqb kind 1) (not (isOne (getD numbers 0 (pos 0))))
 
+unfoldable pub isFlag : ℤ → Bool
+isFlag (pos n) = leb n 1
+isFlag (negsuc n) = false
+
+-- whether chroma is deblocked is the signed number at place 7, and must be 0 or 1
+unfoldable pub flagBad : ℕ → List ℤ → Bool
+flagBad kind numbers = both (eqb kind 11) (not (isFlag (getD numbers 7 (pos 0))))
+
 -- 0, or the kind that was expected
 unfoldable pub verdictOf : Taken → ℕ → ℕ → ℕ → List ℤ → ℕ
-verdictOf t from each kind numbers = pick (wholeOf t from each) (pick (versionBad kind numbers) 1 0) kind
+verdictOf t from each kind numbers =
+    pick (wholeOf t from each) (pick (versionBad kind numbers) 1 (pick (flagBad kind numbers) 11 0)) kind
 
 -- ---- the line
 

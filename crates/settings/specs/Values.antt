@@ -8,8 +8,9 @@ use lib.Dec.{leb, ltb}
 use Rattle.laws.specs.Choose.{pick, both}
 use Rattle.words.specs.Places.{seek, inkAt}
 use Rattle.cases.specs.declared.number.Cursor.{Cursor}
+use Rattle.cases.specs.declared.number.Number.{Number}
 use Rattle.cases.specs.Numbers.{numberAt}
-use Rattle.cases.specs.Typed.{unsignedOf, signedOf}
+use Rattle.cases.specs.Typed.{failed, unsignedOf, signedOf}
 use Rattle.settings.specs.declared.values.Taken.{Taken}
 
 -- a number, and what is left of the line
@@ -32,7 +33,7 @@ readSigned xs c = record { value = signedOf (numberAt xs c) .value; rest = signe
 unfoldable pub readUpTo : ℕ → List ℕ → Cursor → Read ℕ
 readUpTo most xs c = record { value = unsignedOf most (numberAt xs c) .value; rest = unsignedOf most (numberAt xs c) .rest }
 
--- an offset is -10..7; what is below stands as -128, what is above as 127, and the rules refuse both
+-- an offset is -10..7; what is below stands as -128, what is above as 127
 unfoldable pub belowOf : ℕ → ℤ
 belowOf size = pick (leb size 10) (negℤ (pos size)) (negsuc 127)
 
@@ -42,8 +43,12 @@ aboveOf size = pick (leb size 7) (pos size) (pos 127)
 unfoldable pub offsetOf : Bool → ℕ → ℤ
 offsetOf negative size = pick negative (belowOf size) (aboveOf size)
 
+-- the line is given up after an offset that is none
+unfoldable pub offsetRest : Number → Cursor
+offsetRest n = pick (pick (n .negative) (leb (n .size) 10) (leb (n .size) 7)) (n .rest) (failed (n .rest))
+
 unfoldable pub readOffset : List ℕ → Cursor → Read ℤ
-readOffset xs c = record { value = offsetOf (numberAt xs c .negative) (numberAt xs c .size); rest = numberAt xs c .rest }
+readOffset xs c = record { value = offsetOf (numberAt xs c .negative) (numberAt xs c .size); rest = offsetRest (numberAt xs c) }
 
 -- ---- a line of them
 

@@ -2,8 +2,8 @@
 ghost use mathlib.Core.Path.{_≡_};
 ghost use Prim.Native.Nat.{_≤_};
 ghost use lib.ListN.{length};
-ghost use Rattle.settings.specs.Lines.{Kept, lists, state, takeOf, startOf, wholeOf, versionBad, verdictOf, fillOf, tooSoon, settingOf, lineOf};
-ghost use Rattle.settings.specs.Text.{missingOf, parseOf};
+ghost use Rattle.settings.specs.Lines.{Kept, lists, state, takeOf, startOf, wholeOf, versionBad, flagBad, verdictOf, fillOf, tooSoon, settingOf, lineOf};
+ghost use Rattle.settings.specs.Text.{aloneOf, missingOf, kindTo, parseOf, linesOf};
 use crate::names::kind;
 use crate::names::rule_of;
 use crate::values;
@@ -15,10 +15,11 @@ use words::place::line_end;
 use words::place::spaces;
 use words::spell::read_word;
 
-// The line, and the kind of setting that was expected there; kind 0 is no fault, 21 is any name.
+// The line, the kind of setting that was expected there, and the place where the line starts; kind 0 is no fault, 21 is any name.
 pub struct Fault {
     pub line: usize,
     pub kind: usize,
+    pub at: usize,
 }
 
 // The numbers after a name, into the list that is theirs.
@@ -90,6 +91,26 @@ fn version_bad(kind: usize, numbers: &[i32]) -> bool
     version.up != 1
 }
 
+// Whether chroma is deblocked: 0 or 1.
+fn flag_bad(kind: usize, numbers: &[i32]) -> bool
+    ensures { λ r. ⌜ r ≡ flagBad kind (now (numbers .entry)) ⌝ }
+{
+    if kind != 11 {
+        return false;
+    }
+    if numbers.len() < 8 {
+        return false;
+    }
+    let flag = split(numbers[7]);
+    if flag.down != 0 {
+        return true;
+    }
+    if flag.up <= 1 {
+        return false;
+    }
+    true
+}
+
 // What is to be said of a line's numbers: 0, or the kind that was expected.
 fn verdict(t: Taken, from: usize, each: usize, kind: usize, numbers: &[i32]) -> usize
     requires { ⌜ from ≤ t .at ⌝ }
@@ -100,6 +121,9 @@ fn verdict(t: Taken, from: usize, each: usize, kind: usize, numbers: &[i32]) -> 
     }
     if version_bad(kind, numbers) {
         return 1;
+    }
+    if flag_bad(kind, numbers) {
+        return 11;
     }
     0
 }
@@ -231,7 +255,17 @@ fn line(
     )
 }
 
-// What is missing where every line was good: the first setting, or a qindex.
+// Whether a plane has offsets and no CCSO numbers: each place as it is, and where its kind begins.
+fn alone(ccso: usize, none: usize, offsets: usize, first: usize) -> bool
+    ensures { λ r. ⌜ r ≡ aloneOf ccso none offsets first ⌝ }
+{
+    if ccso != none {
+        return false;
+    }
+    offsets != first
+}
+
+// What is missing where every line was good: the first setting, a qindex, or the CCSO numbers of a plane with offsets.
 fn missing(places: &[usize; 21]) -> usize
     ensures { λ r. ⌜ r ≡ missingOf (now (places .entry)) ⌝ }
 {
@@ -240,6 +274,15 @@ fn missing(places: &[usize; 21]) -> usize
     }
     if places[2] == 0 {
         return 2;
+    }
+    if alone(places[12], 16, places[18], 0) {
+        return 12;
+    }
+    if alone(places[13], 32, places[19], 128) {
+        return 13;
+    }
+    if alone(places[14], 48, places[20], 256) {
+        return 14;
     }
     0
 }
@@ -275,7 +318,11 @@ pub fn parse(
             places,
         );
         if k != 0 {
-            return Fault { line: l, kind: k };
+            return Fault {
+                line: l,
+                kind: k,
+                at,
+            };
         }
         at = end + 1;
         l += 1;
@@ -283,5 +330,33 @@ pub fn parse(
     Fault {
         line: l,
         kind: missing(places),
+        at,
+    }
+}
+
+// The kind of a line that says something up to a place, 0 for none.
+fn kind_of(text: &[u8], from: usize, stop: usize) -> usize
+    requires { ⌜ (from ≤ stop) × (stop ≤ length (now text)) ⌝ }
+    ensures { λ r. ⌜ (r ≡ kindTo (now (text .entry)) from stop) × (r ≤ 20) ⌝ }
+{
+    let at = spaces(text, from, stop);
+    let w = read_word(text, at, stop);
+    kind(w.value)
+}
+
+// The last line of each kind; a line of none is counted at 0.
+pub fn lines_of(text: &[u8], lines: &mut [usize; 21])
+    ensures { λ _. ⌜ now (lines .exit) ≡ linesOf (now (text .entry)) (now (lines .entry)) ⌝ }
+{
+    let n = text.len();
+    let mut at: usize = 0;
+    let mut l: usize = 1;
+    while at < n {
+        let newline = line_end(text, at, n);
+        let stop = content_end(text, at, newline);
+        let k = kind_of(text, at, stop);
+        lines[k] = l;
+        at = newline + 1;
+        l += 1;
     }
 }

@@ -1,9 +1,12 @@
 // The numbers of one line, into a lent list from a place on.
 ghost use mathlib.Core.Path.{_≡_};
 ghost use Prim.Native.Nat.{_≤_};
+ghost use lib.Dec.{leb};
 ghost use lib.ListN.{length};
-ghost use Rattle.settings.specs.Values.{readSigned, readUpTo, readOffset, belowOf, aboveOf, offsetOf, skipped, goesOn, takenTo};
+ghost use Rattle.laws.specs.Choose.{pick};
+ghost use Rattle.settings.specs.Values.{readSigned, readUpTo, readOffset, belowOf, aboveOf, offsetOf, offsetRest, skipped, goesOn, takenTo};
 use cases::Cursor;
+use cases::Number;
 use laws::least;
 use words::place::spaces;
 
@@ -145,6 +148,32 @@ fn offset(negative: bool, size: usize) -> i8
     above(size)
 }
 
+// Whether a size is that of an offset, -10..7.
+fn is_offset(negative: bool, size: usize) -> bool
+    ensures { λ r. ⌜ r ≡ pick negative (leb size 10) (leb size 7) ⌝ }
+{
+    if negative {
+        return size <= 10;
+    }
+    size <= 7
+}
+
+// What is left of the line after an offset: nothing is read after one that is none.
+fn after_offset(n: Number) -> Cursor
+    ensures { λ r. ⌜ r ≡ offsetRest n ⌝ }
+{
+    let rest = n.rest;
+    if is_offset(n.negative, n.size) {
+        return rest;
+    }
+    let end = rest.end;
+    Cursor {
+        at: end,
+        end,
+        good: false,
+    }
+}
+
 // Offsets.
 pub fn offsets(text: &[u8], c: Cursor, list: &mut [i8], from: usize, end: usize) -> Taken
     ensures { λ r. ⌜ from ≤ r .at ⌝ }
@@ -158,7 +187,7 @@ pub fn offsets(text: &[u8], c: Cursor, list: &mut [i8], from: usize, end: usize)
         let n = cases::next_number(text, rest);
         let v = offset(n.negative, n.size);
         list[at] = v;
-        rest = skip(text, n.rest);
+        rest = skip(text, after_offset(n));
         at += 1;
     }
     Taken { at, rest }

@@ -1,5 +1,5 @@
 -- How the first place at which a test holds is found one place at a time. Assumes nothing.
-use mathlib.Core.Path.{_≡_, refl, sym, _∙_}
+use mathlib.Core.Path.{_≡_, refl, sym, ap, _∙_}
 use mathlib.Core.Bool.{Bool, true, false, not}
 use mathlib.Core.List.{List}
 use Prim.Native.Nat.{ℕ, zero, suc, _+_, _-_, _≤_, _<_}
@@ -10,7 +10,7 @@ use borrow.Author.Tests.{eq-eqb, ne-eqb}
 use lib.ListN.{getD}
 use lib.Dec.{eqb}
 use Rattle.laws.specs.Choose.{pick, tests}
-use Rattle.words.specs.Places.{seek, newlineAt, remark, remarkAt, inkAt}
+use Rattle.words.specs.Places.{seek, newlineAt, remark, remarkAt, blankOf, inkAt}
 
 -- whole is what is found from the first place on
 module _ (q : ℕ → Bool) (at end whole : ℕ) where
@@ -56,12 +56,12 @@ pub no-remark : (xs : List ℕ) (k : ℕ) (r : Bool) → r ≡ remark (getD xs k
 unfolding remarkAt
 no-remark xs k r e f = sym f ∙ e
 
-pub is-ink : (xs : List ℕ) (k : ℕ) → (getD xs k 0 ≡ 32 → ⊥) → true ≡ inkAt xs k
+pub is-ink : (xs : List ℕ) (k : ℕ) (r : Bool) → r ≡ blankOf (getD xs k 0) → not r ≡ true → true ≡ inkAt xs k
 unfolding inkAt
-is-ink xs k e = rw (ne-eqb _ _ e)
+is-ink xs k r e f = sym f ∙ ap not e
 
-pub no-ink : (xs : List ℕ) (k : ℕ) → getD xs k 0 ≡ 32 → false ≡ inkAt xs k
+pub no-ink : (xs : List ℕ) (k : ℕ) (r : Bool) → r ≡ blankOf (getD xs k 0) → not r ≡ false → false ≡ inkAt xs k
 unfolding inkAt
-no-ink xs k e = rw (eq-eqb _ _ e)
+no-ink xs k r e f = sym f ∙ ap not e
 
 pub ruleset seeking = (needs, seek-on, seek-here, seek-end, is-newline, no-newline, is-remark, no-remark, is-ink, no-ink)

@@ -6,11 +6,12 @@ use Prim.Native.Nat.{ℕ, zero, suc, _+_, _-_, _*_, _≤_, _<_}
 use native.Mathlib.Omega.{arith}
 use native.Mathlib.Numerals.{add-one}
 use borrow.Author.Needs.{needs}
-use borrow.Author.Tests.{ltb-true, lt-ltb, le-ltb, eq-eqb, ne-eqb, not-true, not-false}
+use borrow.Author.Tests.{ltb-true, lt-ltb, le-ltb, not-true, not-false}
 use lib.ListN.{getD}
 use lib.Dec.{leb, ltb}
 use Rattle.laws.specs.Choose.{pick, both, both-parts}
 use Rattle.words.specs.declared.spell.Word.{Word}
+use Rattle.words.specs.Places.{blankOf}
 use Rattle.words.specs.Words.{goesOn, readLetters, endedAt, wordAt}
 
 -- what goes on has room for a letter
@@ -47,15 +48,15 @@ turn-end xs value at end whole h inv =
 pub goes-asked : (b value : ℕ) (on : Bool) → on ≡ goesOn b value → not on ≡ false → goesOn b value ≡ true
 goes-asked b value on e left = sym e ∙ not-false on left
 
--- how the letters end: in another byte, in a space, with the line
+-- how the letters end: in another byte, in a space or a tab, with the line
 module _ (xs : List ℕ) (from end : ℕ) (w : Word) (read : w ≡ readLetters xs 0 from (end - from)) where
-  pub word-cut : w .next < end → (getD xs (w .next) 0 ≡ 32 → ⊥) → record { value = 0; next = w .next } ≡ wordAt xs from end
+  pub word-cut : (r : Bool) → w .next < end → r ≡ blankOf (getD xs (w .next) 0) → not r ≡ true → record { value = 0; next = w .next } ≡ wordAt xs from end
   unfolding wordAt endedAt pick
-  word-cut h e = rw (← read, lt-ltb _ _ h, ne-eqb _ _ e)
+  word-cut r h e f = rw (← read, lt-ltb _ _ h, ← e, not-true r f)
 
-  pub word-space : w .next < end → getD xs (w .next) 0 ≡ 32 → w ≡ wordAt xs from end
+  pub word-space : (r : Bool) → w .next < end → r ≡ blankOf (getD xs (w .next) 0) → not r ≡ false → w ≡ wordAt xs from end
   unfolding wordAt endedAt pick
-  word-space h e = rw (← read, lt-ltb _ _ h, eq-eqb _ _ e)
+  word-space r h e f = rw (← read, lt-ltb _ _ h, ← e, not-false r f)
 
   pub word-last : end ≤ w .next → w ≡ wordAt xs from end
   unfolding wordAt endedAt pick

@@ -22,6 +22,10 @@ remark b = either (eqb b 35) (eqb b 13)
 unfoldable pub remarkAt : List ℕ → ℕ → Bool
 remarkAt xs k = remark (getD xs k 0)
 
--- something else than a space stands at k
+-- a space or a tab
+unfoldable pub blankOf : ℕ → Bool
+blankOf b = either (eqb b 32) (eqb b 9)
+
+-- something else stands at k
 unfoldable pub inkAt : List ℕ → ℕ → Bool
-inkAt xs k = not (eqb (getD xs k 0) 32)
+inkAt xs k = not (blankOf (getD xs k 0))

@@ -3,9 +3,10 @@ use Prim.Native.Nat.{ℕ, zero, suc, _+_, _-_, _*_}
 use mathlib.Core.List.{List}
 use mathlib.Core.Bool.{Bool, not}
 use lib.ListN.{getD}
-use lib.Dec.{eqb, leb, ltb}
+use lib.Dec.{leb, ltb}
 use Rattle.laws.specs.Choose.{pick, both}
 use Rattle.words.specs.declared.spell.Word.{Word}
+use Rattle.words.specs.Places.{blankOf}
 
 -- a byte is above the space, and the value so far has at most seven letters
 unfoldable pub goesOn : ℕ → ℕ → Bool
@@ -17,10 +18,10 @@ readLetters xs value at zero = record { value = value; next = at }
 readLetters xs value at (suc n) =
     pick (goesOn (getD xs at 0) value) (readLetters xs (256 * value + getD xs at 0) (suc at) n) (record { value = value; next = at })
 
--- letters that end the line or have a space after them
+-- letters that end the line or have a space or a tab after them
 unfoldable pub endedAt : List ℕ → ℕ → Word → Word
 endedAt xs end w =
-    pick (ltb (w .next) end) (pick (eqb (getD xs (w .next) 0) 32) w (record { value = 0; next = w .next })) w
+    pick (ltb (w .next) end) (pick (blankOf (getD xs (w .next) 0)) w (record { value = 0; next = w .next })) w
 
 -- the word from a place on
 unfoldable pub wordAt : List ℕ → ℕ → ℕ → Word

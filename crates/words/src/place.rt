@@ -2,7 +2,7 @@
 ghost use mathlib.Core.Path.{_≡_};
 ghost use Prim.Native.Nat.{_-_, _≤_};
 ghost use lib.ListN.{length};
-ghost use Rattle.words.specs.Places.{seek, newlineAt, remark, remarkAt, inkAt};
+ghost use Rattle.words.specs.Places.{seek, newlineAt, remark, remarkAt, blankOf, inkAt};
 
 // The newline that ends a line.
 pub fn line_end(text: &[u8], from: usize, end: usize) -> usize
@@ -45,7 +45,17 @@ fn ends_content(b: u8) -> bool
     b == 13
 }
 
-// The first byte that is no space.
+// A space or a tab.
+pub fn blank(b: u8) -> bool
+    ensures { λ r. ⌜ r ≡ blankOf b ⌝ }
+{
+    if b == 32 {
+        return true;
+    }
+    b == 9
+}
+
+// The first byte that is neither a space nor a tab.
 pub fn spaces(text: &[u8], from: usize, end: usize) -> usize
     requires { ⌜ (from ≤ end) × (end ≤ length (now text)) ⌝ }
     ensures { λ r. ⌜ r ≡ seek (inkAt (now (text .entry))) from (end - from) ⌝ }
@@ -53,7 +63,7 @@ pub fn spaces(text: &[u8], from: usize, end: usize) -> usize
 {
     let mut at = from;
     while at < end {
-        if text[at] != 32 {
+        if !blank(text[at]) {
             return at;
         }
         at += 1;

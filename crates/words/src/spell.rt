@@ -4,6 +4,7 @@ ghost use mathlib.Core.Bool.{true};
 ghost use Prim.Native.Nat.{_+_, _-_, _*_, _≤_};
 ghost use lib.ListN.{length};
 ghost use Rattle.words.specs.Words.{goesOn, readLetters, wordAt};
+use crate::place::blank;
 
 // What a word says, and the place after it.
 pub struct Word {
@@ -51,7 +52,7 @@ fn letters(text: &[u8], from: usize, end: usize) -> Word
     Word { value, next: at }
 }
 
-// The word at a place, 0 where something else than a space follows it.
+// The word at a place, 0 where something else than a space or a tab follows it.
 pub fn read_word(text: &[u8], from: usize, end: usize) -> Word
     requires { ⌜ (from ≤ end) × (end ≤ length (now text)) ⌝ }
     ensures { λ r. ⌜ r ≡ wordAt (now (text .entry)) from end ⌝ }
@@ -60,7 +61,7 @@ pub fn read_word(text: &[u8], from: usize, end: usize) -> Word
     let w = letters(text, from, end);
     let next = w.next;
     if next < end {
-        if text[next] != 32 {
+        if !blank(text[next]) {
             return Word { value: 0, next };
         }
     }

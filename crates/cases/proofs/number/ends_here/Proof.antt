@@ -5,16 +5,19 @@ use borrow.Author.Needs.{needs}
 use Rattle.cases.proofs.number.ends_here.Statement.{statement}
 use Rattle.cases.proofs.number.ends_here.Tie as tie
 
-shared-slice-read-result : tie.Need-shared-slice-read-result
-shared-slice-read-result c = search needs
+shared-slice-read-blank : tie.Need-shared-slice-read-blank
+shared-slice-read-blank c = search needs
+
+blank-requires : tie.Need-blank-requires
+blank-requires c κs = search needs
 
 returns : tie.Need-returns
 unfolding ends
-returns c = rw (lt-ltb _ _ (c .before .if1 .taken))
+returns c = rw (lt-ltb _ _ (c .before .before .if1 .taken)) (c .blank .ensures)
 
 returns-2 : tie.Need-returns-2
 unfolding ends
 returns-2 c = rw (le-ltb _ _ (c .if1 .left))
 
 pub ends-here-spec : {M : Type 1} → statement M
-ends-here-spec = tie.close (tie.spec shared-slice-read-result returns returns-2)
+ends-here-spec = tie.close (tie.spec shared-slice-read-blank blank-requires returns returns-2)

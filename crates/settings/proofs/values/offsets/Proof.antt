@@ -35,6 +35,9 @@ offset-requires c κs = search needs
 slice-set-from-v : tie.Need-slice-set-from-v Inv-loop μ-loop
 slice-set-from-v c = search needs
 
+after-offset-requires : tie.Need-after-offset-requires Inv-loop μ-loop
+after-offset-requires c κs = search needs
+
 skip-requires-2 : tie.Need-skip-requires-2 Inv-loop μ-loop
 skip-requires-2 c κs = search needs
 
@@ -45,7 +48,7 @@ loop-less : tie.Need-loop-less Inv-loop μ-loop
 loop-less c = search needs
 
 loop-again : tie.Need-loop-again Inv-loop μ-loop
-loop-again c = (search needs, search needs, search needs, take-more _ (readOffset _) _ _ _ _ _ (c .before .before .before .before .before .before .loop .inv .3) (search needs) (c .before .before .before .before .more .ensures) (c .before .before .before .if1 .taken) (search reading) (search reading) (c .skip2 .ensures))
+loop-again c = (search needs, search needs, search needs, take-more _ (readOffset _) _ _ _ _ _ (c .before .before .before .before .before .before .before .loop .inv .3) (search needs) (c .before .before .before .before .before .more .ensures) (c .before .before .before .before .if1 .taken) (search reading) (search reading) (c .skip2 .ensures))
 
 same-length : tie.Need-same-length Inv-loop μ-loop
 same-length c = search needs
@@ -72,6 +75,7 @@ offsets-spec =
     next-number-requires
     offset-requires
     slice-set-from-v
+    after-offset-requires
     skip-requires-2
     add-at
     loop-less

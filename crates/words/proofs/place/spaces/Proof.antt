@@ -16,8 +16,11 @@ abbrev μ-loop : tie.MeasureT-loop
 loop-holds : tie.Need-loop-holds Inv-loop μ-loop
 loop-holds c = search seeking
 
-shared-slice-read-if1 : tie.Need-shared-slice-read-if1 Inv-loop μ-loop
-shared-slice-read-if1 c = search seeking
+shared-slice-read-blank : tie.Need-shared-slice-read-blank Inv-loop μ-loop
+shared-slice-read-blank c = search seeking
+
+blank-requires : tie.Need-blank-requires Inv-loop μ-loop
+blank-requires c κs = search seeking
 
 returns : tie.Need-returns Inv-loop μ-loop
 returns c = search seeking
@@ -41,7 +44,8 @@ spaces-spec =
     Inv-loop
     μ-loop
     loop-holds
-    shared-slice-read-if1
+    shared-slice-read-blank
+    blank-requires
     returns
     add-at
     loop-less

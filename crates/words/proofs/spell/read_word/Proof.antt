@@ -6,8 +6,11 @@ use Rattle.words.proofs.spell.read_word.Tie as tie
 letters-requires : tie.Need-letters-requires
 letters-requires c κs = search spelling
 
-shared-slice-read-if2 : tie.Need-shared-slice-read-if2
-shared-slice-read-if2 c = search spelling
+shared-slice-read-blank : tie.Need-shared-slice-read-blank
+shared-slice-read-blank c = search spelling
+
+blank-requires : tie.Need-blank-requires
+blank-requires c κs = search spelling
 
 returns : tie.Need-returns
 returns c = search spelling
@@ -20,4 +23,4 @@ returns-3 c = search spelling
 
 pub read-word-spec : {M : Type 1} → statement M
 read-word-spec =
-    tie.close (tie.spec letters-requires shared-slice-read-if2 returns returns-2 returns-3)
+    tie.close (tie.spec letters-requires shared-slice-read-blank blank-requires returns returns-2 returns-3)
