@@ -282,6 +282,11 @@ fn of_tx_grid(random: &Random, made: &Made) -> Compared {
     Ok(due.no)
 }
 
+/// The cases of `grid::make`, but that no list of leaves is cut.
+fn whole_leaves(random: &Random, refused: bool, _: Option<&[u32]>) -> Made {
+    grid::either(random, refused, true)
+}
+
 /// A list's leaves as records.
 fn records(numbers: &[u16]) -> Vec<raw::Leaf> {
     numbers.chunks_exact(4).map(|n| raw::Leaf { row: n[0], col: n[1], w: n[2], h: n[3] }).collect()
@@ -443,7 +448,7 @@ const PARTS: [Part; 8] = [
     Part { name: "bihargesh_segment", makes: &[segment::make_window], kind: None, compare: of_segment },
     Part { name: "bihargesh_plane", makes: &[plane::make, plane::make_bins], kind: None, compare: of_plane },
     Part { name: "bihargesh_tx_grid", makes: &[grid::make], kind: Some(1), compare: of_tx_grid },
-    Part { name: "bihargesh_tx_grid_leaves", makes: &[grid::make_whole], kind: Some(1), compare: of_tx_grid_leaves },
+    Part { name: "bihargesh_tx_grid_leaves", makes: &[whole_leaves], kind: Some(1), compare: of_tx_grid_leaves },
     Part { name: "bihargesh_qindex_grid", makes: &[grid::make], kind: Some(2), compare: of_qindex_grid },
     Part { name: "bihargesh_frame", makes: &[frame::make, frame::make_bins], kind: None, compare: of_frame },
     Part { name: "bihargesh_ccso", makes: &[ccso::make], kind: None, compare: of_ccso },

@@ -214,7 +214,7 @@ fn qindex_answered(c: QindexCase) -> Made {
 }
 
 /// A case of either grid; the TU grid's with whole leaves alone where that is asked for, as records are.
-fn either(random: &Random, refused: bool, whole: bool) -> Made {
+pub fn either(random: &Random, refused: bool, whole: bool) -> Made {
     if random.once_in(3) {
         let mut c = good_qindex(random);
         if refused {
@@ -235,9 +235,4 @@ fn either(random: &Random, refused: bool, whole: bool) -> Made {
 
 pub fn make(random: &Random, refused: bool, _: Option<&[u32]>) -> Made {
     either(random, refused, false)
-}
-
-/// The same cases, but that no list of leaves is cut.
-pub fn make_whole(random: &Random, refused: bool, _: Option<&[u32]>) -> Made {
-    either(random, refused, true)
 }
