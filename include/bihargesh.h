@@ -100,6 +100,17 @@ int32_t bihargesh_tx_grid(const uint16_t *leaves, size_t leaves_len, const uint1
                           uint8_t *hedge, size_t hedge_len, uint8_t *sqw, size_t sqw_len, uint8_t *sqh, size_t sqh_len,
                           const int32_t *settings, size_t settings_len, size_t *place, size_t place_len);
 
+/* A leaf: row, column, width and height, in luma cells, as bihargesh_tx_grid has them one after the other. */
+struct bihargesh_leaf {
+  uint16_t row, col, w, h;
+};
+
+/* The same from leaves that are records, each list with its number of leaves: the same answer, place and lists as bihargesh_tx_grid gives for
+ * their numbers. A list of records is never cut, so 3 speaks of the four lists and of the settings alone. */
+int32_t bihargesh_tx_grid_leaves(const struct bihargesh_leaf *leaves, size_t leaves_len, const struct bihargesh_leaf *skips, size_t skips_len,
+                                 uint8_t *vedge, size_t vedge_len, uint8_t *hedge, size_t hedge_len, uint8_t *sqw, size_t sqw_len,
+                                 uint8_t *sqh, size_t sqh_len, const int32_t *settings, size_t settings_len, size_t *place, size_t place_len);
+
 /* Where a qindex grid's settings stand. */
 enum bihargesh_qindex_grid_setting {
   BIHARGESH_QINDEX_GRID_COLS,

@@ -282,6 +282,47 @@ fn of_tx_grid(random: &Random, made: &Made) -> Compared {
     Ok(due.no)
 }
 
+/// The cases of `grid::make`, but that no list of leaves is cut.
+fn whole_leaves(random: &Random, refused: bool, _: Option<&[u32]>) -> Made {
+    grid::either(random, refused, true)
+}
+
+/// A list's leaves as records.
+fn records(numbers: &[u16]) -> Vec<raw::Leaf> {
+    numbers.chunks_exact(4).map(|n| raw::Leaf { row: n[0], col: n[1], w: n[2], h: n[3] }).collect()
+}
+
+/// Records, and beside them their numbers: both are held to what is due.
+fn of_tx_grid_leaves(random: &Random, made: &Made) -> Compared {
+    let c = Tiles::of(made);
+    let (settings, due) = settings(random, c.all, c.due, &[]);
+    let after = c.built.filter(|_| due.no == 0).unwrap_or_else(|| c.marks.clone());
+    let (mut place, place_after) = places(random, due);
+    let (leaves, skips) = (records(&c.leaves), records(&c.skips));
+    let (mut marks, mut marks_by_numbers, mut place_by_numbers) = (c.marks.clone(), c.marks, place.clone());
+    let lent = (leaves.clone(), skips.clone(), settings.clone());
+    let [v, h, w, t] = &mut marks;
+    let answer = unsafe {
+        raw::bihargesh_tx_grid_leaves(
+            leaves.as_ptr(), leaves.len(), skips.as_ptr(), skips.len(), v.as_mut_ptr(), v.len(), h.as_mut_ptr(), h.len(),
+            w.as_mut_ptr(), w.len(), t.as_mut_ptr(), t.len(), settings.as_ptr(), settings.len(), place.as_mut_ptr(), place.len(),
+        )
+    };
+    let [v, h, w, t] = &mut marks_by_numbers;
+    let answer_by_numbers = unsafe {
+        raw::bihargesh_tx_grid(
+            c.leaves.as_ptr(), c.leaves.len(), c.skips.as_ptr(), c.skips.len(), v.as_mut_ptr(), v.len(), h.as_mut_ptr(), h.len(),
+            w.as_mut_ptr(), w.len(), t.as_mut_ptr(), t.len(), settings.as_ptr(), settings.len(), place_by_numbers.as_mut_ptr(), place_by_numbers.len(),
+        )
+    };
+    same("the answer", answer, -due.no)?;
+    same("the place", &place, &place_after)?;
+    same("the grid", &marks, &after)?;
+    same("a list for reading", (leaves, skips, settings), lent)?;
+    same("what the numbers give", (answer_by_numbers, place_by_numbers, marks_by_numbers), (answer, place, marks))?;
+    Ok(due.no)
+}
+
 fn of_qindex_grid(random: &Random, made: &Made) -> Compared {
     let mut n = Numbers::of(made);
     let all = n.some(5);
@@ -383,6 +424,17 @@ fn of_ccso(random: &Random, made: &Made) -> Compared {
     Ok(due.no)
 }
 
+/// The exported steps are the Rust's `qstep`, 352 entries; what is lent beyond them is kept, and so is a list that is too short.
+fn of_steps() -> Result<(), String> {
+    let lent = vec![7; 353];
+    let due: Vec<u32> = rust::quant::steps().into_iter().chain([7]).collect();
+    let (mut list, mut short) = (lent.clone(), lent[..351].to_vec());
+    let answers = unsafe { [raw::bihargesh_steps(list.as_mut_ptr(), list.len()), raw::bihargesh_steps(short.as_mut_ptr(), short.len())] };
+    same("the answer", answers, [0, -3])?;
+    same("the steps", &list, &due)?;
+    same("a list that is too short", &short[..], &lent[..351])
+}
+
 /// A function: what makes its cases, in turn; the kind of their lines where a maker has others too; and how one is compared.
 struct Part {
     name: &'static str,
@@ -391,11 +443,12 @@ struct Part {
     compare: fn(&Random, &Made) -> Compared,
 }
 
-const PARTS: [Part; 7] = [
+const PARTS: [Part; 8] = [
     Part { name: "bihargesh_thresholds", makes: &[thresholds::make], kind: None, compare: of_thresholds },
     Part { name: "bihargesh_segment", makes: &[segment::make_window], kind: None, compare: of_segment },
     Part { name: "bihargesh_plane", makes: &[plane::make, plane::make_bins], kind: None, compare: of_plane },
     Part { name: "bihargesh_tx_grid", makes: &[grid::make], kind: Some(1), compare: of_tx_grid },
+    Part { name: "bihargesh_tx_grid_leaves", makes: &[whole_leaves], kind: Some(1), compare: of_tx_grid_leaves },
     Part { name: "bihargesh_qindex_grid", makes: &[grid::make], kind: Some(2), compare: of_qindex_grid },
     Part { name: "bihargesh_frame", makes: &[frame::make, frame::make_bins], kind: None, compare: of_frame },
     Part { name: "bihargesh_ccso", makes: &[ccso::make], kind: None, compare: of_ccso },
@@ -450,6 +503,13 @@ fn main() {
         eprintln!("linked N SEED");
         exit(2);
     };
+    match of_steps() {
+        Ok(()) => println!("linked: bihargesh_steps: 352 steps, 0 different; a list of 351 refused by 3"),
+        Err(what) => {
+            println!("linked: a DIFFERENCE: bihargesh_steps: {what}");
+            exit(1);
+        }
+    }
     for part in &PARTS {
         match run(part, n, seed) {
             Ok(counts) => counts.print(part.name),

@@ -218,6 +218,46 @@ static int32_t run_tx(const uint16_t *leaves, size_t count, int32_t cap) {
   return bihargesh_tx_grid(leaves, count, NULL, 0, marks[0], 257, marks[1], 257, marks[2], 257, marks[3], 257, settings, 6, place, 1);
 }
 
+static uint8_t by_numbers[4][257];
+
+/* the same leaves as records: the same answer, place and marks */
+static void same_by_records(const char *what, const struct bihargesh_leaf *leaves, size_t count, const struct bihargesh_leaf *skips, size_t skipped,
+                            size_t settings_len, int32_t want, size_t at) {
+  int32_t settings[6] = {16, 16, 0, 0, 8, 8};
+  uint16_t numbers[2][8];
+  size_t place_by_numbers[1] = {7};
+  for (size_t k = 0; k < count; k++) memcpy(numbers[0] + 4 * k, (uint16_t[4]){leaves[k].row, leaves[k].col, leaves[k].w, leaves[k].h}, 8);
+  for (size_t k = 0; k < skipped; k++) memcpy(numbers[1] + 4 * k, (uint16_t[4]){skips[k].row, skips[k].col, skips[k].w, skips[k].h}, 8);
+  memset(by_numbers, 9, sizeof by_numbers);
+  memset(marks, 9, sizeof marks);
+  place[0] = 7;
+  same(what,
+       bihargesh_tx_grid(numbers[0], 4 * count, numbers[1], 4 * skipped, by_numbers[0], 257, by_numbers[1], 257, by_numbers[2], 257, by_numbers[3], 257,
+                         settings, settings_len, place_by_numbers, 1),
+       want);
+  same(what,
+       bihargesh_tx_grid_leaves(leaves, count, skips, skipped, marks[0], 257, marks[1], 257, marks[2], 257, marks[3], 257, settings, settings_len, place, 1),
+       want);
+  same(what, memcmp(marks, by_numbers, sizeof marks), 0);
+  same(what, (long long)place[0], (long long)at);
+  same(what, (long long)place_by_numbers[0], (long long)at);
+}
+
+static void records(void) {
+  struct bihargesh_leaf good[2] = {{0, 0, 16, 16}, {8, 8, 4096 + 8, 8}}, bad[2] = {{0, 0, 16, 16}, {0, 0, 16, 3}}, flagged[1] = {{0, 0, 4096 + 4, 4}};
+  same("the size of a leaf", sizeof *good, 8);
+  same_by_records("two leaves", good, 2, NULL, 0, 6, 0, 7);
+  same("a mark at 8", marks[0][8], 1);
+  same("an entry beyond", marks[2][256], 9);
+  same_by_records("a leaf under a skip leaf", good, 1, good, 1, 6, 0, 7);
+  same("index 4", marks[3][255], 4);
+  same_by_records("no leaves", NULL, 0, NULL, 0, 6, 0, 7);
+  same_by_records("a bad leaf record", bad, 2, NULL, 0, 6, -BIHARGESH_BAD_LEAF, 1);
+  same_by_records("a skip leaf with 4096", good, 2, flagged, 1, 6, -BIHARGESH_BAD_LEAF, 0);
+  same_by_records("five settings", good, 2, NULL, 0, 5, -BIHARGESH_BAD_LENGTH, 0);
+  same("the marks as lent", marks[1][0], 9);
+}
+
 static void grids(void) {
   uint16_t cut[4] = {0, 0, 16, 16}, whole[4] = {0, 0, 4096 + 16, 16}, bad[8] = {0, 0, 16, 16, 0, 0, 3, 16};
   same("a leaf with cap 8", run_tx(cut, 4, 8), 0);
@@ -355,6 +395,7 @@ int main(void) {
   refusals();
   planes();
   grids();
+  records();
   frames();
   offsets();
   published_steps();

@@ -213,7 +213,8 @@ fn qindex_answered(c: QindexCase) -> Made {
     Made { line, refusal, width: None, changed: qindex != c.qindex, steps: None }
 }
 
-pub fn make(random: &Random, refused: bool, _: Option<&[u32]>) -> Made {
+/// A case of either grid; the TU grid's with whole leaves alone where that is asked for, as records are.
+pub fn either(random: &Random, refused: bool, whole: bool) -> Made {
     if random.once_in(3) {
         let mut c = good_qindex(random);
         if refused {
@@ -225,5 +226,13 @@ pub fn make(random: &Random, refused: bool, _: Option<&[u32]>) -> Made {
     if refused {
         damaged(random, &mut c);
     }
+    if whole {
+        c.leaves.truncate(c.leaves.len() / 4 * 4);
+        c.skips.truncate(c.skips.len() / 4 * 4);
+    }
     tx_answered(c)
+}
+
+pub fn make(random: &Random, refused: bool, _: Option<&[u32]>) -> Made {
+    either(random, refused, false)
 }

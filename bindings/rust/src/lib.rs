@@ -24,6 +24,7 @@
 
 mod raw;
 
+pub use raw::Leaf;
 use raw::*;
 use std::error::Error;
 use std::fmt;
@@ -309,6 +310,37 @@ pub fn build_tx_grid(leaves: &[u16], skips: &[u16], marks: Marks, s: TxGrid) -> 
     // SAFETY: as above.
     let answer = unsafe {
         bihargesh_tx_grid(
+            leaves.as_ptr(), leaves.len(), skips.as_ptr(), skips.len(), marks.vedge.as_mut_ptr(), marks.vedge.len(),
+            marks.hedge.as_mut_ptr(), marks.hedge.len(), marks.sqw.as_mut_ptr(), marks.sqw.len(), marks.sqh.as_mut_ptr(), marks.sqh.len(),
+            settings.as_ptr(), settings.len(), place.as_mut_ptr(), place.len(),
+        )
+    };
+    told(answer, place)
+}
+
+/// The same from leaves that are records.
+///
+/// ```
+/// use bihargesh::{build_tx_grid_leaves, Leaf, Marks, Reason, Refusal, TxGrid};
+///
+/// let mut lists = [[9; 2]; 4];
+/// let [vedge, hedge, sqw, sqh] = &mut lists;
+/// let settings = TxGrid { cols: 2, rows: 1, cap_width: 8, cap_height: 8, ..TxGrid::default() };
+/// let leaves = [Leaf { row: 0, col: 0, w: 1, h: 1 }, Leaf { row: 0, col: 1, w: 1, h: 1 }];
+/// build_tx_grid_leaves(&leaves, &[], Marks { vedge, hedge, sqw, sqh }, settings)?;
+/// assert_eq!(lists, [[1, 1], [1, 1], [0, 0], [0, 0]]);
+///
+/// let [vedge, hedge, sqw, sqh] = &mut lists;
+/// let refusal = build_tx_grid_leaves(&leaves[..1], &[Leaf::default()], Marks { vedge, hedge, sqw, sqh }, settings).unwrap_err();
+/// assert_eq!(refusal, Refusal { reason: Reason::Leaf, place: 0 });
+/// # Ok::<(), Refusal>(())
+/// ```
+pub fn build_tx_grid_leaves(leaves: &[Leaf], skips: &[Leaf], marks: Marks, s: TxGrid) -> Result<(), Refusal> {
+    let settings = [s.cols, s.rows, s.ssx, s.ssy, s.cap_width, s.cap_height];
+    let mut place = [0];
+    // SAFETY: as above.
+    let answer = unsafe {
+        bihargesh_tx_grid_leaves(
             leaves.as_ptr(), leaves.len(), skips.as_ptr(), skips.len(), marks.vedge.as_mut_ptr(), marks.vedge.len(),
             marks.hedge.as_mut_ptr(), marks.hedge.len(), marks.sqw.as_mut_ptr(), marks.sqw.len(), marks.sqh.as_mut_ptr(), marks.sqh.len(),
             settings.as_ptr(), settings.len(), place.as_mut_ptr(), place.len(),

@@ -1,4 +1,14 @@
-//! The functions of include/bihargesh.h as they are linked: a list is a pointer and the number of its entries.
+//! The functions of include/bihargesh.h as they are linked, and its record of a leaf: a list is a pointer and the number of its entries.
+
+/// A leaf: row, column, width and height, in luma cells; 4096 added to the width keeps it whole.
+#[repr(C)]
+#[derive(Clone, Copy, Debug, Default, PartialEq, Eq)]
+pub struct Leaf {
+    pub row: u16,
+    pub col: u16,
+    pub w: u16,
+    pub h: u16,
+}
 
 #[link(name = "bihargesh", kind = "static")]
 extern "C" {
@@ -12,6 +22,11 @@ extern "C" {
     ) -> i32;
     pub fn bihargesh_tx_grid(
         leaves: *const u16, leaves_len: usize, skips: *const u16, skips_len: usize, vedge: *mut u8, vedge_len: usize,
+        hedge: *mut u8, hedge_len: usize, sqw: *mut u8, sqw_len: usize, sqh: *mut u8, sqh_len: usize,
+        settings: *const i32, settings_len: usize, place: *mut usize, place_len: usize,
+    ) -> i32;
+    pub fn bihargesh_tx_grid_leaves(
+        leaves: *const Leaf, leaves_len: usize, skips: *const Leaf, skips_len: usize, vedge: *mut u8, vedge_len: usize,
         hedge: *mut u8, hedge_len: usize, sqw: *mut u8, sqw_len: usize, sqh: *mut u8, sqh_len: usize,
         settings: *const i32, settings_len: usize, place: *mut usize, place_len: usize,
     ) -> i32;

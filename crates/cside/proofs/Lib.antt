@@ -1,4 +1,5 @@
 pub mod Blocks
 pub mod Windows
 pub mod Table
+pub mod Records
 pub mod Unique

@@ -14,6 +14,8 @@ use Rattle.answers.specs.Told.{listed, Reported}
 use Rattle.answers.proofs.Unique.{reported-unique}
 use Rattle.numbers.specs.Settings.{planeOf, tuGridOf, qindexGridOf, offsetsOf}
 use Rattle.entries.specs.Planes.{cPlaneCheck}
+use Rattle.leaves.specs.declared.records.Leaf.{Leaf}
+use Rattle.leaves.specs.Records.{flat}
 use Rattle.frame_entry.specs.Listed.{cFrameOf, FrameTold}
 use Rattle.frame_entry.proofs.Unique.{frame-unique}
 use Rattle.cside.specs.Steps.{StepsTold}
@@ -43,6 +45,12 @@ module _ {r s : ℤ} where
         → Reported (listed 6 settings (txGridCheck (tuGridOf settings) leaves skips g)) g (txGridOf (tuGridOf settings) leaves skips g) place s n q
         → (r ≡ s) × (m ≡ n) × (p ≡ q)
     tx-grid-unique leaves skips g = reported-unique
+
+    pub tx-grid-leaves-unique : (leaves skips : List Leaf) (g : Marks) {m n : Marks}
+        → Reported (listed 6 settings (txGridCheck (tuGridOf settings) (flat leaves) (flat skips) g)) g (txGridOf (tuGridOf settings) (flat leaves) (flat skips) g) place r m p
+        → Reported (listed 6 settings (txGridCheck (tuGridOf settings) (flat leaves) (flat skips) g)) g (txGridOf (tuGridOf settings) (flat leaves) (flat skips) g) place s n q
+        → (r ≡ s) × (m ≡ n) × (p ≡ q)
+    tx-grid-leaves-unique leaves skips g = reported-unique
 
     pub qindex-grid-unique : (sbq l : List ℕ) {m n : List ℕ}
         → Reported (listed 5 settings (qGridCheck (qindexGridOf settings) sbq l)) l (qGridOf (qindexGridOf settings) sbq l) place r m p

@@ -9,7 +9,8 @@ use grid::paint::paint_leaf;
 use rules::settings::TuGrid;
 use tiles::leaf::leaf_good;
 
-// A leaf: its first row and column and its size, in luma cells; bit 4096 as in a list of numbers.
+// A leaf: its first row and column and its size, in luma cells; bit 4096 as in a list of numbers. C's `struct bihargesh_leaf`.
+#[repr(C)]
 pub struct Leaf {
     pub row: u16,
     pub col: u16,

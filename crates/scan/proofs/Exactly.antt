@@ -13,7 +13,7 @@ use Rattle.rules.specs.declared.refusals.Answer.the-variants.{Accepted, Refused
 use Rattle.rules.specs.declared.refusals.Found.{Found}
 use Rattle.rules.specs.declared.refusals.Found.the-variants.{At, Nothing}
 use Rattle.rules.specs.Refusals.{numberOf, placeOf, orElse, unless, found, onlyIf}
-use Rattle.scan.specs.Exactly.{Test, ask, seek, seekAny, andThen, askedIf, Holds, Fails, answerOf, Check, check, refusalOf, chain, turnOf, hasPlace, placed, inOrder, Given, Each, Exactly}
+use Rattle.scan.specs.Exactly.{Test, ask, seek, seekAny, andThen, askedIf, Holds, Fails, answerOf, Check, check, refusalOf, chain, turnOf, hasPlace, placed, inOrder, Given, Each, Exactly, Among}
 use Rattle.scan.proofs.Checks.{refused-not}
 
 -- ---- one test
@@ -198,3 +198,17 @@ each a before n (c ∷ cs) e is accepted given =
 -- the law: an answer that is a chain of checks in document 01's order
 pub exactly : (cs : List Check) → inOrder 0 cs ≡ true → {a : Answer} → a ≡ chain cs → Exactly a cs
 exactly cs o {a} e = each a (Unit {0}) 0 cs o (λ b. e) (λ h. tt) (λ k p l g. tt)
+
+-- ---- no other number
+
+among : (a : Answer) (before : Type 0) (cs : List Check) → before → Each a before cs → (k p : ℕ) → Given a k p → Among k cs
+among a before [] b e k p g = refused-not (sym (g .is) ∙ e .1 b)
+among a before (c ∷ cs) b e k p g =
+    ⊎-elim
+    (λ h. inr (among a (before × Holds (c .test)) cs (b, h) (e .1) k p g))
+    (λ f. let o = e .0 (f .0) .1 (b, f .1) in inl (sym (g .number) ∙ ap numberOf (same-refusal (g .is) (o .is)) ∙ o .number))
+    (outcome (c .test))
+
+-- no number is given but those of the tests
+pub no-other : (cs : List Check) {a : Answer} → Exactly a cs → (k p : ℕ) → Given a k p → Among k cs
+no-other cs {a} e k p g = among a (Unit {0}) cs tt e k p g

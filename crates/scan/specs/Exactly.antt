@@ -108,3 +108,8 @@ Each a before (c ∷ cs) =
 
 abbrev pub Exactly : Answer → List Check → Type 0
 Exactly a cs = Each a (Unit {0}) cs
+
+-- k is the number of one of the tests
+abbrev pub Among : ℕ → List Check → Type 0
+Among k [] = ⊥
+Among k (c ∷ cs) = (k ≡ c .number) ⊎ Among k cs
