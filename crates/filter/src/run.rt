@@ -1,32 +1,29 @@
-// From the names of the files to the written picture and the one line.
+// From the names of the files to the written frames and the answer.
 ghost use lib.ListN.{length};
+ghost use Prim.Native.Nat.{_≤_};
 ghost use Rattle.pictures.specs.Shapes.{Fit};
 ghost use Rattle.filter.specs.Lent.{Lent};
+use crate::frame;
 use crate::load::load;
-use crate::read::header_good;
-use crate::read::read_planes;
+use crate::read::header_of;
 use crate::read::short_of;
-use crate::save::save;
 use crate::say;
-use crate::treat::treat;
+use crate::treat::inside;
 use asked::lists::limit;
-use asked::told::frame_of;
 use pictures::defaults;
 use pictures::files;
 use pictures::planes;
 use pictures::planes::Shape;
 use settings::names::first_places;
+use std::num::wrapping_add_usize;
 use y4m::header::Header;
-use y4m::header::is_frame;
-use y4m::header::read_header;
 
-// The planes, filtered and written, of a picture whose shapes are known.
-fn filter(
+// Every frame of the file, and then the answer.
+fn frames(
     name: &[u8],
     out: &[u8],
     fd: i32,
     head: &[u8],
-    mark: &[u8],
     h: Header,
     l: Shape,
     c: Shape,
@@ -36,178 +33,65 @@ fn filter(
     flags: &[u8],
     offsets: &[i8],
     places: &[usize],
+    lines: &[usize],
 )
-    requires { ⌜ Fit l × Fit c × Lent (length (now numbers)) (length (now shorts)) (length (now steps)) (length (now flags)) (length (now offsets)) (length (now places)) ⌝ }
+    requires { ⌜ Fit l × Fit c × Lent (length (now numbers)) (length (now shorts)) (length (now steps)) (length (now flags)) (length (now offsets)) (length (now places)) × (21 ≤ length (now lines)) ⌝ }
 {
-    let layout = h.layout;
-    let chroma = layout.chroma;
-    let wide = 8 < layout.depth;
-    let mut y = planes::samples_room();
-    let mut u = planes::samples_room();
-    let mut v = planes::samples_room();
-    if !read_planes(fd, &mut y, &mut u, &mut v, l, c, chroma, wide) {
-        say::expected(
+    let o = files::open_out(out);
+    // on a terminal the frames are counted
+    let shown = libc::isatty(2) == 1;
+    let mut k: usize = 0;
+    let mut count: usize = 0;
+    let mut changed: usize = 0;
+    let mut more = true;
+    while more && k < 18446744073709551615 {
+        say::count(k, shown);
+        let d = frame::next(
             name,
-            3,
-            b"the samples of every plane, and then the end of the file",
+            fd,
+            o,
+            head,
+            k,
+            h,
+            l,
+            c,
+            numbers,
+            shorts,
+            steps,
+            flags,
+            offsets,
+            places,
+            lines,
         );
-        return;
+        if !d.good {
+            return;
+        }
+        more = d.more;
+        changed = wrapping_add_usize(changed, d.changed);
+        count = k;
+        k += 1;
     }
-    let f = frame_of(h, numbers, l.stride, c.stride);
-    if !treat(
-        &mut y,
-        &mut u,
-        &mut v,
-        l,
-        c,
-        numbers,
-        shorts,
-        steps,
-        flags,
-        offsets,
-        places,
-        f,
-    ) {
-        return;
-    }
-    if save(out, head, mark, &y, &u, &v, l, c, chroma, wide) {
-        say::filtered(name, h);
+    if libc::close(o) == 0 {
+        say::filtered(name, h, count, changed);
+    } else {
+        say::unwritten();
     }
 }
 
-// What the picture's size decides, and then its planes.
-fn sized(
-    name: &[u8],
-    out: &[u8],
-    fd: i32,
-    head: &[u8],
-    mark: &[u8],
-    h: Header,
-    numbers: &[i32],
-    shorts: &mut [u16],
-    steps: &[u32],
-    flags: &[u8],
-    offsets: &[i8],
-    places: &mut [usize; 21],
-)
-    requires { ⌜ Lent (length (now numbers)) (length (now shorts)) (length (now steps)) (length (now flags)) (length (now offsets)) 21 ⌝ }
-{
+// What the settings say, completed by the picture's size, and then its frames.
+fn sized(name: &[u8], settings: &[u8], out: &[u8], fd: i32, head: &[u8], h: Header) {
     let layout = h.layout;
     let width = limit(h.width, 1, 4096);
     let height = limit(h.height, 1, 4096);
     let l = planes::shape_of(width, height, 0, 0);
     let c = planes::shape_of(width, height, layout.ssx, layout.ssy);
-    defaults::complete(shorts, places, width, height);
-    filter(
-        name,
-        out,
-        fd,
-        head,
-        mark,
-        h,
-        l,
-        c,
-        numbers,
-        shorts,
-        steps,
-        flags,
-        offsets,
-        places,
-    );
-}
-
-// A picture whose two lines were read.
-fn opened(
-    name: &[u8],
-    out: &[u8],
-    fd: i32,
-    head: &[u8],
-    mark: &[u8],
-    numbers: &[i32],
-    shorts: &mut [u16],
-    steps: &[u32],
-    flags: &[u8],
-    offsets: &[i8],
-    places: &mut [usize; 21],
-)
-    requires { ⌜ Lent (length (now numbers)) (length (now shorts)) (length (now steps)) (length (now flags)) (length (now offsets)) 21 ⌝ }
-{
-    let n = head.len();
-    if n == 0 {
-        say::expected(
-            name,
-            1,
-            b"'YUV4MPEG2' and a header of fewer than 1024 bytes",
-        );
-        return;
-    }
-    let h = read_header(head, n);
-    if !header_good(name, h) {
-        return;
-    }
-    let m = mark.len();
-    if m == 1024 || !is_frame(mark, m) {
-        say::expected(name, 2, b"'FRAME'");
-        return;
-    }
-    sized(
-        name,
-        out,
-        fd,
-        head,
-        mark,
-        h,
-        numbers,
-        shorts,
-        steps,
-        flags,
-        offsets,
-        places,
-    );
-}
-
-// A picture whose file is open. A line that is too long counts as none.
-fn picture(
-    name: &[u8],
-    out: &[u8],
-    fd: i32,
-    numbers: &[i32],
-    shorts: &mut [u16],
-    steps: &[u32],
-    flags: &[u8],
-    offsets: &[i8],
-    places: &mut [usize; 21],
-)
-    requires { ⌜ Lent (length (now numbers)) (length (now shorts)) (length (now steps)) (length (now flags)) (length (now offsets)) 21 ⌝ }
-{
-    let mut head = [0u8; 1024];
-    let mut mark = [0u8; 1024];
-    let first = files::read_line(fd, &mut head);
-    let m = files::read_line(fd, &mut mark);
-    let n = short_of(first);
-    opened(
-        name,
-        out,
-        fd,
-        &head[..n],
-        &mark[..m],
-        numbers,
-        shorts,
-        steps,
-        flags,
-        offsets,
-        places,
-    );
-}
-
-// Settings, then the picture.
-pub fn run(name: &[u8], settings: &[u8], out: &[u8]) {
     let mut numbers = defaults::numbers();
     let mut shorts = defaults::shorts();
     let mut steps = ac_steps::steps();
     let mut flags = [1u8; 12288];
     let mut offsets = [0i8; 384];
     let mut places = first_places();
+    let mut lines = [0usize; 21];
     if !load(
         settings,
         &mut numbers,
@@ -216,24 +100,44 @@ pub fn run(name: &[u8], settings: &[u8], out: &[u8]) {
         &mut flags,
         &mut offsets,
         &mut places,
+        &mut lines,
     ) {
         return;
     }
+    defaults::complete(&mut shorts, &mut places, width, height);
+    if inside(settings, &shorts, &places, l) {
+        frames(
+            name,
+            out,
+            fd,
+            head,
+            h,
+            l,
+            c,
+            &numbers,
+            &shorts,
+            &steps,
+            &flags,
+            &offsets,
+            &places,
+            &lines,
+        );
+    }
+}
+
+// The picture's header, and then the rest. A header that is too long counts as none.
+pub fn run(name: &[u8], settings: &[u8], out: &[u8]) {
     let fd = files::open_in(name);
     if fd < 0 {
         say::cannot(name, b"the picture can't be read");
         return;
     }
-    picture(
-        name,
-        out,
-        fd,
-        &numbers,
-        &mut shorts,
-        &steps,
-        &flags,
-        &offsets,
-        &mut places,
-    );
+    let mut head = [0u8; 1024];
+    let first = files::read_line(fd, &mut head);
+    let n = short_of(first.n);
+    let h = header_of(name, &head[..n]);
+    if h.opens {
+        sized(name, settings, out, fd, &head[..n], h);
+    }
     libc::close(fd);
 }
