@@ -1,20 +1,26 @@
-// One frame: its line, its planes read, filtered and written, over lists of one of two sizes.
+// One frame: its line, its planes read, filtered and written, over lists of one of three sizes.
 ghost use lib.ListN.{length};
-ghost use Prim.Native.Nat.{_≤_};
-ghost use Rattle.pictures.specs.Shapes.{Fit};
-ghost use Rattle.filter.specs.Lent.{Lent};
+ghost use Rattle.filter.specs.Lent.{Lent, Shaped};
 use crate::read::read_frame;
 use crate::save::changed;
 use crate::save::keep;
 use crate::save::save;
 use crate::say;
 use crate::treat::treat;
-use asked::told::frame_of;
 use pictures::files;
 use pictures::planes;
 use pictures::planes::Shape;
 use y4m::header::Header;
 use y4m::header::is_frame;
+
+// What is the same for every frame: the files that are open, the header, and the shapes of luma and chroma.
+pub struct Job {
+    pub from: i32,
+    pub to: i32,
+    pub h: Header,
+    pub l: Shape,
+    pub c: Shape,
+}
 
 // Whether all is well so far, whether a frame was there, and how many of its samples changed.
 pub struct Done {
@@ -32,17 +38,57 @@ fn failed() -> Done {
     }
 }
 
-// A frame over lent planes, and others that keep them as they were.
-fn work(
+// The planes of frame k, and others that keep them as they were.
+fn taken(
     name: &[u8],
-    fd: i32,
-    o: i32,
+    j: Job,
+    k: usize,
+    y: &mut [u16],
+    u: &mut [u16],
+    v: &mut [u16],
+    wasy: &mut [u16],
+    wasu: &mut [u16],
+    wasv: &mut [u16],
+) -> bool
+    requires { ⌜ Shaped j ⌝ }
+{
+    let whole = read_frame(name, j, k, y, u, v);
+    keep(y, u, v, wasy, wasu, wasv, j);
+    whole
+}
+
+// Frame k written, and counted what changed.
+fn finished(
     head: &[u8],
     mark: &[u8],
+    j: Job,
     k: usize,
-    h: Header,
-    l: Shape,
-    c: Shape,
+    y: &[u16],
+    u: &[u16],
+    v: &[u16],
+    wasy: &[u16],
+    wasu: &[u16],
+    wasv: &[u16],
+) -> Done
+    requires { ⌜ Shaped j ⌝ }
+{
+    if save(head, mark, j, k, y, u, v) {
+        return Done {
+            good: true,
+            more: true,
+            changed: changed(y, u, v, wasy, wasu, wasv, j),
+        };
+    }
+    failed()
+}
+
+// Frame k over lent planes.
+fn work(
+    name: &[u8],
+    head: &[u8],
+    mark: &[u8],
+    j: Job,
+    k: usize,
     y: &mut [u16],
     u: &mut [u16],
     v: &mut [u16],
@@ -58,21 +104,17 @@ fn work(
     places: &[usize],
     lines: &[usize],
 ) -> Done
-    requires { ⌜ Fit l × Fit c × Lent (length (now numbers)) (length (now shorts)) (length (now steps)) (length (now flags)) (length (now offsets)) (length (now places)) × (21 ≤ length (now lines)) ⌝ }
+    requires { ⌜ Shaped j × Lent (length (now numbers)) (length (now shorts)) (length (now steps)) (length (now flags)) (length (now offsets)) (length (now places)) (length (now lines)) ⌝ }
 {
-    let layout = h.layout;
-    if !read_frame(name, fd, k, y, u, v, l, c, layout) {
+    if !taken(name, j, k, y, u, v, wasy, wasu, wasv) {
         return failed();
     }
-    keep(y, u, v, wasy, wasu, wasv, l, c);
-    let f = frame_of(h, numbers, l.stride, c.stride);
     if !treat(
         y,
         u,
         v,
         luma,
-        l,
-        c,
+        j,
         numbers,
         shorts,
         steps,
@@ -80,31 +122,19 @@ fn work(
         offsets,
         places,
         lines,
-        f,
     ) {
         return failed();
     }
-    if !save(o, head, mark, k, y, u, v, l, c, layout) {
-        return failed();
-    }
-    Done {
-        good: true,
-        more: true,
-        changed: changed(y, u, v, wasy, wasu, wasv, l, c, layout),
-    }
+    finished(head, mark, j, k, y, u, v, wasy, wasu, wasv)
 }
 
-// A frame of planes up to 512 by 512 samples, or as many in another shape.
+// A frame of planes up to 512 by 512 samples.
 fn small(
     name: &[u8],
-    fd: i32,
-    o: i32,
     head: &[u8],
     mark: &[u8],
+    j: Job,
     k: usize,
-    h: Header,
-    l: Shape,
-    c: Shape,
     numbers: &[i32],
     shorts: &[u16],
     steps: &[u32],
@@ -113,7 +143,7 @@ fn small(
     places: &[usize],
     lines: &[usize],
 ) -> Done
-    requires { ⌜ Fit l × Fit c × Lent (length (now numbers)) (length (now shorts)) (length (now steps)) (length (now flags)) (length (now offsets)) (length (now places)) × (21 ≤ length (now lines)) ⌝ }
+    requires { ⌜ Shaped j × Lent (length (now numbers)) (length (now shorts)) (length (now steps)) (length (now flags)) (length (now offsets)) (length (now places)) (length (now lines)) ⌝ }
 {
     let mut y = planes::small_room();
     let mut u = planes::small_room();
@@ -124,14 +154,57 @@ fn small(
     let mut luma = planes::small_room();
     work(
         name,
-        fd,
-        o,
         head,
         mark,
+        j,
         k,
-        h,
-        l,
-        c,
+        &mut y,
+        &mut u,
+        &mut v,
+        &mut wasy,
+        &mut wasu,
+        &mut wasv,
+        &mut luma,
+        numbers,
+        shorts,
+        steps,
+        flags,
+        offsets,
+        places,
+        lines,
+    )
+}
+
+// A frame of planes up to 2048 by 2048 samples.
+fn middle(
+    name: &[u8],
+    head: &[u8],
+    mark: &[u8],
+    j: Job,
+    k: usize,
+    numbers: &[i32],
+    shorts: &[u16],
+    steps: &[u32],
+    flags: &[u8],
+    offsets: &[i8],
+    places: &[usize],
+    lines: &[usize],
+) -> Done
+    requires { ⌜ Shaped j × Lent (length (now numbers)) (length (now shorts)) (length (now steps)) (length (now flags)) (length (now offsets)) (length (now places)) (length (now lines)) ⌝ }
+{
+    let mut y = planes::middle_room();
+    let mut u = planes::middle_room();
+    let mut v = planes::middle_room();
+    let mut wasy = planes::middle_room();
+    let mut wasu = planes::middle_room();
+    let mut wasv = planes::middle_room();
+    let mut luma = planes::middle_room();
+    work(
+        name,
+        head,
+        mark,
+        j,
+        k,
         &mut y,
         &mut u,
         &mut v,
@@ -152,14 +225,10 @@ fn small(
 // A frame of larger planes.
 fn large(
     name: &[u8],
-    fd: i32,
-    o: i32,
     head: &[u8],
     mark: &[u8],
+    j: Job,
     k: usize,
-    h: Header,
-    l: Shape,
-    c: Shape,
     numbers: &[i32],
     shorts: &[u16],
     steps: &[u32],
@@ -168,25 +237,21 @@ fn large(
     places: &[usize],
     lines: &[usize],
 ) -> Done
-    requires { ⌜ Fit l × Fit c × Lent (length (now numbers)) (length (now shorts)) (length (now steps)) (length (now flags)) (length (now offsets)) (length (now places)) × (21 ≤ length (now lines)) ⌝ }
+    requires { ⌜ Shaped j × Lent (length (now numbers)) (length (now shorts)) (length (now steps)) (length (now flags)) (length (now offsets)) (length (now places)) (length (now lines)) ⌝ }
 {
-    let mut y = planes::samples_room();
-    let mut u = planes::samples_room();
-    let mut v = planes::samples_room();
-    let mut wasy = planes::samples_room();
-    let mut wasu = planes::samples_room();
-    let mut wasv = planes::samples_room();
-    let mut luma = planes::samples_room();
+    let mut y = planes::large_room();
+    let mut u = planes::large_room();
+    let mut v = planes::large_room();
+    let mut wasy = planes::large_room();
+    let mut wasu = planes::large_room();
+    let mut wasv = planes::large_room();
+    let mut luma = planes::large_room();
     work(
         name,
-        fd,
-        o,
         head,
         mark,
+        j,
         k,
-        h,
-        l,
-        c,
         &mut y,
         &mut u,
         &mut v,
@@ -204,16 +269,22 @@ fn large(
     )
 }
 
-// The next frame of the file, where there is one; the first must be there.
-pub fn next(
+// Whether the planes have at most so many rows, and so many samples a row.
+fn within(j: Job, most: usize) -> bool {
+    let l = j.l;
+    if most < l.stride {
+        return false;
+    }
+    l.rows <= most
+}
+
+// Frame k, whose line was read, over the smallest lists that hold it.
+fn fitted(
     name: &[u8],
-    fd: i32,
-    o: i32,
     head: &[u8],
+    mark: &[u8],
+    j: Job,
     k: usize,
-    h: Header,
-    l: Shape,
-    c: Shape,
     numbers: &[i32],
     shorts: &[u16],
     steps: &[u32],
@@ -222,33 +293,31 @@ pub fn next(
     places: &[usize],
     lines: &[usize],
 ) -> Done
-    requires { ⌜ Fit l × Fit c × Lent (length (now numbers)) (length (now shorts)) (length (now steps)) (length (now flags)) (length (now offsets)) (length (now places)) × (21 ≤ length (now lines)) ⌝ }
+    requires { ⌜ Shaped j × Lent (length (now numbers)) (length (now shorts)) (length (now steps)) (length (now flags)) (length (now offsets)) (length (now places)) (length (now lines)) ⌝ }
 {
-    let mut mark = [0u8; 1024];
-    let t = files::read_line(fd, &mut mark);
-    let m = t.n;
-    if t.end && 0 < k {
-        return Done {
-            good: true,
-            more: false,
-            changed: 0,
-        };
-    }
-    if m == 1024 || !is_frame(&mark, m) {
-        say::no_frame(name, k);
-        return failed();
-    }
-    if planes::area(l.stride, l.rows) <= 262144 {
+    if within(j, 512) {
         return small(
             name,
-            fd,
-            o,
             head,
-            &mark[..m],
+            mark,
+            j,
             k,
-            h,
-            l,
-            c,
+            numbers,
+            shorts,
+            steps,
+            flags,
+            offsets,
+            places,
+            lines,
+        );
+    }
+    if within(j, 2048) {
+        return middle(
+            name,
+            head,
+            mark,
+            j,
+            k,
             numbers,
             shorts,
             steps,
@@ -260,14 +329,56 @@ pub fn next(
     }
     large(
         name,
-        fd,
-        o,
+        head,
+        mark,
+        j,
+        k,
+        numbers,
+        shorts,
+        steps,
+        flags,
+        offsets,
+        places,
+        lines,
+    )
+}
+
+// Frame k of the file, where there is one; the first must be there.
+pub fn next(
+    name: &[u8],
+    head: &[u8],
+    j: Job,
+    k: usize,
+    numbers: &[i32],
+    shorts: &[u16],
+    steps: &[u32],
+    flags: &[u8],
+    offsets: &[i8],
+    places: &[usize],
+    lines: &[usize],
+) -> Done
+    requires { ⌜ Shaped j × Lent (length (now numbers)) (length (now shorts)) (length (now steps)) (length (now flags)) (length (now offsets)) (length (now places)) (length (now lines)) ⌝ }
+{
+    let mut mark = [0u8; 1024];
+    let t = files::read_line(j.from, &mut mark);
+    if t.end && 0 < k {
+        return Done {
+            good: true,
+            more: false,
+            changed: 0,
+        };
+    }
+    let m = t.n;
+    if m == 1024 || !is_frame(&mark, m) {
+        say::no_frame(name, k);
+        return failed();
+    }
+    fitted(
+        name,
         head,
         &mark[..m],
+        j,
         k,
-        h,
-        l,
-        c,
         numbers,
         shorts,
         steps,

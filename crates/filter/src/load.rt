@@ -1,8 +1,7 @@
-// The settings' file, read into the lists of its numbers.
+// The settings' text, taken into the lists of its numbers.
 ghost use Prim.Native.Nat.{_≤_};
 ghost use lib.ListN.{length};
 use crate::say;
-use pictures::files;
 use settings::text::lines_of;
 use settings::text::parse;
 use words::place::blank;
@@ -37,7 +36,7 @@ fn say_unknown(name: &[u8], text: &[u8], at: usize, line: usize) {
 }
 
 // A text into the lists; false after the answer that says what is wrong.
-fn take(
+pub fn take(
     name: &[u8],
     text: &[u8],
     numbers: &mut [i32],
@@ -59,40 +58,4 @@ fn take(
         say::expected_setting(name, fault.line, fault.kind);
     }
     false
-}
-
-// Reads the settings; false after the answer that says what is wrong.
-pub fn load(
-    name: &[u8],
-    numbers: &mut [i32],
-    shorts: &mut [u16],
-    steps: &mut [u32],
-    flags: &mut [u8],
-    offsets: &mut [i8],
-    places: &mut [usize; 21],
-    lines: &mut [usize; 21],
-) -> bool {
-    let fd = files::open_in(name);
-    if fd < 0 {
-        say::cannot(name, b"the settings can't be read");
-        return false;
-    }
-    let mut text = files::text_room();
-    let n = io::read_full(fd, &mut text);
-    libc::close(fd);
-    if n == 33554432 {
-        say::cannot(name, b"expected settings of fewer than 33554432 bytes");
-        return false;
-    }
-    take(
-        name,
-        &text[..n],
-        numbers,
-        shorts,
-        steps,
-        flags,
-        offsets,
-        places,
-        lines,
-    )
 }

@@ -1,6 +1,8 @@
 // The picture's file: whether its header is good, and a frame's planes.
 ghost use Prim.Native.Nat.{_≤_};
 ghost use Rattle.pictures.specs.Shapes.{Fit};
+ghost use Rattle.filter.specs.Lent.{Shaped};
+use crate::frame::Job;
 use crate::say;
 use pictures::outside::twice;
 use pictures::planes;
@@ -123,22 +125,22 @@ fn is_whole(name: &[u8], k: usize, sum: Sum) -> bool {
 // The planes of frame k; false after the answer that says what is missing.
 pub fn read_frame(
     name: &[u8],
-    fd: i32,
+    j: Job,
     k: usize,
     y: &mut [u16],
     u: &mut [u16],
     v: &mut [u16],
-    l: Shape,
-    c: Shape,
-    layout: Layout,
 ) -> bool
-    requires { ⌜ Fit l × Fit c ⌝ }
+    requires { ⌜ Shaped j ⌝ }
 {
+    let h = j.h;
+    let layout = h.layout;
     let wide = 8 < layout.depth;
-    let luma = read_more(fd, y, l, wide, Sum { has: 0, needs: 0 });
+    let none = Sum { has: 0, needs: 0 };
+    let luma = read_more(j.from, y, j.l, wide, none);
     if !layout.chroma {
         return is_whole(name, k, luma);
     }
-    let first = read_more(fd, u, c, wide, luma);
-    is_whole(name, k, read_more(fd, v, c, wide, first))
+    let first = read_more(j.from, u, j.c, wide, luma);
+    is_whole(name, k, read_more(j.from, v, j.c, wide, first))
 }

@@ -2,9 +2,10 @@
 ghost use lib.ListN.{length};
 ghost use Prim.Native.Nat.{_≤_};
 ghost use Rattle.pictures.specs.Shapes.{Fit};
-ghost use Rattle.filter.specs.Lent.{Lent};
+ghost use Rattle.filter.specs.Lent.{Lent, Shaped};
 use crate::frame;
-use crate::load::load;
+use crate::frame::Job;
+use crate::load::take;
 use crate::read::header_of;
 use crate::read::short_of;
 use crate::say;
@@ -18,15 +19,20 @@ use settings::names::first_places;
 use std::num::wrapping_add_usize;
 use y4m::header::Header;
 
-// Every frame of the file, and then the answer.
+// The answer after the last frame, by whether OUT could be closed.
+fn closed(name: &[u8], j: Job, frames: usize, changed: usize) {
+    if libc::close(j.to) == 0 {
+        say::filtered(name, j.h, frames, changed);
+    } else {
+        say::unwritten();
+    }
+}
+
+// Every frame of the file, and then the answer. On a terminal the frames are counted.
 fn frames(
     name: &[u8],
-    out: &[u8],
-    fd: i32,
     head: &[u8],
-    h: Header,
-    l: Shape,
-    c: Shape,
+    j: Job,
     numbers: &[i32],
     shorts: &[u16],
     steps: &[u32],
@@ -35,26 +41,18 @@ fn frames(
     places: &[usize],
     lines: &[usize],
 )
-    requires { ⌜ Fit l × Fit c × Lent (length (now numbers)) (length (now shorts)) (length (now steps)) (length (now flags)) (length (now offsets)) (length (now places)) × (21 ≤ length (now lines)) ⌝ }
+    requires { ⌜ Shaped j × Lent (length (now numbers)) (length (now shorts)) (length (now steps)) (length (now flags)) (length (now offsets)) (length (now places)) (length (now lines)) ⌝ }
 {
-    let o = files::open_out(out);
-    // on a terminal the frames are counted
     let shown = libc::isatty(2) == 1;
     let mut k: usize = 0;
-    let mut count: usize = 0;
     let mut changed: usize = 0;
-    let mut more = true;
-    while more && k < 18446744073709551615 {
+    while k < 18446744073709551615 {
         say::count(k, shown);
         let d = frame::next(
             name,
-            fd,
-            o,
             head,
+            j,
             k,
-            h,
-            l,
-            c,
             numbers,
             shorts,
             steps,
@@ -66,63 +64,178 @@ fn frames(
         if !d.good {
             return;
         }
-        more = d.more;
+        if !d.more {
+            break;
+        }
         changed = wrapping_add_usize(changed, d.changed);
-        count = k;
         k += 1;
     }
-    if libc::close(o) == 0 {
-        say::filtered(name, h, count, changed);
-    } else {
-        say::unwritten();
+    closed(name, j, k, changed);
+}
+
+// Luma's shape by the header.
+fn luma_of(h: Header) -> Shape
+    ensures { λ r. ⌜ Fit r ⌝ }
+{
+    planes::shape_of(limit(h.width, 1, 4096), limit(h.height, 1, 4096), 0, 0)
+}
+
+// Chroma's shape by the header.
+fn chroma_of(h: Header) -> Shape
+    ensures { λ r. ⌜ Fit r ⌝ }
+{
+    let layout = h.layout;
+    planes::shape_of(
+        limit(h.width, 1, 4096),
+        limit(h.height, 1, 4096),
+        layout.ssx,
+        layout.ssy,
+    )
+}
+
+// What the picture's size decides of the settings, and then its frames.
+fn sized(
+    name: &[u8],
+    settings: &[u8],
+    out: &[u8],
+    fd: i32,
+    head: &[u8],
+    h: Header,
+    numbers: &[i32],
+    shorts: &mut [u16],
+    steps: &[u32],
+    flags: &[u8],
+    offsets: &[i8],
+    places: &mut [usize; 21],
+    lines: &[usize; 21],
+)
+    requires { ⌜ (24576 ≤ length (now shorts)) × Lent (length (now numbers)) (length (now shorts)) (length (now steps)) (length (now flags)) (length (now offsets)) 21 21 ⌝ }
+{
+    let l = luma_of(h);
+    let c = chroma_of(h);
+    defaults::complete(shorts, places, l.width, l.height);
+    if inside(settings, shorts, places, l) {
+        let j = Job {
+            from: fd,
+            to: files::open_out(out),
+            h,
+            l,
+            c,
+        };
+        frames(
+            name,
+            head,
+            j,
+            numbers,
+            shorts,
+            steps,
+            flags,
+            offsets,
+            places,
+            lines,
+        );
     }
 }
 
-// What the settings say, completed by the picture's size, and then its frames.
-fn sized(name: &[u8], settings: &[u8], out: &[u8], fd: i32, head: &[u8], h: Header) {
-    let layout = h.layout;
-    let width = limit(h.width, 1, 4096);
-    let height = limit(h.height, 1, 4096);
-    let l = planes::shape_of(width, height, 0, 0);
-    let c = planes::shape_of(width, height, layout.ssx, layout.ssy);
+// What a settings text says, and then the picture.
+fn told(
+    name: &[u8],
+    settings: &[u8],
+    out: &[u8],
+    fd: i32,
+    head: &[u8],
+    h: Header,
+    text: &[u8],
+    shorts: &mut [u16],
+)
+    requires { ⌜ 24576 ≤ length (now shorts) ⌝ }
+{
     let mut numbers = defaults::numbers();
-    let mut shorts = defaults::shorts();
     let mut steps = ac_steps::steps();
     let mut flags = [1u8; 12288];
     let mut offsets = [0i8; 384];
-    let mut places = first_places();
+    let mut places = first_places(shorts.len());
     let mut lines = [0usize; 21];
-    if !load(
+    if take(
         settings,
+        text,
         &mut numbers,
-        &mut shorts,
+        shorts,
         &mut steps,
         &mut flags,
         &mut offsets,
         &mut places,
         &mut lines,
     ) {
-        return;
-    }
-    defaults::complete(&mut shorts, &mut places, width, height);
-    if inside(settings, &shorts, &places, l) {
-        frames(
+        sized(
             name,
+            settings,
             out,
             fd,
             head,
             h,
-            l,
-            c,
             &numbers,
-            &shorts,
+            shorts,
             &steps,
             &flags,
             &offsets,
-            &places,
+            &mut places,
             &lines,
         );
     }
+}
+
+// A short text needs short lists.
+fn brief(name: &[u8], settings: &[u8], out: &[u8], fd: i32, head: &[u8], h: Header, text: &[u8]) {
+    let mut shorts = defaults::few_shorts();
+    told(name, settings, out, fd, head, h, text, &mut shorts);
+}
+
+// A text whose front was read, and the rest of it from its file; how long it is.
+fn read_on(file: i32, front: &[u8], text: &mut [u8]) -> usize
+    requires { ⌜ length (now front) ≤ length (now text) ⌝ }
+    ensures { λ r. ⌜ r ≤ length (now (text .exit)) ⌝ }
+{
+    let m = bytes::copy(front, text);
+    m + io::read_full(file, &mut text[m..])
+}
+
+// A text of which only the front was read.
+fn long(
+    name: &[u8],
+    settings: &[u8],
+    out: &[u8],
+    fd: i32,
+    head: &[u8],
+    h: Header,
+    file: i32,
+    front: &[u8; 65536],
+) {
+    let mut text = files::text_room();
+    let n = read_on(file, front, &mut text);
+    if n == 33554432 {
+        say::cannot(settings, b"expected settings of fewer than 33554432 bytes");
+        return;
+    }
+    let mut shorts = defaults::shorts();
+    told(name, settings, out, fd, head, h, &text[..n], &mut shorts);
+}
+
+// The settings' file, and then what its text says.
+fn asked(name: &[u8], settings: &[u8], out: &[u8], fd: i32, head: &[u8], h: Header) {
+    let file = files::open_in(settings);
+    if file < 0 {
+        say::cannot(settings, b"the settings can't be read");
+        return;
+    }
+    let mut front = io::large_buffer();
+    let n = io::read_full(file, &mut front);
+    if n < 65536 {
+        brief(name, settings, out, fd, head, h, &front[..n]);
+    } else {
+        long(name, settings, out, fd, head, h, file, &front);
+    }
+    libc::close(file);
 }
 
 // The picture's header, and then the rest. A header that is too long counts as none.
@@ -137,7 +250,7 @@ pub fn run(name: &[u8], settings: &[u8], out: &[u8]) {
     let n = short_of(first.n);
     let h = header_of(name, &head[..n]);
     if h.opens {
-        sized(name, settings, out, fd, &head[..n], h);
+        asked(name, settings, out, fd, &head[..n], h);
     }
     libc::close(fd);
 }

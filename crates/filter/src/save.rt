@@ -1,81 +1,54 @@
 // The written frame, and how many of its samples changed.
 ghost use Rattle.pictures.specs.Shapes.{Fit};
+ghost use Rattle.filter.specs.Lent.{Shaped};
+use crate::frame::Job;
 use crate::say;
 use pictures::planes;
 use pictures::planes::Shape;
 use std::num::wrapping_add_usize;
-use y4m::format::Layout;
 
 // A line and its newline to a file.
 fn write_line(fd: i32, line: &[u8]) -> bool {
     io::write_all(fd, line) && io::write_all(fd, b"\n")
 }
 
-// The planes to a file.
-fn write_planes(
-    fd: i32,
-    y: &[u16],
-    u: &[u16],
-    v: &[u16],
-    l: Shape,
-    c: Shape,
-    layout: Layout,
-) -> bool
-    requires { ⌜ Fit l × Fit c ⌝ }
+// The planes to the file.
+fn write_planes(j: Job, y: &[u16], u: &[u16], v: &[u16]) -> bool
+    requires { ⌜ Shaped j ⌝ }
 {
+    let h = j.h;
+    let layout = h.layout;
     let wide = 8 < layout.depth;
-    if !planes::write_plane(fd, y, l, wide) {
+    if !planes::write_plane(j.to, y, j.l, wide) {
         return false;
     }
     if !layout.chroma {
         return true;
     }
-    if !planes::write_plane(fd, u, c, wide) {
+    if !planes::write_plane(j.to, u, j.c, wide) {
         return false;
     }
-    planes::write_plane(fd, v, c, wide)
+    planes::write_plane(j.to, v, j.c, wide)
 }
 
 // The lines and the planes of frame k; the first one has the header before it.
-fn write_frame(
-    fd: i32,
-    head: &[u8],
-    mark: &[u8],
-    k: usize,
-    y: &[u16],
-    u: &[u16],
-    v: &[u16],
-    l: Shape,
-    c: Shape,
-    layout: Layout,
-) -> bool
-    requires { ⌜ Fit l × Fit c ⌝ }
+fn write_frame(head: &[u8], mark: &[u8], j: Job, k: usize, y: &[u16], u: &[u16], v: &[u16]) -> bool
+    requires { ⌜ Shaped j ⌝ }
 {
-    if k == 0 && !write_line(fd, head) {
+    if k == 0 && !write_line(j.to, head) {
         return false;
     }
-    if !write_line(fd, mark) {
+    if !write_line(j.to, mark) {
         return false;
     }
-    write_planes(fd, y, u, v, l, c, layout)
+    write_planes(j, y, u, v)
 }
 
 // Writes frame k; false after the answer that it could not.
-pub fn save(
-    fd: i32,
-    head: &[u8],
-    mark: &[u8],
-    k: usize,
-    y: &[u16],
-    u: &[u16],
-    v: &[u16],
-    l: Shape,
-    c: Shape,
-    layout: Layout,
-) -> bool
-    requires { ⌜ Fit l × Fit c ⌝ }
+pub fn save(head: &[u8], mark: &[u8], j: Job, k: usize, y: &[u16], u: &[u16], v: &[u16]) -> bool
+    requires { ⌜ Shaped j ⌝ }
 {
-    if write_frame(fd, head, mark, k, y, u, v, l, c, layout) {
+    if write_frame(head, mark, j, k, y, u, v) {
         return true;
     }
     say::unwritten();
@@ -98,14 +71,13 @@ pub fn keep(
     wasy: &mut [u16],
     wasu: &mut [u16],
     wasv: &mut [u16],
-    l: Shape,
-    c: Shape,
+    j: Job,
 )
-    requires { ⌜ Fit l × Fit c ⌝ }
+    requires { ⌜ Shaped j ⌝ }
 {
-    keep_plane(y, wasy, l);
-    keep_plane(u, wasu, c);
-    keep_plane(v, wasv, c);
+    keep_plane(y, wasy, j.l);
+    keep_plane(u, wasu, j.c);
+    keep_plane(v, wasv, j.c);
 }
 
 // How many samples of a plane are not as they were.
@@ -123,16 +95,16 @@ pub fn changed(
     wasy: &[u16],
     wasu: &[u16],
     wasv: &[u16],
-    l: Shape,
-    c: Shape,
-    layout: Layout,
+    j: Job,
 ) -> usize
-    requires { ⌜ Fit l × Fit c ⌝ }
+    requires { ⌜ Shaped j ⌝ }
 {
-    let n = changed_in(y, wasy, l);
+    let h = j.h;
+    let layout = h.layout;
+    let n = changed_in(y, wasy, j.l);
     if !layout.chroma {
         return n;
     }
-    let m = wrapping_add_usize(changed_in(u, wasu, c), changed_in(v, wasv, c));
+    let m = wrapping_add_usize(changed_in(u, wasu, j.c), changed_in(v, wasv, j.c));
     wrapping_add_usize(n, m)
 }

@@ -1,14 +1,15 @@
 // Both filters over the planes, and the answer that says why one refused.
 ghost use lib.ListN.{length};
 ghost use Prim.Native.Nat.{_≤_};
-ghost use Rattle.pictures.specs.Shapes.{Fit};
 ghost use Rattle.framed.specs.Framed.{Listed};
 ghost use Rattle.asked.specs.Offsets.{Long};
-ghost use Rattle.filter.specs.Lent.{Lent};
+ghost use Rattle.filter.specs.Lent.{Lent, Shaped};
+use crate::frame::Job;
 use crate::say;
 use asked::gated::offset_planes;
 use asked::lists::lists_of;
 use asked::places::at;
+use asked::told::frame_of;
 use framed::listed::deblock_asked;
 use pictures::outside::outside;
 use pictures::planes;
@@ -36,9 +37,9 @@ fn list_inside(name: &[u8], list: &[u8], leaves: &[u16], s: Shape) -> bool {
 
 // Whether every leaf begins in the picture; else after the answer.
 pub fn inside(name: &[u8], shorts: &[u16], places: &[usize], s: Shape) -> bool
-    requires { ⌜ (12587008 ≤ length (now shorts)) × (7 ≤ length (now places)) ⌝ }
+    requires { ⌜ (4096 ≤ length (now shorts)) × (7 ≤ length (now places)) ⌝ }
 {
-    let at = lists_of(places);
+    let at = lists_of(places, shorts.len());
     let a = at.leaves;
     let b = at.leavesend;
     let c = at.chroma;
@@ -148,13 +149,28 @@ fn offset(
     }
 }
 
-// Takes the padding out of the planes.
-fn pack(y: &mut [u16], u: &mut [u16], v: &mut [u16], l: Shape, c: Shape)
-    requires { ⌜ Fit l × Fit c ⌝ }
+// The frame that the header and the settings describe.
+fn frame_by(j: Job, numbers: &[i32]) -> Frame
+    requires { ⌜ 8 ≤ length (now numbers) ⌝ }
 {
-    planes::pack(y, l);
-    planes::pack(u, c);
-    planes::pack(v, c);
+    let l = j.l;
+    let c = j.c;
+    frame_of(j.h, numbers, l.stride, c.stride)
+}
+
+// Chroma's samples in a row.
+fn width_of(j: Job) -> usize {
+    let c = j.c;
+    c.width
+}
+
+// Takes the padding out of the planes.
+fn pack(y: &mut [u16], u: &mut [u16], v: &mut [u16], j: Job)
+    requires { ⌜ Shaped j ⌝ }
+{
+    planes::pack(y, j.l);
+    planes::pack(u, j.c);
+    planes::pack(v, j.c);
 }
 
 // Deblocks the planes, packs them and applies the offsets by a copy of luma; false after the answer that says why not.
@@ -163,8 +179,7 @@ pub fn treat(
     u: &mut [u16],
     v: &mut [u16],
     luma: &mut [u16],
-    l: Shape,
-    c: Shape,
+    j: Job,
     numbers: &[i32],
     shorts: &[u16],
     steps: &[u32],
@@ -172,14 +187,14 @@ pub fn treat(
     offsets: &[i8],
     places: &[usize],
     lines: &[usize],
-    f: Frame,
 ) -> bool
-    requires { ⌜ Fit l × Fit c × Lent (length (now numbers)) (length (now shorts)) (length (now steps)) (length (now flags)) (length (now offsets)) (length (now places)) × (21 ≤ length (now lines)) ⌝ }
+    requires { ⌜ Shaped j × Lent (length (now numbers)) (length (now shorts)) (length (now steps)) (length (now flags)) (length (now offsets)) (length (now places)) (length (now lines)) ⌝ }
 {
+    let f = frame_by(j, numbers);
     if !deblocked(y, u, v, shorts, steps, places, lines, f) {
         return false;
     }
-    pack(y, u, v, l, c);
+    pack(y, u, v, j);
     planes::copy(y, luma);
     offset(
         y,
@@ -192,6 +207,6 @@ pub fn treat(
         places,
         lines,
         f,
-        c.width,
+        width_of(j),
     )
 }

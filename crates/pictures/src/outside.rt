@@ -1,10 +1,11 @@
 // What the settings and the header must not say: a leaf that begins outside the picture, a letter's value twice.
 ghost use mathlib.Core.Path.{_≡_};
-ghost use Prim.Native.Nat.{_+_, _-_, _≤_, _<_};
+ghost use Prim.Native.Nat.{_-_, _<_};
 ghost use lib.ListN.{length};
 ghost use Rattle.words.specs.Places.{seek};
 ghost use Rattle.y4m.specs.Headers.{tagAt};
 ghost use Rattle.pictures.specs.Outside.{beyond, outsideOf, twiceOf};
+use y4m::header::is_tag;
 
 // Whether a place lies beyond the last row or column.
 fn is_beyond(rows: usize, columns: usize, row: u16, column: u16) -> bool
@@ -29,17 +30,6 @@ pub fn outside(leaves: &[u16], rows: usize, columns: usize) -> usize
         k += 1;
     }
     k
-}
-
-// A space and then the letter.
-fn is_tag(text: &[u8], k: usize, letter: u8) -> bool
-    requires { ⌜ k + 1 < length (now text) ⌝ }
-    ensures { λ r. ⌜ r ≡ tagAt (now (text .entry)) letter k ⌝ }
-{
-    if text[k] != 32 {
-        return false;
-    }
-    text[k + 1] == letter
 }
 
 // The space before the next such letter of a line, or the place of its last byte.

@@ -62,14 +62,19 @@ pub fn area(across: usize, down: usize) -> usize
     across * down
 }
 
-// Samples of the largest plane.
-pub fn samples_room() -> [u16; 16777216] {
-    [0; 16777216]
-}
-
-// Samples of a plane of 512 by 512, or of as many in another shape.
+// Samples of a plane of 512 by 512 at most.
 pub fn small_room() -> [u16; 262144] {
     [0; 262144]
+}
+
+// Samples of a plane of 2048 by 2048 at most.
+pub fn middle_room() -> [u16; 4194304] {
+    [0; 4194304]
+}
+
+// Samples of the largest plane.
+pub fn large_room() -> [u16; 16777216] {
+    [0; 16777216]
 }
 
 // What was read of a plane: whether it is whole, and how many bytes there were.
