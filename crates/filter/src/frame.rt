@@ -1,4 +1,4 @@
-// One frame: its line, its planes read, filtered and written, over lists of one of three sizes.
+// One frame: its line, its planes read, filtered and written, over lent planes.
 ghost use lib.ListN.{length};
 ghost use Rattle.filter.specs.Lent.{Lent, Shaped};
 use crate::read::read_frame;
@@ -8,7 +8,6 @@ use crate::save::save;
 use crate::say;
 use crate::treat::treat;
 use pictures::files;
-use pictures::planes;
 use pictures::planes::Shape;
 use y4m::header::Header;
 use y4m::header::is_frame;
@@ -40,15 +39,15 @@ fn failed() -> Done {
 
 // The planes of frame k, and others that keep them as they were.
 fn taken(
-    name: &[u8],
-    j: Job,
-    k: usize,
     y: &mut [u16],
     u: &mut [u16],
     v: &mut [u16],
     wasy: &mut [u16],
     wasu: &mut [u16],
     wasv: &mut [u16],
+    name: &[u8],
+    j: Job,
+    k: usize,
 ) -> bool
     requires { ⌜ Shaped j ⌝ }
 {
@@ -82,13 +81,8 @@ fn finished(
     failed()
 }
 
-// Frame k over lent planes.
+// Frame k, whose line was read.
 fn work(
-    name: &[u8],
-    head: &[u8],
-    mark: &[u8],
-    j: Job,
-    k: usize,
     y: &mut [u16],
     u: &mut [u16],
     v: &mut [u16],
@@ -96,6 +90,11 @@ fn work(
     wasu: &mut [u16],
     wasv: &mut [u16],
     luma: &mut [u16],
+    name: &[u8],
+    head: &[u8],
+    mark: &[u8],
+    j: Job,
+    k: usize,
     numbers: &[i32],
     shorts: &[u16],
     steps: &[u32],
@@ -106,7 +105,7 @@ fn work(
 ) -> Done
     requires { ⌜ Shaped j × Lent (length (now numbers)) (length (now shorts)) (length (now steps)) (length (now flags)) (length (now offsets)) (length (now places)) (length (now lines)) ⌝ }
 {
-    if !taken(name, j, k, y, u, v, wasy, wasu, wasv) {
+    if !taken(y, u, v, wasy, wasu, wasv, name, j, k) {
         return failed();
     }
     if !treat(
@@ -128,223 +127,15 @@ fn work(
     finished(head, mark, j, k, y, u, v, wasy, wasu, wasv)
 }
 
-// A frame of planes up to 512 by 512 samples.
-fn small(
-    name: &[u8],
-    head: &[u8],
-    mark: &[u8],
-    j: Job,
-    k: usize,
-    numbers: &[i32],
-    shorts: &[u16],
-    steps: &[u32],
-    flags: &[u8],
-    offsets: &[i8],
-    places: &[usize],
-    lines: &[usize],
-) -> Done
-    requires { ⌜ Shaped j × Lent (length (now numbers)) (length (now shorts)) (length (now steps)) (length (now flags)) (length (now offsets)) (length (now places)) (length (now lines)) ⌝ }
-{
-    let mut y = planes::small_room();
-    let mut u = planes::small_room();
-    let mut v = planes::small_room();
-    let mut wasy = planes::small_room();
-    let mut wasu = planes::small_room();
-    let mut wasv = planes::small_room();
-    let mut luma = planes::small_room();
-    work(
-        name,
-        head,
-        mark,
-        j,
-        k,
-        &mut y,
-        &mut u,
-        &mut v,
-        &mut wasy,
-        &mut wasu,
-        &mut wasv,
-        &mut luma,
-        numbers,
-        shorts,
-        steps,
-        flags,
-        offsets,
-        places,
-        lines,
-    )
-}
-
-// A frame of planes up to 2048 by 2048 samples.
-fn middle(
-    name: &[u8],
-    head: &[u8],
-    mark: &[u8],
-    j: Job,
-    k: usize,
-    numbers: &[i32],
-    shorts: &[u16],
-    steps: &[u32],
-    flags: &[u8],
-    offsets: &[i8],
-    places: &[usize],
-    lines: &[usize],
-) -> Done
-    requires { ⌜ Shaped j × Lent (length (now numbers)) (length (now shorts)) (length (now steps)) (length (now flags)) (length (now offsets)) (length (now places)) (length (now lines)) ⌝ }
-{
-    let mut y = planes::middle_room();
-    let mut u = planes::middle_room();
-    let mut v = planes::middle_room();
-    let mut wasy = planes::middle_room();
-    let mut wasu = planes::middle_room();
-    let mut wasv = planes::middle_room();
-    let mut luma = planes::middle_room();
-    work(
-        name,
-        head,
-        mark,
-        j,
-        k,
-        &mut y,
-        &mut u,
-        &mut v,
-        &mut wasy,
-        &mut wasu,
-        &mut wasv,
-        &mut luma,
-        numbers,
-        shorts,
-        steps,
-        flags,
-        offsets,
-        places,
-        lines,
-    )
-}
-
-// A frame of larger planes.
-fn large(
-    name: &[u8],
-    head: &[u8],
-    mark: &[u8],
-    j: Job,
-    k: usize,
-    numbers: &[i32],
-    shorts: &[u16],
-    steps: &[u32],
-    flags: &[u8],
-    offsets: &[i8],
-    places: &[usize],
-    lines: &[usize],
-) -> Done
-    requires { ⌜ Shaped j × Lent (length (now numbers)) (length (now shorts)) (length (now steps)) (length (now flags)) (length (now offsets)) (length (now places)) (length (now lines)) ⌝ }
-{
-    let mut y = planes::large_room();
-    let mut u = planes::large_room();
-    let mut v = planes::large_room();
-    let mut wasy = planes::large_room();
-    let mut wasu = planes::large_room();
-    let mut wasv = planes::large_room();
-    let mut luma = planes::large_room();
-    work(
-        name,
-        head,
-        mark,
-        j,
-        k,
-        &mut y,
-        &mut u,
-        &mut v,
-        &mut wasy,
-        &mut wasu,
-        &mut wasv,
-        &mut luma,
-        numbers,
-        shorts,
-        steps,
-        flags,
-        offsets,
-        places,
-        lines,
-    )
-}
-
-// Whether the planes have at most so many rows, and so many samples a row.
-fn within(j: Job, most: usize) -> bool {
-    let l = j.l;
-    if most < l.stride {
-        return false;
-    }
-    l.rows <= most
-}
-
-// Frame k, whose line was read, over the smallest lists that hold it.
-fn fitted(
-    name: &[u8],
-    head: &[u8],
-    mark: &[u8],
-    j: Job,
-    k: usize,
-    numbers: &[i32],
-    shorts: &[u16],
-    steps: &[u32],
-    flags: &[u8],
-    offsets: &[i8],
-    places: &[usize],
-    lines: &[usize],
-) -> Done
-    requires { ⌜ Shaped j × Lent (length (now numbers)) (length (now shorts)) (length (now steps)) (length (now flags)) (length (now offsets)) (length (now places)) (length (now lines)) ⌝ }
-{
-    if within(j, 512) {
-        return small(
-            name,
-            head,
-            mark,
-            j,
-            k,
-            numbers,
-            shorts,
-            steps,
-            flags,
-            offsets,
-            places,
-            lines,
-        );
-    }
-    if within(j, 2048) {
-        return middle(
-            name,
-            head,
-            mark,
-            j,
-            k,
-            numbers,
-            shorts,
-            steps,
-            flags,
-            offsets,
-            places,
-            lines,
-        );
-    }
-    large(
-        name,
-        head,
-        mark,
-        j,
-        k,
-        numbers,
-        shorts,
-        steps,
-        flags,
-        offsets,
-        places,
-        lines,
-    )
-}
-
 // Frame k of the file, where there is one; the first must be there.
 pub fn next(
+    y: &mut [u16],
+    u: &mut [u16],
+    v: &mut [u16],
+    wasy: &mut [u16],
+    wasu: &mut [u16],
+    wasv: &mut [u16],
+    luma: &mut [u16],
     name: &[u8],
     head: &[u8],
     j: Job,
@@ -373,7 +164,14 @@ pub fn next(
         say::no_frame(name, k);
         return failed();
     }
-    fitted(
+    work(
+        y,
+        u,
+        v,
+        wasy,
+        wasu,
+        wasv,
+        luma,
         name,
         head,
         &mark[..m],

@@ -19,8 +19,11 @@ use settings::names::first_places;
 use std::num::wrapping_add_usize;
 use y4m::header::Header;
 
-// The answer after the last frame, by whether OUT could be closed.
-fn closed(name: &[u8], j: Job, frames: usize, changed: usize) {
+// The answer after the last frame, by whether OUT could be closed; none where a frame was bad, which was answered.
+fn closed(name: &[u8], j: Job, frames: usize, changed: usize, good: bool) {
+    if !good {
+        return;
+    }
     if libc::close(j.to) == 0 {
         say::filtered(name, j.h, frames, changed);
     } else {
@@ -30,6 +33,13 @@ fn closed(name: &[u8], j: Job, frames: usize, changed: usize) {
 
 // Every frame of the file, and then the answer. On a terminal the frames are counted.
 fn frames(
+    y: &mut [u16],
+    u: &mut [u16],
+    v: &mut [u16],
+    wasy: &mut [u16],
+    wasu: &mut [u16],
+    wasv: &mut [u16],
+    luma: &mut [u16],
     name: &[u8],
     head: &[u8],
     j: Job,
@@ -49,6 +59,13 @@ fn frames(
     while k < 18446744073709551615 {
         say::count(k, shown);
         let d = frame::next(
+            y,
+            u,
+            v,
+            wasy,
+            wasu,
+            wasv,
+            luma,
             name,
             head,
             j,
@@ -61,16 +78,13 @@ fn frames(
             places,
             lines,
         );
-        if !d.good {
-            return;
-        }
         if !d.more {
-            break;
+            closed(name, j, k, changed, d.good);
+            return;
         }
         changed = wrapping_add_usize(changed, d.changed);
         k += 1;
     }
-    closed(name, j, k, changed);
 }
 
 // Luma's shape by the header.
@@ -95,6 +109,13 @@ fn chroma_of(h: Header) -> Shape
 
 // What the picture's size decides of the settings, and then its frames.
 fn sized(
+    y: &mut [u16],
+    u: &mut [u16],
+    v: &mut [u16],
+    wasy: &mut [u16],
+    wasu: &mut [u16],
+    wasv: &mut [u16],
+    luma: &mut [u16],
     name: &[u8],
     settings: &[u8],
     out: &[u8],
@@ -123,6 +144,13 @@ fn sized(
             c,
         };
         frames(
+            y,
+            u,
+            v,
+            wasy,
+            wasu,
+            wasv,
+            luma,
             name,
             head,
             j,
@@ -139,6 +167,13 @@ fn sized(
 
 // What a settings text says, and then the picture.
 fn told(
+    y: &mut [u16],
+    u: &mut [u16],
+    v: &mut [u16],
+    wasy: &mut [u16],
+    wasu: &mut [u16],
+    wasv: &mut [u16],
+    luma: &mut [u16],
     name: &[u8],
     settings: &[u8],
     out: &[u8],
@@ -168,6 +203,13 @@ fn told(
         &mut lines,
     ) {
         sized(
+            y,
+            u,
+            v,
+            wasy,
+            wasu,
+            wasv,
+            luma,
             name,
             settings,
             out,
@@ -185,10 +227,33 @@ fn told(
     }
 }
 
-// A short text needs short lists.
-fn brief(name: &[u8], settings: &[u8], out: &[u8], fd: i32, head: &[u8], h: Header, text: &[u8]) {
+// A small picture, by a text that was read whole.
+fn light(name: &[u8], settings: &[u8], out: &[u8], fd: i32, head: &[u8], h: Header, text: &[u8]) {
     let mut shorts = defaults::few_shorts();
-    told(name, settings, out, fd, head, h, text, &mut shorts);
+    let mut y = planes::small_room();
+    let mut u = planes::small_room();
+    let mut v = planes::small_room();
+    let mut wasy = planes::small_room();
+    let mut wasu = planes::small_room();
+    let mut wasv = planes::small_room();
+    let mut luma = planes::small_room();
+    told(
+        &mut y,
+        &mut u,
+        &mut v,
+        &mut wasy,
+        &mut wasu,
+        &mut wasv,
+        &mut luma,
+        name,
+        settings,
+        out,
+        fd,
+        head,
+        h,
+        text,
+        &mut shorts,
+    );
 }
 
 // A text whose front was read, and the rest of it from its file; how long it is.
@@ -200,8 +265,8 @@ fn read_on(file: i32, front: &[u8], text: &mut [u8]) -> usize
     m + io::read_full(file, &mut text[m..])
 }
 
-// A text of which only the front was read.
-fn long(
+// Any picture, by a text of which the front was read.
+fn heavy(
     name: &[u8],
     settings: &[u8],
     out: &[u8],
@@ -209,8 +274,10 @@ fn long(
     head: &[u8],
     h: Header,
     file: i32,
-    front: &[u8; 65536],
-) {
+    front: &[u8],
+)
+    requires { ⌜ length (now front) ≤ 65536 ⌝ }
+{
     let mut text = files::text_room();
     let n = read_on(file, front, &mut text);
     if n == 33554432 {
@@ -218,10 +285,38 @@ fn long(
         return;
     }
     let mut shorts = defaults::shorts();
-    told(name, settings, out, fd, head, h, &text[..n], &mut shorts);
+    let mut y = planes::large_room();
+    let mut u = planes::large_room();
+    let mut v = planes::large_room();
+    let mut wasy = planes::large_room();
+    let mut wasu = planes::large_room();
+    let mut wasv = planes::large_room();
+    let mut luma = planes::large_room();
+    told(
+        &mut y,
+        &mut u,
+        &mut v,
+        &mut wasy,
+        &mut wasu,
+        &mut wasv,
+        &mut luma,
+        name,
+        settings,
+        out,
+        fd,
+        head,
+        h,
+        &text[..n],
+        &mut shorts,
+    );
 }
 
-// The settings' file, and then what its text says.
+// Whether no plane has more than 512 rows, or samples in a row.
+fn small(h: Header) -> bool {
+    h.width <= 512 && h.height <= 512
+}
+
+// The settings' file, and then what its text says. `heavy` is called twice so that the compiler leaves it a function of its own, whose lists a small picture never touches.
 fn asked(name: &[u8], settings: &[u8], out: &[u8], fd: i32, head: &[u8], h: Header) {
     let file = files::open_in(settings);
     if file < 0 {
@@ -230,10 +325,12 @@ fn asked(name: &[u8], settings: &[u8], out: &[u8], fd: i32, head: &[u8], h: Head
     }
     let mut front = io::large_buffer();
     let n = io::read_full(file, &mut front);
-    if n < 65536 {
-        brief(name, settings, out, fd, head, h, &front[..n]);
+    if n == 65536 {
+        heavy(name, settings, out, fd, head, h, file, &front);
+    } else if small(h) {
+        light(name, settings, out, fd, head, h, &front[..n]);
     } else {
-        long(name, settings, out, fd, head, h, file, &front);
+        heavy(name, settings, out, fd, head, h, file, &front[..n]);
     }
     libc::close(file);
 }

@@ -67,11 +67,6 @@ pub fn small_room() -> [u16; 262144] {
     [0; 262144]
 }
 
-// Samples of a plane of 2048 by 2048 at most.
-pub fn middle_room() -> [u16; 4194304] {
-    [0; 4194304]
-}
-
 // Samples of the largest plane.
 pub fn large_room() -> [u16; 16777216] {
     [0; 16777216]

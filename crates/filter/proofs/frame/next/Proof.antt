@@ -31,11 +31,32 @@ returns-2 c = search needs
 array-share-prefix-mark : tie.Need-array-share-prefix-mark
 array-share-prefix-mark c = search needs
 
-slice-aggregate-fitted : tie.Need-slice-aggregate-fitted
-slice-aggregate-fitted c = front _ _ (search needs)
+slice-aggregate-work : tie.Need-slice-aggregate-work
+slice-aggregate-work c = front _ _ (search needs)
 
-fitted-requires : tie.Need-fitted-requires
-fitted-requires c κs = c .before .before .before .before .before .before .before .before .before .before .before .before .before .before .before .before .before .pre
+work-requires : tie.Need-work-requires
+work-requires c κs = c .before .before .before .before .before .before .before .before .before .before .before .before .before .before .before .before .before .before .before .before .before .before .before .before .before .before .before .before .before .before .before .pre
+
+same-length : tie.Need-same-length
+same-length c = c .before .before .before .before .before .before .before .before .before .before .before .before .before .before .work .kept .0
+
+same-length-2 : tie.Need-same-length-2
+same-length-2 c = c .before .before .before .before .before .before .before .before .before .before .before .before .before .before .work .kept .1 .0
+
+same-length-3 : tie.Need-same-length-3
+same-length-3 c = c .before .before .before .before .before .before .before .before .before .before .before .before .before .before .work .kept .1 .1 .0
+
+same-length-4 : tie.Need-same-length-4
+same-length-4 c = c .before .before .before .before .before .before .before .before .before .before .before .before .before .before .work .kept .1 .1 .1 .0
+
+same-length-5 : tie.Need-same-length-5
+same-length-5 c = c .before .before .before .before .before .before .before .before .before .before .before .before .before .before .work .kept .1 .1 .1 .1 .0
+
+same-length-6 : tie.Need-same-length-6
+same-length-6 c = c .before .before .before .before .before .before .before .before .before .before .before .before .before .before .work .kept .1 .1 .1 .1 .1 .0
+
+same-length-7 : tie.Need-same-length-7
+same-length-7 c = c .before .before .before .before .before .before .before .before .before .before .before .before .before .before .work .kept .1 .1 .1 .1 .1 .1 .0
 
 returns-3 : tie.Need-returns-3
 returns-3 c = search needs
@@ -53,6 +74,13 @@ next-spec =
     failed-requires
     returns-2
     array-share-prefix-mark
-    slice-aggregate-fitted
-    fitted-requires
+    slice-aggregate-work
+    work-requires
+    same-length
+    same-length-2
+    same-length-3
+    same-length-4
+    same-length-5
+    same-length-6
+    same-length-7
     returns-3)
