@@ -255,11 +255,22 @@ fn split(random: &Random, out: &mut String, name: &str, at: (usize, usize), size
     }
 }
 
+/// Whether a leaf's line begins in the picture; one that does not is refused by the program as a bad file.
+fn begins_inside(line: &str, size: (usize, usize)) -> bool {
+    let words: Vec<usize> = line.split(' ').skip(1).take(2).map(|w| w.parse().expect("a number")).collect();
+    words[0] < 2 * size.1.div_ceil(8) && words[1] < 2 * size.0.div_ceil(8)
+}
+
+/// Leaves over the picture's superblocks; those that begin beyond its last row or column are left out.
 fn tiling(random: &Random, out: &mut String, name: &str, size: (usize, usize)) {
+    let mut lines = String::new();
     for r in 0..size.1.div_ceil(64) {
         for c in 0..size.0.div_ceil(64) {
-            split(random, out, name, (16 * r, 16 * c), (16, 16));
+            split(random, &mut lines, name, (16 * r, 16 * c), (16, 16));
         }
+    }
+    for line in lines.lines().filter(|l| begins_inside(l, size)) {
+        *out += &format!("{line}\n");
     }
 }
 
@@ -310,7 +321,8 @@ fn settings(seed: u64, size: (usize, usize)) -> String {
         tiling(&random, &mut out, "leaf_uv", size);
     }
     if random.once_in(3) {
-        out += &format!("\nskip 0 {} 8 8\n", 8 * random.below(2));
+        let column = 8 * random.below(2);
+        out += &format!("\nskip 0 {} 8 8\n", if size.0 <= 32 { 0 } else { column });
     }
     for letter in ["y", "u", "v"] {
         if random.once_in(2) {

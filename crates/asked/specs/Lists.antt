@@ -1,26 +1,34 @@
--- The lists of the settings among their short numbers: 4096 qindex entries, then luma's leaves, chroma's leaves and skip leaves,
+-- The lists of the settings among their n short numbers: 4096 qindex entries, then luma's leaves, chroma's leaves and skip leaves,
 -- each from a place of its own to the place after its last number. Assumes nothing.
 use mathlib.Core.List.{List}
-use Prim.Native.Nat.{ℕ, _≤_, min, max}
+use Prim.Native.Nat.{ℕ, _+_, _≤_, min, max}
 use lib.Dec.{eqb}
 use lib.ListN.{getD}
 use Rattle.laws.specs.Choose.{pick}
+use Rattle.settings.specs.Rules.{leafRoom}
 use Rattle.asked.specs.declared.lists.Lists.{Lists}
 
 -- the end of a list that begins at `from` and has room up to `end`, by the place after the last number of its kind
 abbrev pub endOf : List ℕ → ℕ → ℕ → ℕ → ℕ
 endOf places kind from end = max from (min (getD places kind 0) end)
 
+-- where chroma's leaves begin, and where the skip leaves do
+abbrev pub chromaFrom : ℕ → ℕ
+chromaFrom n = 4096 + leafRoom n
+
+abbrev pub skipsFrom : ℕ → ℕ
+skipsFrom n = chromaFrom n + leafRoom n
+
 -- kinds 4, 5 and 6; chroma has luma's leaves where it has none of its own
-unfoldable pub listsAsked : List ℕ → Lists
-listsAsked places = record {
+unfoldable pub listsAsked : ℕ → List ℕ → Lists
+listsAsked n places = record {
   entries = 4096;
   leaves = 4096;
-  leavesend = endOf places 4 4096 4198400;
-  chroma = pick (eqb (endOf places 5 4198400 8392704) 4198400) 4096 4198400;
-  chromaend = pick (eqb (endOf places 5 4198400 8392704) 4198400) (endOf places 4 4096 4198400) (endOf places 5 4198400 8392704);
-  skips = 8392704;
-  skipsend = endOf places 6 8392704 12587008;
+  leavesend = endOf places 4 4096 (chromaFrom n);
+  chroma = pick (eqb (endOf places 5 (chromaFrom n) (skipsFrom n)) (chromaFrom n)) 4096 (chromaFrom n);
+  chromaend = pick (eqb (endOf places 5 (chromaFrom n) (skipsFrom n)) (chromaFrom n)) (endOf places 4 4096 (chromaFrom n)) (endOf places 5 (chromaFrom n) (skipsFrom n));
+  skips = skipsFrom n;
+  skipsend = endOf places 6 (skipsFrom n) (skipsFrom n + leafRoom n);
 }
 
 -- the steps given, at most 352; all 352 of the published table where none is

@@ -5,6 +5,7 @@ ghost use lib.ListN.{length};
 ghost use Rattle.asked.specs.Lists.{listsAsked, stepsAsked, Within};
 use laws::least;
 use laws::most;
+use settings::names::leaf_room;
 
 // Where the lists of short numbers begin and end.
 pub struct Lists {
@@ -31,22 +32,25 @@ pub fn steps_of(n: usize) -> usize
     if n == 0 { 352 } else { least(n, 352) }
 }
 
-// The lists by the places after their last numbers. Chroma has luma's leaves where it has none of its own.
-pub fn lists_of(places: &[usize]) -> Lists
-    requires { ⌜ 7 ≤ length (now places) ⌝ }
-    ensures { λ r. ⌜ (r ≡ listsAsked (now (places .entry))) × Within r 12587008 ⌝ }
+// The lists of n short numbers by the places after their last ones. Chroma has luma's leaves where it has none of its own.
+pub fn lists_of(places: &[usize], n: usize) -> Lists
+    requires { ⌜ (7 ≤ length (now places)) × (4096 ≤ n) ⌝ }
+    ensures { λ r. ⌜ (r ≡ listsAsked n (now (places .entry))) × Within r n ⌝ }
 {
-    let l = limit(places[4], 4096, 4198400);
-    let c = limit(places[5], 4198400, 8392704);
-    let s = limit(places[6], 8392704, 12587008);
-    if c == 4198400 {
+    let room = leaf_room(n);
+    let chroma = 4096 + room;
+    let skips = chroma + room;
+    let l = limit(places[4], 4096, chroma);
+    let c = limit(places[5], chroma, skips);
+    let s = limit(places[6], skips, skips + room);
+    if c == chroma {
         return Lists {
             entries: 4096,
             leaves: 4096,
             leavesend: l,
             chroma: 4096,
             chromaend: l,
-            skips: 8392704,
+            skips,
             skipsend: s,
         };
     }
@@ -54,9 +58,9 @@ pub fn lists_of(places: &[usize]) -> Lists
         entries: 4096,
         leaves: 4096,
         leavesend: l,
-        chroma: 4198400,
+        chroma,
         chromaend: c,
-        skips: 8392704,
+        skips,
         skipsend: s,
     }
 }

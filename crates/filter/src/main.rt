@@ -1,7 +1,7 @@
-// Filters a picture: `filter PICTURE SETTINGS OUT` reads a YUV4MPEG2 picture and a settings file, deblocks it, applies the CCSO offsets
-// that the settings ask for, writes the picture, and prints one line. Where it does not filter, OUT is not touched.
+// Filters a picture or a stream: `filter PICTURE SETTINGS OUT` reads a YUV4MPEG2 file and a settings file, deblocks each frame, applies the CCSO offsets
+// that the settings ask for, writes the frames to OUT, and answers on standard output. `bin/filter` keeps OUT as it was where a frame is not filtered.
 
-// What is printed.
+// The answer.
 mod say;
 
 // The settings' file.
@@ -13,8 +13,11 @@ mod read;
 // The filters over the planes.
 mod treat;
 
-// The written picture.
+// The written frame, and what changed.
 mod save;
+
+// One frame.
+mod frame;
 
 // The order of it all.
 mod run;

@@ -1,87 +1,126 @@
-// From the names of the files to the written picture and the one line.
+// From the names of the files to the written frames and the answer.
 ghost use lib.ListN.{length};
+ghost use Prim.Native.Nat.{_≤_};
 ghost use Rattle.pictures.specs.Shapes.{Fit};
-ghost use Rattle.filter.specs.Lent.{Lent};
-use crate::load::load;
-use crate::read::header_good;
-use crate::read::read_planes;
+ghost use Rattle.filter.specs.Lent.{Lent, Shaped};
+use crate::frame;
+use crate::frame::Job;
+use crate::load::take;
+use crate::read::header_of;
 use crate::read::short_of;
-use crate::save::save;
 use crate::say;
-use crate::treat::treat;
+use crate::treat::inside;
 use asked::lists::limit;
-use asked::told::frame_of;
 use pictures::defaults;
 use pictures::files;
 use pictures::planes;
 use pictures::planes::Shape;
 use settings::names::first_places;
+use std::num::wrapping_add_usize;
 use y4m::header::Header;
-use y4m::header::is_frame;
-use y4m::header::read_header;
 
-// The planes, filtered and written, of a picture whose shapes are known.
-fn filter(
+// The answer after the last frame, by whether OUT could be closed; none where a frame was bad, which was answered.
+fn closed(name: &[u8], j: Job, frames: usize, changed: usize, good: bool) {
+    if !good {
+        return;
+    }
+    if libc::close(j.to) == 0 {
+        say::filtered(name, j.h, frames, changed);
+    } else {
+        say::unwritten();
+    }
+}
+
+// Every frame of the file, and then the answer. On a terminal the frames are counted.
+fn frames(
+    y: &mut [u16],
+    u: &mut [u16],
+    v: &mut [u16],
+    wasy: &mut [u16],
+    wasu: &mut [u16],
+    wasv: &mut [u16],
+    luma: &mut [u16],
     name: &[u8],
-    out: &[u8],
-    fd: i32,
     head: &[u8],
-    mark: &[u8],
-    h: Header,
-    l: Shape,
-    c: Shape,
+    j: Job,
     numbers: &[i32],
     shorts: &[u16],
     steps: &[u32],
     flags: &[u8],
     offsets: &[i8],
     places: &[usize],
+    lines: &[usize],
 )
-    requires { ⌜ Fit l × Fit c × Lent (length (now numbers)) (length (now shorts)) (length (now steps)) (length (now flags)) (length (now offsets)) (length (now places)) ⌝ }
+    requires { ⌜ Shaped j × Lent (length (now numbers)) (length (now shorts)) (length (now steps)) (length (now flags)) (length (now offsets)) (length (now places)) (length (now lines)) ⌝ }
 {
-    let layout = h.layout;
-    let chroma = layout.chroma;
-    let wide = 8 < layout.depth;
-    let mut y = planes::samples_room();
-    let mut u = planes::samples_room();
-    let mut v = planes::samples_room();
-    if !read_planes(fd, &mut y, &mut u, &mut v, l, c, chroma, wide) {
-        say::expected(
+    let shown = libc::isatty(2) == 1;
+    let mut k: usize = 0;
+    let mut changed: usize = 0;
+    while k < 18446744073709551615 {
+        say::count(k, shown);
+        let d = frame::next(
+            y,
+            u,
+            v,
+            wasy,
+            wasu,
+            wasv,
+            luma,
             name,
-            3,
-            b"the samples of every plane, and then the end of the file",
+            head,
+            j,
+            k,
+            numbers,
+            shorts,
+            steps,
+            flags,
+            offsets,
+            places,
+            lines,
         );
-        return;
-    }
-    let f = frame_of(h, numbers, l.stride, c.stride);
-    if !treat(
-        &mut y,
-        &mut u,
-        &mut v,
-        l,
-        c,
-        numbers,
-        shorts,
-        steps,
-        flags,
-        offsets,
-        places,
-        f,
-    ) {
-        return;
-    }
-    if save(out, head, mark, &y, &u, &v, l, c, chroma, wide) {
-        say::filtered(name, h);
+        if !d.more {
+            closed(name, j, k, changed, d.good);
+            return;
+        }
+        changed = wrapping_add_usize(changed, d.changed);
+        k += 1;
     }
 }
 
-// What the picture's size decides, and then its planes.
+// Luma's shape by the header.
+fn luma_of(h: Header) -> Shape
+    ensures { λ r. ⌜ Fit r ⌝ }
+{
+    planes::shape_of(limit(h.width, 1, 4096), limit(h.height, 1, 4096), 0, 0)
+}
+
+// Chroma's shape by the header.
+fn chroma_of(h: Header) -> Shape
+    ensures { λ r. ⌜ Fit r ⌝ }
+{
+    let layout = h.layout;
+    planes::shape_of(
+        limit(h.width, 1, 4096),
+        limit(h.height, 1, 4096),
+        layout.ssx,
+        layout.ssy,
+    )
+}
+
+// What the picture's size decides of the settings, and then its frames.
 fn sized(
+    y: &mut [u16],
+    u: &mut [u16],
+    v: &mut [u16],
+    wasy: &mut [u16],
+    wasu: &mut [u16],
+    wasv: &mut [u16],
+    luma: &mut [u16],
     name: &[u8],
+    settings: &[u8],
     out: &[u8],
     fd: i32,
     head: &[u8],
-    mark: &[u8],
     h: Header,
     numbers: &[i32],
     shorts: &mut [u16],
@@ -89,151 +128,226 @@ fn sized(
     flags: &[u8],
     offsets: &[i8],
     places: &mut [usize; 21],
+    lines: &[usize; 21],
 )
-    requires { ⌜ Lent (length (now numbers)) (length (now shorts)) (length (now steps)) (length (now flags)) (length (now offsets)) 21 ⌝ }
+    requires { ⌜ (24576 ≤ length (now shorts)) × Lent (length (now numbers)) (length (now shorts)) (length (now steps)) (length (now flags)) (length (now offsets)) 21 21 ⌝ }
 {
-    let layout = h.layout;
-    let width = limit(h.width, 1, 4096);
-    let height = limit(h.height, 1, 4096);
-    let l = planes::shape_of(width, height, 0, 0);
-    let c = planes::shape_of(width, height, layout.ssx, layout.ssy);
-    defaults::complete(shorts, places, width, height);
-    filter(
-        name,
-        out,
-        fd,
-        head,
-        mark,
-        h,
-        l,
-        c,
-        numbers,
-        shorts,
-        steps,
-        flags,
-        offsets,
-        places,
-    );
+    let l = luma_of(h);
+    let c = chroma_of(h);
+    defaults::complete(shorts, places, l.width, l.height);
+    if inside(settings, shorts, places, l) {
+        let j = Job {
+            from: fd,
+            to: files::open_out(out),
+            h,
+            l,
+            c,
+        };
+        frames(
+            y,
+            u,
+            v,
+            wasy,
+            wasu,
+            wasv,
+            luma,
+            name,
+            head,
+            j,
+            numbers,
+            shorts,
+            steps,
+            flags,
+            offsets,
+            places,
+            lines,
+        );
+    }
 }
 
-// A picture whose two lines were read.
-fn opened(
+// What a settings text says, and then the picture.
+fn told(
+    y: &mut [u16],
+    u: &mut [u16],
+    v: &mut [u16],
+    wasy: &mut [u16],
+    wasu: &mut [u16],
+    wasv: &mut [u16],
+    luma: &mut [u16],
     name: &[u8],
+    settings: &[u8],
     out: &[u8],
     fd: i32,
     head: &[u8],
-    mark: &[u8],
-    numbers: &[i32],
+    h: Header,
+    text: &[u8],
     shorts: &mut [u16],
-    steps: &[u32],
-    flags: &[u8],
-    offsets: &[i8],
-    places: &mut [usize; 21],
 )
-    requires { ⌜ Lent (length (now numbers)) (length (now shorts)) (length (now steps)) (length (now flags)) (length (now offsets)) 21 ⌝ }
+    requires { ⌜ 24576 ≤ length (now shorts) ⌝ }
 {
-    let n = head.len();
-    if n == 0 {
-        say::expected(
-            name,
-            1,
-            b"'YUV4MPEG2' and a header of fewer than 1024 bytes",
-        );
-        return;
-    }
-    let h = read_header(head, n);
-    if !header_good(name, h) {
-        return;
-    }
-    let m = mark.len();
-    if m == 1024 || !is_frame(mark, m) {
-        say::expected(name, 2, b"'FRAME'");
-        return;
-    }
-    sized(
-        name,
-        out,
-        fd,
-        head,
-        mark,
-        h,
-        numbers,
-        shorts,
-        steps,
-        flags,
-        offsets,
-        places,
-    );
-}
-
-// A picture whose file is open. A line that is too long counts as none.
-fn picture(
-    name: &[u8],
-    out: &[u8],
-    fd: i32,
-    numbers: &[i32],
-    shorts: &mut [u16],
-    steps: &[u32],
-    flags: &[u8],
-    offsets: &[i8],
-    places: &mut [usize; 21],
-)
-    requires { ⌜ Lent (length (now numbers)) (length (now shorts)) (length (now steps)) (length (now flags)) (length (now offsets)) 21 ⌝ }
-{
-    let mut head = [0u8; 1024];
-    let mut mark = [0u8; 1024];
-    let first = files::read_line(fd, &mut head);
-    let m = files::read_line(fd, &mut mark);
-    let n = short_of(first);
-    opened(
-        name,
-        out,
-        fd,
-        &head[..n],
-        &mark[..m],
-        numbers,
-        shorts,
-        steps,
-        flags,
-        offsets,
-        places,
-    );
-}
-
-// Settings, then the picture.
-pub fn run(name: &[u8], settings: &[u8], out: &[u8]) {
     let mut numbers = defaults::numbers();
-    let mut shorts = defaults::shorts();
     let mut steps = ac_steps::steps();
     let mut flags = [1u8; 12288];
     let mut offsets = [0i8; 384];
-    let mut places = first_places();
-    if !load(
+    let mut places = first_places(shorts.len());
+    let mut lines = [0usize; 21];
+    if take(
         settings,
+        text,
         &mut numbers,
-        &mut shorts,
+        shorts,
         &mut steps,
         &mut flags,
         &mut offsets,
         &mut places,
+        &mut lines,
     ) {
+        sized(
+            y,
+            u,
+            v,
+            wasy,
+            wasu,
+            wasv,
+            luma,
+            name,
+            settings,
+            out,
+            fd,
+            head,
+            h,
+            &numbers,
+            shorts,
+            &steps,
+            &flags,
+            &offsets,
+            &mut places,
+            &lines,
+        );
+    }
+}
+
+// A small picture, by a text that was read whole.
+fn light(name: &[u8], settings: &[u8], out: &[u8], fd: i32, head: &[u8], h: Header, text: &[u8]) {
+    let mut shorts = defaults::few_shorts();
+    let mut y = planes::small_room();
+    let mut u = planes::small_room();
+    let mut v = planes::small_room();
+    let mut wasy = planes::small_room();
+    let mut wasu = planes::small_room();
+    let mut wasv = planes::small_room();
+    let mut luma = planes::small_room();
+    told(
+        &mut y,
+        &mut u,
+        &mut v,
+        &mut wasy,
+        &mut wasu,
+        &mut wasv,
+        &mut luma,
+        name,
+        settings,
+        out,
+        fd,
+        head,
+        h,
+        text,
+        &mut shorts,
+    );
+}
+
+// A text whose front was read, and the rest of it from its file; how long it is.
+fn read_on(file: i32, front: &[u8], text: &mut [u8]) -> usize
+    requires { ⌜ length (now front) ≤ length (now text) ⌝ }
+    ensures { λ r. ⌜ r ≤ length (now (text .exit)) ⌝ }
+{
+    let m = bytes::copy(front, text);
+    m + io::read_full(file, &mut text[m..])
+}
+
+// Any picture, by a text of which the front was read.
+fn heavy(
+    name: &[u8],
+    settings: &[u8],
+    out: &[u8],
+    fd: i32,
+    head: &[u8],
+    h: Header,
+    file: i32,
+    front: &[u8],
+)
+    requires { ⌜ length (now front) ≤ 65536 ⌝ }
+{
+    let mut text = files::text_room();
+    let n = read_on(file, front, &mut text);
+    if n == 33554432 {
+        say::cannot(settings, b"expected settings of fewer than 33554432 bytes");
         return;
     }
+    let mut shorts = defaults::shorts();
+    let mut y = planes::large_room();
+    let mut u = planes::large_room();
+    let mut v = planes::large_room();
+    let mut wasy = planes::large_room();
+    let mut wasu = planes::large_room();
+    let mut wasv = planes::large_room();
+    let mut luma = planes::large_room();
+    told(
+        &mut y,
+        &mut u,
+        &mut v,
+        &mut wasy,
+        &mut wasu,
+        &mut wasv,
+        &mut luma,
+        name,
+        settings,
+        out,
+        fd,
+        head,
+        h,
+        &text[..n],
+        &mut shorts,
+    );
+}
+
+// Whether no plane has more than 512 rows, or samples in a row.
+fn small(h: Header) -> bool {
+    h.width <= 512 && h.height <= 512
+}
+
+// The settings' file, and then what its text says. `heavy` is called twice so that the compiler leaves it a function of its own, whose lists a small picture never touches.
+fn asked(name: &[u8], settings: &[u8], out: &[u8], fd: i32, head: &[u8], h: Header) {
+    let file = files::open_in(settings);
+    if file < 0 {
+        say::cannot(settings, b"the settings can't be read");
+        return;
+    }
+    let mut front = io::large_buffer();
+    let n = io::read_full(file, &mut front);
+    if n == 65536 {
+        heavy(name, settings, out, fd, head, h, file, &front);
+    } else if small(h) {
+        light(name, settings, out, fd, head, h, &front[..n]);
+    } else {
+        heavy(name, settings, out, fd, head, h, file, &front[..n]);
+    }
+    libc::close(file);
+}
+
+// The picture's header, and then the rest. A header that is too long counts as none.
+pub fn run(name: &[u8], settings: &[u8], out: &[u8]) {
     let fd = files::open_in(name);
     if fd < 0 {
         say::cannot(name, b"the picture can't be read");
         return;
     }
-    picture(
-        name,
-        out,
-        fd,
-        &numbers,
-        &mut shorts,
-        &steps,
-        &flags,
-        &offsets,
-        &mut places,
-    );
+    let mut head = [0u8; 1024];
+    let first = files::read_line(fd, &mut head);
+    let n = short_of(first.n);
+    let h = header_of(name, &head[..n]);
+    if h.opens {
+        asked(name, settings, out, fd, &head[..n], h);
+    }
     libc::close(fd);
 }

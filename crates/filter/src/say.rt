@@ -15,6 +15,14 @@ pub fn usage() {
     words(b"usage: filter PICTURE SETTINGS OUT\n");
 }
 
+// How many frames are done, on a terminal, from the first one on.
+pub fn count(k: usize, shown: bool) {
+    if shown && 0 < k {
+        io::write_all(2, b"\rfiltered: frame ");
+        io::print_decimal(2, k as u64);
+    }
+}
+
 // A file that can't be read.
 pub fn cannot(name: &[u8], what: &[u8]) {
     words(b"2");
@@ -40,71 +48,134 @@ pub fn expected(name: &[u8], line: usize, what: &[u8]) {
     words(b"\n");
 }
 
+// A line that begins with an unknown name.
+pub fn unknown(name: &[u8], line: usize, word: &[u8]) {
+    words(b"2");
+    words(name);
+    words(b": line ");
+    number(line);
+    words(b": expected the name of a setting, and not '");
+    words(word);
+    words(b"'\n");
+}
+
+// After k frames no other begins.
+pub fn no_frame(name: &[u8], k: usize) {
+    if k == 0 {
+        expected(name, 2, b"'FRAME'");
+        return;
+    }
+    words(b"2");
+    words(name);
+    words(b": expected 'FRAME' or the end of the file after frame ");
+    number(k);
+    words(b"\n");
+}
+
+// Frame k has fewer bytes of samples than it needs.
+pub fn cut(name: &[u8], k: usize, has: usize, needs: usize) {
+    words(b"2");
+    words(name);
+    words(b": frame ");
+    number(std::num::wrapping_add_usize(k, 1));
+    words(b": expected ");
+    number(needs);
+    words(b" bytes of samples, and the file ends after ");
+    number(has);
+    words(b" of them\n");
+}
+
+// A leaf that begins outside the picture, whose cells are counted.
+pub fn outside(name: &[u8], list: &[u8], row: usize, column: usize, rows: usize, columns: usize) {
+    words(b"2");
+    words(name);
+    words(b": expected leaves in the picture's ");
+    number(rows);
+    words(b" rows and ");
+    number(columns);
+    words(b" columns of cells, and not '");
+    words(list);
+    words(b" ");
+    number(row);
+    words(b" ");
+    number(column);
+    words(b" ..'\n");
+}
+
+// A setting by its name.
+fn setting(kind: usize) {
+    match kind {
+        2 => words(b"qindex"),
+        3 => words(b"steps"),
+        4 => words(b"leaf"),
+        5 => words(b"leaf_uv"),
+        6 => words(b"skip"),
+        7 => words(b"delta_y"),
+        8 => words(b"delta_uv"),
+        9 => words(b"cap_y"),
+        10 => words(b"cap_uv"),
+        11 => words(b"chroma"),
+        12 => words(b"ccso_y"),
+        13 => words(b"ccso_u"),
+        14 => words(b"ccso_v"),
+        15 => words(b"flags_y"),
+        16 => words(b"flags_u"),
+        17 => words(b"flags_v"),
+        18 => words(b"offset_y"),
+        19 => words(b"offset_u"),
+        _ => words(b"offset_v"),
+    }
+}
+
+// The numbers of a setting.
+fn numbers(kind: usize) {
+    match kind {
+        2 => words(b"numbers from 0 to 65535, one for each superblock, 4096 at most"),
+        3 => words(b"numbers from 0 to 4294967295, 352 at most"),
+        4 | 5 | 6 => words(
+            b"four numbers: row, column, width, height, in cells; 1048576 leaves at most",
+        ),
+        7 | 8 => words(b"one number"),
+        9 | 10 => words(b"two numbers: width, height, in cells"),
+        11 => words(b"0 or 1"),
+        12 | 13 | 14 => words(b"eleven numbers, without which its plane's offsets say nothing"),
+        15 | 16 | 17 => words(b"flags, 0 or 1, 4096 at most"),
+        _ => words(b"offsets from -10 to 7, 128 at most"),
+    }
+}
+
 // What the settings file should have said.
 pub fn expected_setting(name: &[u8], line: usize, kind: usize) {
-    match kind {
-        1 => expected(name, line, b"'settings 1' before any other setting"),
-        2 => expected(
-            name,
-            line,
-            b"'qindex' and numbers from 0 to 65535, one for each superblock, 4096 at most",
-        ),
-        3 => expected(
-            name,
-            line,
-            b"'steps' and numbers from 0 to 4294967295, 352 at most",
-        ),
-        4 => expected(
-            name,
-            line,
-            b"'leaf' and four numbers: row, column, width, height, in cells; 1048576 leaves at most",
-        ),
-        5 => expected(
-            name,
-            line,
-            b"'leaf_uv' and four numbers: row, column, width, height, in cells; 1048576 leaves at most",
-        ),
-        6 => expected(
-            name,
-            line,
-            b"'skip' and four numbers: row, column, width, height, in cells; 1048576 leaves at most",
-        ),
-        7 => expected(name, line, b"'delta_y' and one number"),
-        8 => expected(name, line, b"'delta_uv' and one number"),
-        9 => expected(
-            name,
-            line,
-            b"'cap_y' and two numbers: width, height, in cells",
-        ),
-        10 => expected(
-            name,
-            line,
-            b"'cap_uv' and two numbers: width, height, in cells",
-        ),
-        11 => expected(name, line, b"'chroma' and 0 or 1"),
-        12 => expected(name, line, b"'ccso_y' and eleven numbers"),
-        13 => expected(name, line, b"'ccso_u' and eleven numbers"),
-        14 => expected(name, line, b"'ccso_v' and eleven numbers"),
-        15 => expected(name, line, b"'flags_y' and flags, 0 or 1, 4096 at most"),
-        16 => expected(name, line, b"'flags_u' and flags, 0 or 1, 4096 at most"),
-        17 => expected(name, line, b"'flags_v' and flags, 0 or 1, 4096 at most"),
-        18 => expected(
-            name,
-            line,
-            b"'offset_y' and offsets from -10 to 7, 128 at most",
-        ),
-        19 => expected(
-            name,
-            line,
-            b"'offset_u' and offsets from -10 to 7, 128 at most",
-        ),
-        20 => expected(
-            name,
-            line,
-            b"'offset_v' and offsets from -10 to 7, 128 at most",
-        ),
-        _ => expected(name, line, b"the name of a setting"),
+    if kind == 1 {
+        expected(name, line, b"'settings 1' before any other setting");
+        return;
     }
+    words(b"2");
+    words(name);
+    words(b": line ");
+    number(line);
+    words(b": expected '");
+    setting(kind);
+    words(b"' and ");
+    numbers(kind);
+    words(b"\n");
+}
+
+// A setting outside its range, and the line that has it.
+pub fn out_of_range(kind: usize, line: usize) {
+    words(b"1refused by 5: ");
+    setting(kind);
+    words(b" is outside ");
+    match kind {
+        7 | 8 => words(b"-128..127"),
+        9 | 10 => words(b"1, 2, 4, 8 and 16 cells each way"),
+        _ => words(
+            b"its ranges: scale 1..16, cuts -4095..4095 with lo at most hi, classes 0..3, taps -16..16, band log2 0..3",
+        ),
+    }
+    words(b"; line ");
+    number(line);
+    words(b" of the settings\n");
 }
 
 // A refusal's meaning.
@@ -147,19 +218,32 @@ pub fn refused(r: Refusal, at: Place) {
     meaning(r);
     words(b"; ");
     plane_name(at.plane);
-    words(b", row ");
-    number(at.row);
-    words(b", column ");
-    number(at.column);
+    if at.plane == 7 {
+        words(b", entry ");
+        number(at.column);
+    } else {
+        words(b", row ");
+        number(at.row);
+        words(b", column ");
+        number(at.column);
+    }
     words(b"\n");
 }
 
-pub fn filtered(name: &[u8], h: Header) {
+// The frames that were filtered, and how many samples are not as they were.
+pub fn filtered(name: &[u8], h: Header, frames: usize, changed: usize) {
     words(b"0filtered ");
     words(name);
     words(b": ");
     number(h.width);
     words(b"x");
     number(h.height);
-    words(b"\n");
+    if frames != 1 {
+        words(b", ");
+        number(frames);
+        words(b" frames");
+    }
+    words(b", ");
+    number(changed);
+    words(b" samples changed\n");
 }

@@ -1,19 +1,93 @@
-// Both filters over the planes, and the line that says why one refused.
+// Both filters over the planes, and the answer that says why one refused.
 ghost use lib.ListN.{length};
-ghost use Rattle.pictures.specs.Shapes.{Fit};
+ghost use Prim.Native.Nat.{_≤_};
 ghost use Rattle.framed.specs.Framed.{Listed};
 ghost use Rattle.asked.specs.Offsets.{Long};
-ghost use Rattle.filter.specs.Lent.{Lent};
+ghost use Rattle.filter.specs.Lent.{Lent, Shaped};
+use crate::frame::Job;
 use crate::say;
 use asked::gated::offset_planes;
+use asked::lists::lists_of;
 use asked::places::at;
+use asked::told::frame_of;
 use framed::listed::deblock_asked;
+use pictures::outside::outside;
 use pictures::planes;
 use pictures::planes::Shape;
 use rules::refusals::Answer;
+use rules::refusals::number;
 use rules::settings::Frame;
+use thresholds::checks::delta_ok;
+use tiles::checks::cap_ok;
+use tiles::leaf::wide;
 
-// Deblocks the planes; false after the line that says why not.
+// Whether the leaves of a list begin in the picture; else after the answer that names the first that does not.
+fn list_inside(name: &[u8], list: &[u8], leaves: &[u16], s: Shape) -> bool {
+    let rows = s.rows / 4;
+    let columns = s.stride / 4;
+    let k = outside(leaves, rows, columns);
+    if leaves.len() / 4 <= k {
+        return true;
+    }
+    let row = wide(leaves[4 * k]);
+    let column = wide(leaves[4 * k + 1]);
+    say::outside(name, list, row, column, rows, columns);
+    false
+}
+
+// Whether every leaf begins in the picture; else after the answer.
+pub fn inside(name: &[u8], shorts: &[u16], places: &[usize], s: Shape) -> bool
+    requires { ⌜ (4096 ≤ length (now shorts)) × (7 ≤ length (now places)) ⌝ }
+{
+    let at = lists_of(places, shorts.len());
+    let a = at.leaves;
+    let b = at.leavesend;
+    let c = at.chroma;
+    let d = at.chromaend;
+    let e = at.skips;
+    let g = at.skipsend;
+    if !list_inside(name, b"leaf", &shorts[a..b], s) {
+        return false;
+    }
+    if !list_inside(name, b"leaf_uv", &shorts[c..d], s) {
+        return false;
+    }
+    list_inside(name, b"skip", &shorts[e..g], s)
+}
+
+// Which setting of a frame is outside its range: the kind of its line.
+fn setting_of(f: Frame) -> usize {
+    if !delta_ok(f.deltay) {
+        return 7;
+    }
+    if !cap_ok(f.capw) || !cap_ok(f.caph) {
+        return 9;
+    }
+    if !delta_ok(f.deltauv) {
+        return 8;
+    }
+    10
+}
+
+// The kind of a plane's CCSO line.
+fn ccso_kind(plane: usize) -> usize {
+    match plane {
+        0 => 12,
+        1 => 13,
+        _ => 14,
+    }
+}
+
+// The answer on a setting outside its range, by its kind.
+fn say_setting(kind: usize, lines: &[usize])
+    requires { ⌜ 21 ≤ length (now lines) ⌝ }
+{
+    if kind < 21 {
+        say::out_of_range(kind, lines[kind]);
+    }
+}
+
+// Deblocks the planes; false after the answer that says why not.
 fn deblocked(
     y: &mut [u16],
     u: &mut [u16],
@@ -21,79 +95,118 @@ fn deblocked(
     shorts: &[u16],
     steps: &[u32],
     places: &[usize],
+    lines: &[usize],
     f: Frame,
 ) -> bool
-    requires { ⌜ Listed (length (now shorts)) (length (now steps)) (length (now places)) ⌝ }
+    requires { ⌜ Listed (length (now shorts)) (length (now steps)) (length (now places)) × (21 ≤ length (now lines)) ⌝ }
 {
     let o = deblock_asked(y, u, v, shorts, steps, places, f);
     let a = o.answer;
+    let place = o.place;
     match a {
         Answer::Accepted => true,
         Answer::Refused(r) => {
-            say::refused(r, o.place);
+            if number(r) == 5 {
+                say_setting(setting_of(f), lines);
+            } else {
+                say::refused(r, place);
+            }
             false
         }
     }
 }
 
-// Applies the offsets, each by luma as it was; false after the line that says why not.
+// Applies the offsets, each by luma as it was; false after the answer that says why not.
 fn offset(
     y: &mut [u16],
     u: &mut [u16],
     v: &mut [u16],
+    luma: &[u16],
     numbers: &[i32],
     flags: &[u8],
     offsets: &[i8],
     places: &[usize],
+    lines: &[usize],
     f: Frame,
     across: usize,
 ) -> bool
-    requires { ⌜ Long (length (now numbers)) (length (now flags)) (length (now offsets)) (length (now places)) ⌝ }
+    requires { ⌜ Long (length (now numbers)) (length (now flags)) (length (now offsets)) (length (now places)) × (21 ≤ length (now lines)) ⌝ }
 {
-    let mut luma = planes::samples_room();
-    planes::copy(y, &mut luma);
-    let done = offset_planes(y, u, v, &luma, numbers, flags, offsets, places, f);
+    let done = offset_planes(y, u, v, luma, numbers, flags, offsets, places, f);
     let a = done.answer;
     let plane = done.plane;
     match a {
         Answer::Accepted => true,
         Answer::Refused(r) => {
-            let width = if plane == 0 { f.width } else { across };
-            say::refused(r, at(plane, rules::refusals::place(r), width));
+            if number(r) == 5 {
+                say_setting(ccso_kind(plane), lines);
+            } else {
+                let width = if plane == 0 { f.width } else { across };
+                say::refused(r, at(plane, rules::refusals::place(r), width));
+            }
             false
         }
     }
 }
 
-// Takes the padding out of the planes.
-fn pack(y: &mut [u16], u: &mut [u16], v: &mut [u16], l: Shape, c: Shape)
-    requires { ⌜ Fit l × Fit c ⌝ }
+// The frame that the header and the settings describe.
+fn frame_by(j: Job, numbers: &[i32]) -> Frame
+    requires { ⌜ 8 ≤ length (now numbers) ⌝ }
 {
-    planes::pack(y, l);
-    planes::pack(u, c);
-    planes::pack(v, c);
+    let l = j.l;
+    let c = j.c;
+    frame_of(j.h, numbers, l.stride, c.stride)
 }
 
-// Deblocks the planes, packs them and applies the offsets; false after the line that says why not.
+// Chroma's samples in a row.
+fn width_of(j: Job) -> usize {
+    let c = j.c;
+    c.width
+}
+
+// Takes the padding out of the planes.
+fn pack(y: &mut [u16], u: &mut [u16], v: &mut [u16], j: Job)
+    requires { ⌜ Shaped j ⌝ }
+{
+    planes::pack(y, j.l);
+    planes::pack(u, j.c);
+    planes::pack(v, j.c);
+}
+
+// Deblocks the planes, packs them and applies the offsets by a copy of luma; false after the answer that says why not.
 pub fn treat(
     y: &mut [u16],
     u: &mut [u16],
     v: &mut [u16],
-    l: Shape,
-    c: Shape,
+    luma: &mut [u16],
+    j: Job,
     numbers: &[i32],
     shorts: &[u16],
     steps: &[u32],
     flags: &[u8],
     offsets: &[i8],
     places: &[usize],
-    f: Frame,
+    lines: &[usize],
 ) -> bool
-    requires { ⌜ Fit l × Fit c × Lent (length (now numbers)) (length (now shorts)) (length (now steps)) (length (now flags)) (length (now offsets)) (length (now places)) ⌝ }
+    requires { ⌜ Shaped j × Lent (length (now numbers)) (length (now shorts)) (length (now steps)) (length (now flags)) (length (now offsets)) (length (now places)) (length (now lines)) ⌝ }
 {
-    if !deblocked(y, u, v, shorts, steps, places, f) {
+    let f = frame_by(j, numbers);
+    if !deblocked(y, u, v, shorts, steps, places, lines, f) {
         return false;
     }
-    pack(y, u, v, l, c);
-    offset(y, u, v, numbers, flags, offsets, places, f, c.width)
+    pack(y, u, v, j);
+    planes::copy(y, luma);
+    offset(
+        y,
+        u,
+        v,
+        luma,
+        numbers,
+        flags,
+        offsets,
+        places,
+        lines,
+        f,
+        width_of(j),
+    )
 }

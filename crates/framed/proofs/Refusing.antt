@@ -83,7 +83,7 @@ module _ {f : Frame} {n : Given} {p left : Planes} {a : Answer} (d : Deblocked f
   told-accepted e g = record { deblocked = rw e at d; place = g }
 
 -- the lists l and m steps, as the settings have them
-pub told-so : (f : Frame) (shorts steps places : List ℕ) (p : Planes) (l : Lists) (m : ℕ) → l ≡ listsAsked places → m ≡ stepsAsked (getD places 3 0) → {o : Outcome} {left : Planes} → Told f (givenBy l m shorts steps) p o left → Told f (givenAsked shorts steps places) p o left
+pub told-so : (f : Frame) (shorts steps places : List ℕ) (p : Planes) (l : Lists) (m : ℕ) → l ≡ listsAsked (length shorts) places → m ≡ stepsAsked (getD places 3 0) → {o : Outcome} {left : Planes} → Told f (givenBy l m shorts steps) p o left → Told f (givenAsked shorts steps places) p o left
 unfolding givenAsked
 told-so f shorts steps places p l m is-l is-m d = rw (is-l, is-m) at d
 

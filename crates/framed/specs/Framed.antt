@@ -3,7 +3,7 @@
 use mathlib.Core.Path.{_≡_}
 use mathlib.Core.List.{List}
 use Prim.Native.Nat.{ℕ, _-_, _≤_}
-use lib.ListN.{getD, take, drop}
+use lib.ListN.{length, getD, take, drop}
 use Rattle.rules.specs.declared.settings.Frame.{Frame}
 use Rattle.rules.specs.declared.refusals.Refusal.{Refusal}
 use Rattle.rules.specs.declared.refusals.Refusal.the-variants.{Depth, Size, Length, Steps, Setting, Cell, Room, Sample, Leaf}
@@ -19,7 +19,7 @@ use Rattle.framed.specs.declared.listed.Outcome.{Outcome}
 
 -- how long the short numbers, the steps and the places are at least
 pub record Listed (shorts steps places : ℕ) : Type 0 where
-  pub shorts-long : 12587008 ≤ shorts
+  pub shorts-long : 4096 ≤ shorts
   pub steps-long : 352 ≤ steps
   pub places-long : 7 ≤ places
 
@@ -36,7 +36,7 @@ givenBy l n shorts steps =
 
 -- kind 3 of the settings is the steps
 unfoldable pub givenAsked : List ℕ → List ℕ → List ℕ → Given
-givenAsked shorts steps places = givenBy (listsAsked places) (stepsAsked (getD places 3 0)) shorts steps
+givenAsked shorts steps places = givenBy (listsAsked (length shorts) places) (stepsAsked (getD places 3 0)) shorts steps
 
 -- a sample, a cell, a leaf or a step; any other refusal is of the whole frame
 unfoldable pub refusalPlace : Frame → Given → Planes → Refusal → Place

@@ -57,7 +57,7 @@ pub fn deblock_asked(
     requires { ⌜ Listed (length (now shorts)) (length (now steps)) (length (now places)) ⌝ }
     ensures { λ o. ⌜ Told f (givenAsked (now (shorts .entry)) (now (steps .entry)) (now (places .entry))) (planes (now (y .entry)) (now (u .entry)) (now (v .entry))) o (planes (now (y .exit)) (now (u .exit)) (now (v .exit))) ⌝ }
 {
-    let at = lists_of(places);
+    let at = lists_of(places, shorts.len());
     let n = steps_of(places[3]);
     let q = at.entries;
     let a = at.leaves;

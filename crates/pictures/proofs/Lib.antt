@@ -10,3 +10,5 @@ pub mod Parts
 pub mod Packing
 pub mod Reading
 pub mod Texts
+pub mod Changing
+pub mod Beyond

@@ -20,7 +20,7 @@ use Rattle.pictures.proofs.Storing.{pieces-none, pieces-more, pieces-en
 
 -- ---- one row
 
-pub next-row-read : (n : ℕ) (before : List ℕ) (more r : Bool) (ys : List ℕ) → more ≡ true → n ≤ length before → length ys ≡ length (take n before) → NextRow more n before (ys ++ drop n before) r
+pub next-row-read : (n : ℕ) (before : List ℕ) (more : Bool) (r : ℕ) (ys : List ℕ) → more ≡ true → n ≤ length before → length ys ≡ length (take n before) → NextRow more n before (ys ++ drop n before) r
 next-row-read n before more r ys m b h =
     record { rest = drop-at ys (drop n before) n (h ∙ length-take-le n before b); same = λ e. true-not-false (sym e ∙ m) }
 
@@ -65,7 +65,7 @@ module _ (wide : Bool) (s : Shape) (before : List ℕ) where
       place : at ≡ 0 + s .stride * r
       place = omega arith
 
-  pub so-far-more : (at r n : ℕ) (plane buffer next : List ℕ) (t u : Bool) {q : List ℕ} → at ≡ s .stride * r → SoFar plane buffer r
+  pub so-far-more : (at r n : ℕ) (plane buffer next : List ℕ) (t : Bool) (u : ℕ) {q : List ℕ} → at ≡ s .stride * r → SoFar plane buffer r
       → NextRow (ltb r (s .height)) n buffer next u → t ≡ leb (at + s .stride) (length plane) → not t ≡ false → q ≡ rowPut wide s next at plane → SoFar q next (r + 1)
   so-far-more at r n plane buffer next t u {q} a f x e h g =
       elim (decLt r (s .height)) [

@@ -24,9 +24,9 @@ unfoldable pub rowPut : Bool → Shape → List ℕ → ℕ → List ℕ → Lis
 rowPut wide s bytes at plane = pick (leb (at + s .stride) (length plane)) (stored plane at (paddedRow wide s bytes)) plane
 
 -- what can be said of a file's next row, of n bytes to a buffer's front: where there is no more, the buffer is as it was
-pub record NextRow (more : Bool) (n : ℕ) (before after : List ℕ) (r : Bool) : Type 0 where
+pub record NextRow (more : Bool) (n : ℕ) (before after : List ℕ) (r : ℕ) : Type 0 where
   pub rest : drop n after ≡ drop n before
-  pub same : more ≡ false → (r ≡ true) × (after ≡ before)
+  pub same : more ≡ false → (r ≡ n) × (after ≡ before)
 
 -- row r of a plane of rows of a file, which goes on with the last one
 unfoldable pub fileRow : Bool → Shape → (ℕ → List ℕ) → ℕ → List ℕ

@@ -18,6 +18,12 @@ pub fn numbers() -> [i32; 64]
     t
 }
 
+// The short numbers of a text below 64 KiB: 4096 qindex entries and 8192 leaves of each sort, each of which takes 13 bytes.
+pub fn few_shorts() -> [u16; 102400] {
+    [0; 102400]
+}
+
+// Those of any text: 4096 qindex entries and 1048576 leaves of each sort.
 pub fn shorts() -> [u16; 12587008] {
     [0; 12587008]
 }

@@ -48,30 +48,30 @@ fn next_byte(fd: i32) -> Next {
     Next::Byte(one[0])
 }
 
-// Reads a line without its newline and answers its length; one that does not fit, or that the file ends, has the buffer's length.
-pub fn read_line(fd: i32, buf: &mut [u8]) -> usize
-    ensures { λ r. ⌜ Line (now (buf .entry)) (now (buf .exit)) r ⌝ }
+// How many bytes a line has, and whether the file ended before its first one.
+pub struct Told {
+    pub n: usize,
+    pub end: bool,
+}
+
+// Reads a line without its newline; one that does not fit, or that the file ends, has the buffer's length.
+pub fn read_line(fd: i32, buf: &mut [u8]) -> Told
+    ensures { λ r. ⌜ Line (now (buf .entry)) (now (buf .exit)) (r .n) ⌝ }
 {
     let mut n: usize = 0;
     while n < buf.len() {
         let next = next_byte(fd);
         let Next::Byte(b) = next else {
-            return buf.len();
+            return Told {
+                n: buf.len(),
+                end: n == 0,
+            };
         };
         if b == 10 {
-            return n;
+            return Told { n, end: false };
         }
         buf[n] = b;
         n += 1;
     }
-    n
-}
-
-// Whether the file ends here; nothing can be promised of a file.
-pub fn at_end(fd: i32) -> bool {
-    let next = next_byte(fd);
-    match next {
-        Next::Byte(_) => false,
-        Next::End => true,
-    }
+    Told { n, end: false }
 }

@@ -6,5 +6,8 @@ pub mod files;
 // Planes, read with padding, packed, and written.
 pub mod planes;
 
+// Leaves outside the picture, a header's values twice.
+pub mod outside;
+
 // Numbers, steps, qindex entries and leaves that the settings leave out.
 pub mod defaults;

@@ -1,11 +1,12 @@
 // A picture's planes: read into rows with padding, packed, and written.
 ghost use mathlib.Core.Path.{_≡_};
 ghost use mathlib.Core.Bool.{true};
-ghost use Prim.Native.Nat.{_+_, _*_, _≤_};
+ghost use Prim.Native.Nat.{_+_, _*_, _≤_, min};
 ghost use lib.Dec.{leb};
 ghost use lib.ListN.{length, take, drop};
 ghost use Rattle.pictures.specs.Storing.{stored};
 ghost use Rattle.pictures.specs.Shapes.{Fit, eightsOf, halvedOf, shapeOf};
+ghost use Rattle.pictures.specs.Changes.{differsOf, differingOf};
 ghost use Rattle.pictures.specs.Rows.{rowBytes, NextRow, rowPut, FilePlane, packed, rowOut};
 use laws::least;
 use y4m::samples::to_bytes;
@@ -53,13 +54,32 @@ pub fn shape_of(width: usize, height: usize, ssx: usize, ssy: usize) -> Shape
     }
 }
 
+// So many bytes or samples across, and so many rows.
+pub fn area(across: usize, down: usize) -> usize
+    requires { ⌜ (across ≤ 8192) × (down ≤ 4096) ⌝ }
+    ensures { λ r. ⌜ (r ≡ across * down) × (r ≤ 33554432) ⌝ }
+{
+    across * down
+}
+
+// Samples of a plane of 512 by 512 at most.
+pub fn small_room() -> [u16; 262144] {
+    [0; 262144]
+}
+
 // Samples of the largest plane.
-pub fn samples_room() -> [u16; 16777216] {
+pub fn large_room() -> [u16; 16777216] {
     [0; 16777216]
 }
 
+// What was read of a plane: whether it is whole, and how many bytes there were.
+pub struct Got {
+    pub whole: bool,
+    pub bytes: usize,
+}
+
 // How many bytes a row has.
-fn row_bytes(width: usize, wide: bool) -> usize
+pub fn row_bytes(width: usize, wide: bool) -> usize
     requires { ⌜ width ≤ 4096 ⌝ }
     ensures { λ r. ⌜ r ≤ 8192 ⌝ }
     ensures { λ r. ⌜ r ≡ rowBytes width wide ⌝ }
@@ -67,15 +87,15 @@ fn row_bytes(width: usize, wide: bool) -> usize
     if wide { 2 * width } else { width }
 }
 
-// The next row's bytes to the front of the buffer, where the plane has another row; false where the file ends before.
-fn read_row(fd: i32, bytes: &mut [u8], n: usize, more: bool) -> bool
+// The next row's bytes to the front of the buffer, where the plane has another row; how many of them there are.
+fn read_row(fd: i32, bytes: &mut [u8], n: usize, more: bool) -> usize
     requires { ⌜ n ≤ length (now bytes) ⌝ }
     ensures { λ r. ⌜ NextRow more n (now (bytes .entry)) (now (bytes .exit)) r ⌝ }
 {
     if !more {
-        return true;
+        return n;
     }
-    io::read_full(fd, &mut bytes[..n]) == n
+    io::read_full(fd, &mut bytes[..n])
 }
 
 // One row of a plane from the buffer; false where the plane has no such row.
@@ -92,26 +112,38 @@ fn put_row(bytes: &[u8], plane: &mut [u16], at: usize, s: Shape, wide: bool) -> 
     true
 }
 
-// A plane from a file; rows past the last one repeat it. False where the file ends before. Promised is how bytes make the plane, not which the file has.
-pub fn read_plane(fd: i32, plane: &mut [u16], s: Shape, wide: bool) -> bool
+// What was read: rows of n bytes, and some bytes of another one.
+fn sum_up(whole: bool, rows: usize, n: usize, bytes: usize) -> Got
+    requires { ⌜ (rows ≤ 4096) × (n ≤ 8192) × (bytes ≤ 8192) ⌝ }
+    ensures { λ r. ⌜ r .whole ≡ whole ⌝ }
+{
+    Got {
+        whole,
+        bytes: area(n, rows) + bytes,
+    }
+}
+
+// A plane from a file; rows past the last one repeat it. Promised is how bytes make the plane, not which the file has.
+pub fn read_plane(fd: i32, plane: &mut [u16], s: Shape, wide: bool) -> Got
     requires { ⌜ Fit s ⌝ }
-    ensures { λ r. ⌜ (r ≡ true → FilePlane wide s (now (plane .entry)) (now (plane .exit))) ⌝ }
+    ensures { λ r. ⌜ (r .whole ≡ true → FilePlane wide s (now (plane .entry)) (now (plane .exit))) ⌝ }
 {
     let mut bytes = [0u8; 8192];
     let n = row_bytes(s.width, wide);
     let mut at: usize = 0;
     let mut r: usize = 0;
     while r < s.rows {
-        if !read_row(fd, &mut bytes, n, r < s.height) {
-            return false;
+        let k = read_row(fd, &mut bytes, n, r < s.height);
+        if k < n {
+            return sum_up(false, r, n, k);
         }
         if !put_row(&bytes, plane, at, s, wide) {
-            return false;
+            return sum_up(false, r, n, 0);
         }
         at += s.stride;
         r += 1;
     }
-    true
+    sum_up(true, s.height, n, 0)
 }
 
 // Moves n samples towards the front.
@@ -187,4 +219,25 @@ pub fn copy(from: &[u16], to: &mut [u16])
         to[k] = from[k];
         k += 1;
     }
+}
+
+// 1 where two samples differ.
+fn differs(a: u16, b: u16) -> usize
+    ensures { λ r. ⌜ (r ≡ differsOf a b) × (r ≤ 1) ⌝ }
+{
+    if a == b { 0 } else { 1 }
+}
+
+// How many of the first n samples of two planes differ.
+pub fn differing(a: &[u16], b: &[u16], n: usize) -> usize
+    ensures { λ r. ⌜ r ≡ differingOf (now (a .entry)) (now (b .entry)) (min n (min (length (now (a .entry))) (length (now (b .entry))))) ⌝ }
+{
+    let stop = least(n, least(a.len(), b.len()));
+    let mut count: usize = 0;
+    let mut k: usize = 0;
+    while k < stop {
+        count += differs(a[k], b[k]);
+        k += 1;
+    }
+    count
 }

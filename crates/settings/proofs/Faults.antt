@@ -52,6 +52,6 @@ unfolding parseOf
 parse-given xs s = walk-given xs (length xs) 0 1 s
 
 -- an empty text lacks `settings`, kind 1, at line 1
-pub parse-empty : (ls : Lists) → parseOf [] (record { lists = ls; places = firstPlaces }) .fault ≡ record { line = 1; kind = 1; at = 0 }
+pub parse-empty : (n : ℕ) (ls : Lists) → parseOf [] (record { lists = ls; places = firstPlaces n }) .fault ≡ record { line = 1; kind = 1; at = 0 }
 unfolding parseOf walk ended missingOf firstPlaces ruleOf each pick
-parse-empty ls = refl
+parse-empty n ls = refl

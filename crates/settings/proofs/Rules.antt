@@ -17,20 +17,20 @@ filled-all start f n e =
     (λ k h. let b : k < n = omega (arith, filled-length start f n) in
     filled-at start f 0 n k b (omega arith) ∙ sym (singles-at f 0 n k b))
 
-abbrev pub fromOf : ℕ → ℕ
-fromOf kind = ruleOf kind .from
+abbrev pub fromOf : ℕ → ℕ → ℕ
+fromOf n kind = ruleOf n kind .from
 
 -- as the rule has it
-pub from-is : (kind : ℕ) (r : Rule) → r ≡ ruleOf kind → r .from ≡ fromOf kind
-from-is kind r e = ap (λ (x : Rule). x .from) e
+pub from-is : (n kind : ℕ) (r : Rule) → r ≡ ruleOf n kind → r .from ≡ fromOf n kind
+from-is n kind r e = ap (λ (x : Rule). x .from) e
 
 pub ruleset placing = (needs, from-is)
 
-module _ (start : List ℕ) where
+module _ (n : ℕ) (start : List ℕ) where
   -- one more kind
-  pub places-more : (kind v : ℕ) (q : List ℕ) → v ≡ fromOf kind → q ≡ filled start fromOf kind → set q kind v ≡ filled start fromOf (kind + 1)
-  places-more kind v q e inv = filled-more start fromOf kind inv (ap (λ (x : ℕ). set q kind x) e)
+  pub places-more : (kind v : ℕ) (q : List ℕ) → v ≡ fromOf n kind → q ≡ filled start (fromOf n) kind → set q kind v ≡ filled start (fromOf n) (kind + 1)
+  places-more kind v q e inv = filled-more start (fromOf n) kind inv (ap (λ (x : ℕ). set q kind x) e)
 
-  pub places-end : (kind : ℕ) (q : List ℕ) → length start ≡ 21 → kind ≤ 21 → 21 ≤ kind → q ≡ filled start fromOf kind → q ≡ firstPlaces
+  pub places-end : (kind : ℕ) (q : List ℕ) → length start ≡ 21 → kind ≤ 21 → 21 ≤ kind → q ≡ filled start (fromOf n) kind → q ≡ firstPlaces n
   unfolding firstPlaces
-  places-end kind q l a b inv = filled-end start fromOf kind 21 inv a b ∙ filled-all start fromOf 21 l
+  places-end kind q l a b inv = filled-end start (fromOf n) kind 21 inv a b ∙ filled-all start (fromOf n) 21 l

@@ -20,9 +20,8 @@ use Rattle.cases.specs.declared.number.Cursor.{Cursor}
 use Rattle.settings.specs.declared.names.Rule.{Rule}
 use Rattle.settings.specs.declared.values.Taken.{Taken}
 use Rattle.settings.specs.Names.{kindOf}
-use Rattle.settings.specs.Rules.{ruleOf}
 use Rattle.settings.specs.Values.{readSigned, readUpTo, readOffset, takenTo}
-use Rattle.settings.specs.Lines.{Lists, Kept, State, Said, lists, inNumbers, inShorts, inSteps, inFlags, inOffsets, takeOf, startOf, isOne, versionBad, isFlag, flagBad, verdictOf, settled, judged, ruled, fillOf, tooSoon, settingOf, namedOf, inkedOf, lineOf}
+use Rattle.settings.specs.Lines.{Lists, Kept, State, Said, lists, inNumbers, inShorts, inSteps, inFlags, inOffsets, takeOf, startOf, isOne, versionBad, isFlag, flagBad, verdictOf, settled, judged, ruled, ruleFor, fillOf, tooSoon, settingOf, namedOf, inkedOf, lineOf}
 
 -- ---- the lists' lengths
 
@@ -138,7 +137,7 @@ module _ (kind : ℕ) (numbers : List ℤ) (k : kind ≡ 11) where
 -- ---- the line's numbers, judged
 
 module _ (xs : List ℕ) (at end kind from k : ℕ) (s : State) (rule : Rule) (ls : Lists) (t : Taken)
-    (ruling : rule ≡ ruleOf kind) (starts : from ≡ startOf (rule .list) (rule .from) (getD (s .places) kind 0))
+    (ruling : rule ≡ ruleFor kind s) (starts : from ≡ startOf (rule .list) (rule .from) (getD (s .places) kind 0))
     (takes : record { lists = ls; left = t } ≡ takeOf xs (record { at = at; end = end; good = true }) (rule .list) from (rule .end) (s .lists))
     (judges : k ≡ verdictOf t from (rule .each) kind (ls .numbers)) where
   fill-is : settled kind (s .places) (record { lists = ls; left = t }) k ≡ fillOf xs at end kind s

@@ -13,7 +13,7 @@ use Rattle.cases.specs.Numbers as Numbers
 use Rattle.cases.specs.Numbers.{nothing, past, ends, closed, signedAt, numberAt}
 use Rattle.cases.specs.Typed.{unsignedOf, fromZero, signedOf}
 use Rattle.settings.specs.Names.{kindOf}
-use Rattle.settings.specs.Rules.{ruleOf, firstPlaces}
+use Rattle.settings.specs.Rules.{leafRoom, ruleOf, firstPlaces}
 use Rattle.settings.specs.Values.{readSigned, readUpTo, skipped, goesOn, taken, takenTo}
 use Rattle.settings.specs.Lines.{State, lists, inNumbers, inShorts, takeOf, startOf, wholeOf, isOne, versionBad, flagBad, verdictOf, settled, judged, ruled, fillOf, tooSoon, settingOf, namedOf, inkedOf, lineOf}
 use Rattle.settings.specs.Text.{aloneOf, missingOf, ended, lineEnd, saidAt, walk, parseOf}
@@ -26,11 +26,11 @@ smallest =
 
 -- room for one number of each sort
 abbrev start : State
-start = record { lists = lists (pos 0 ∷ []) (0 ∷ []) (0 ∷ []) (0 ∷ []) (pos 0 ∷ []); places = firstPlaces }
+start = record { lists = lists (pos 0 ∷ []) (0 ∷ []) (0 ∷ []) (0 ∷ []) (pos 0 ∷ []); places = firstPlaces 1 }
 
 -- no fault after two lines, the version and the qindex stand in their lists
 pub smallest-read :
     (parseOf smallest start .fault ≡ record { line = 3; kind = 0; at = 22 })
     × (parseOf smallest start .state .lists ≡ lists (pos 1 ∷ []) (160 ∷ []) (0 ∷ []) (0 ∷ []) (pos 0 ∷ []))
-unfolding parseOf walk ended missingOf aloneOf lineEnd saidAt lineOf inkedOf namedOf settingOf tooSoon fillOf ruled judged settled verdictOf versionBad isOne flagBad wholeOf startOf takeOf inNumbers inShorts takenTo taken skipped goesOn readSigned readUpTo kindOf ruleOf firstPlaces each pick both either all seek newlineAt remark remarkAt blankOf inkAt Words.wordAt Words.endedAt Words.readLetters Words.goesOn Digits.readDigits Digits.goesOn nothing past Numbers.blankOf ends closed signedAt numberAt unsignedOf fromZero signedOf
+unfolding parseOf walk ended missingOf aloneOf lineEnd saidAt lineOf inkedOf namedOf settingOf tooSoon fillOf ruled judged settled verdictOf versionBad isOne flagBad wholeOf startOf takeOf inNumbers inShorts takenTo taken skipped goesOn readSigned readUpTo kindOf leafRoom ruleOf firstPlaces each pick both either all seek newlineAt remark remarkAt blankOf inkAt Words.wordAt Words.endedAt Words.readLetters Words.goesOn Digits.readDigits Digits.goesOn nothing past Numbers.blankOf ends closed signedAt numberAt unsignedOf fromZero signedOf
 smallest-read = (refl, refl)

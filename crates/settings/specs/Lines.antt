@@ -131,11 +131,15 @@ judged kind from each places t = settled kind places t (verdictOf (t .left) from
 unfoldable pub ruled : List ℕ → Cursor → ℕ → Rule → ℕ → State → Said
 ruled xs c kind rule from s = judged kind from (rule .each) (s .places) (takeOf xs c (rule .list) from (rule .end) (s .lists))
 
+-- the kind's rule, by how many short numbers there are
+abbrev pub ruleFor : ℕ → State → Rule
+ruleFor kind s = ruleOf (length (s .lists .shorts)) kind
+
 -- from a place of the line up to its end
 unfoldable pub fillOf : List ℕ → ℕ → ℕ → ℕ → State → Said
 fillOf xs at end kind s =
-    ruled xs (record { at = at; end = end; good = true }) kind (ruleOf kind)
-    (startOf (ruleOf kind .list) (ruleOf kind .from) (getD (s .places) kind 0)) s
+    ruled xs (record { at = at; end = end; good = true }) kind (ruleFor kind s)
+    (startOf (ruleFor kind s .list) (ruleFor kind s .from) (getD (s .places) kind 0)) s
 
 -- `settings`, kind 1, stands before any other: its place moves from 0 on
 unfoldable pub tooSoon : ℕ → ℕ → Bool

@@ -1,5 +1,5 @@
 -- Where the numbers of each kind of setting go. Assumes nothing.
-use Prim.Native.Nat.{ℕ, _+_, _*_}
+use Prim.Native.Nat.{ℕ, _+_, _*_, _-_, _/_, min}
 use mathlib.Core.List.{List, [], _∷_}
 use lib.Dec.{eqb}
 use Rattle.laws.specs.Choose.{pick}
@@ -10,16 +10,20 @@ use Rattle.settings.specs.declared.names.Rule.{Rule}
 abbrev pub room : ℕ → ℕ → ℕ → ℕ → Rule
 room list from size each = record { list = list; from = from; end = from + size; each = each }
 
+-- how many numbers each sort of leaves has room for in a list of n short numbers: a third of what the qindex entries leave, 1048576 leaves at most
+unfoldable pub leafRoom : ℕ → ℕ
+leafRoom n = min ((n - 4096) / 3) (4 * 1048576)
+
 -- The lists: 0 signed numbers, 1 short ones, 2 steps, 3 flags, 4 offsets. A kind that is none has no room.
--- 4096 entries of qindex, and then 1048576 leaves of each sort, four numbers a leaf; sixteen places for the CCSO numbers of a plane.
-unfoldable pub ruleOf : ℕ → Rule
-ruleOf kind =
+-- Of n short numbers 4096 are qindex entries, and then come the leaves of each sort, four numbers a leaf; sixteen places for the CCSO numbers of a plane.
+unfoldable pub ruleOf : ℕ → ℕ → Rule
+ruleOf n kind =
     pick (eqb kind 1) (room 0 0 1 1)
     (pick (eqb kind 2) (room 1 0 4096 0)
     (pick (eqb kind 3) (room 2 0 352 0)
-    (pick (eqb kind 4) (room 1 4096 (4 * 1048576) 4)
-    (pick (eqb kind 5) (room 1 (4096 + 4 * 1048576) (4 * 1048576) 4)
-    (pick (eqb kind 6) (room 1 (4096 + 8 * 1048576) (4 * 1048576) 4)
+    (pick (eqb kind 4) (room 1 4096 (leafRoom n) 4)
+    (pick (eqb kind 5) (room 1 (4096 + leafRoom n) (leafRoom n) 4)
+    (pick (eqb kind 6) (room 1 (4096 + leafRoom n + leafRoom n) (leafRoom n) 4)
     (pick (eqb kind 7) (room 0 1 1 1)
     (pick (eqb kind 8) (room 0 2 1 1)
     (pick (eqb kind 9) (room 0 3 2 2)
@@ -37,5 +41,5 @@ ruleOf kind =
     (room 0 0 0 0))))))))))))))))))))
 
 -- the first places of the kinds 0 to 20, in this order
-unfoldable pub firstPlaces : List ℕ
-firstPlaces = each 21 (λ kind. ruleOf kind .from ∷ [])
+unfoldable pub firstPlaces : ℕ → List ℕ
+firstPlaces n = each 21 (λ kind. ruleOf n kind .from ∷ [])

@@ -1,8 +1,9 @@
 // The names of the settings, each as one number of its bytes, and where the numbers after a name go.
 ghost use mathlib.Core.Path.{_≡_};
-ghost use Prim.Native.Nat.{_≤_};
+ghost use Prim.Native.Nat.{_+_, _*_, _-_, _≤_};
 ghost use Rattle.settings.specs.Names.{kindOf};
-ghost use Rattle.settings.specs.Rules.{ruleOf, firstPlaces};
+ghost use Rattle.settings.specs.Rules.{leafRoom, ruleOf, firstPlaces};
+use laws::least;
 
 // Which list the numbers go to: 0 signed numbers, 1 short ones, 2 steps, 3 flags, 4 offsets; the first place and the one after the last;
 // and how many numbers a line has, 0 for any.
@@ -12,9 +13,6 @@ pub struct Rule {
     pub end: usize,
     pub each: usize,
 }
-
-// How many numbers the list of short ones holds.
-pub const SHORTS: usize = 12587008;
 
 // The number of a name, 0 for none.
 pub fn kind(name: usize) -> usize
@@ -77,17 +75,30 @@ fn put(list: usize, from: usize, end: usize, each: usize) -> Rule
     }
 }
 
-// Where the numbers of a kind go.
-pub fn rule_of(kind: usize) -> Rule
-    ensures { λ r. ⌜ r ≡ ruleOf kind ⌝ }
+// How many of n short numbers each sort of leaves has room for.
+pub fn leaf_room(n: usize) -> usize
+    ensures { λ r. ⌜ (r ≡ leafRoom n) × (r ≤ 4194304) × (3 * r ≤ n - 4096) ⌝ }
 {
+    if n < 4096 {
+        return 0;
+    }
+    least((n - 4096) / 3, 4194304)
+}
+
+// Where the numbers of a kind go, where there are n short ones.
+pub fn rule_of(kind: usize, n: usize) -> Rule
+    ensures { λ r. ⌜ r ≡ ruleOf n kind ⌝ }
+{
+    let room = leaf_room(n);
+    let chroma = 4096 + room;
+    let skips = chroma + room;
     match kind {
         1 => put(0, 0, 1, 1),
         2 => put(1, 0, 4096, 0),
         3 => put(2, 0, 352, 0),
-        4 => put(1, 4096, 4198400, 4),
-        5 => put(1, 4198400, 8392704, 4),
-        6 => put(1, 8392704, 12587008, 4),
+        4 => put(1, 4096, chroma, 4),
+        5 => put(1, chroma, skips, 4),
+        6 => put(1, skips, skips + room, 4),
         7 => put(0, 1, 2, 1),
         8 => put(0, 2, 3, 1),
         9 => put(0, 3, 5, 2),
@@ -106,14 +117,14 @@ pub fn rule_of(kind: usize) -> Rule
     }
 }
 
-// The first place of each kind; as numbers are read it moves to the place after the last one.
-pub fn first_places() -> [usize; 21]
-    ensures { λ r. ⌜ r ≡ firstPlaces ⌝ }
+// The first place of each kind, where there are n short numbers; as numbers are read it moves to the place after the last one.
+pub fn first_places(n: usize) -> [usize; 21]
+    ensures { λ r. ⌜ r ≡ firstPlaces n ⌝ }
 {
     let mut places: [usize; 21] = [0; 21];
     let mut kind = 0;
     while kind < 21 {
-        let rule = rule_of(kind);
+        let rule = rule_of(kind, n);
         places[kind] = rule.from;
         kind += 1;
     }

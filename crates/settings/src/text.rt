@@ -145,7 +145,7 @@ fn fill(
     ensures { λ _. ⌜ Kept (lists (now (numbers .entry)) (now (shorts .entry)) (now (steps .entry)) (now (flags .entry)) (now (offsets .entry))) (lists (now (numbers .exit)) (now (shorts .exit)) (now (steps .exit)) (now (flags .exit)) (now (offsets .exit))) ⌝ }
     ensures { λ r. ⌜ record { state = state (now (numbers .exit)) (now (shorts .exit)) (now (steps .exit)) (now (flags .exit)) (now (offsets .exit)) (now (places .exit)); answer = r } ≡ fillOf (now (text .entry)) at end kind (state (now (numbers .entry)) (now (shorts .entry)) (now (steps .entry)) (now (flags .entry)) (now (offsets .entry)) (now (places .entry))) ⌝ }
 {
-    let rule = rule_of(kind);
+    let rule = rule_of(kind, shorts.len());
     let from = start(rule.list, rule.from, places[kind]);
     let c = Cursor {
         at,

@@ -19,7 +19,7 @@ pub struct Header {
 }
 
 // A space and then the letter.
-fn is_tag(text: &[u8], k: usize, letter: u8) -> bool
+pub fn is_tag(text: &[u8], k: usize, letter: u8) -> bool
     requires { ⌜ k + 1 < length (now text) ⌝ }
     ensures { λ r. ⌜ r ≡ tagAt (now (text .entry)) letter k ⌝ }
 {

@@ -1,41 +1,78 @@
--- `sized` limits the sizes, and hands on the lists. Assumes nothing.
+-- `sized` hands on the shapes and the lists. Assumes nothing.
+use native.Mathlib.Omega.{arith}
 use borrow.Author.Needs.{needs}
 use Rattle.filter.proofs.run.sized.Statement.{statement}
 use Rattle.filter.proofs.run.sized.Tie as tie
 
-limit-requires : tie.Need-limit-requires
-limit-requires c κs = search needs
+luma-of-requires : tie.Need-luma-of-requires
+luma-of-requires c κs = tt
 
-limit-requires-2 : tie.Need-limit-requires-2
-limit-requires-2 c κs = search needs
-
-shape-of-requires : tie.Need-shape-of-requires
-shape-of-requires c κs = search needs
-
-shape-of-requires-2 : tie.Need-shape-of-requires-2
-shape-of-requires-2 c κs = search needs
+chroma-of-requires : tie.Need-chroma-of-requires
+chroma-of-requires c κs = tt
 
 complete-requires : tie.Need-complete-requires
 complete-requires c κs = search needs
 
-filter-requires : tie.Need-filter-requires
-filter-requires c κs = let p = c .before .before .before .before .before .before .before .before .before .before .before .before .before .before .before .before .before .before .before .before .pre in (search needs, search needs, record { numbers = p .numbers; shorts = search needs; steps = p .steps; flags = p .flags; offsets = p .offsets; places = search needs })
+inside-requires : tie.Need-inside-requires
+inside-requires c κs = search needs
+
+open-out-requires : tie.Need-open-out-requires
+open-out-requires c κs = tt
+
+frames-requires : tie.Need-frames-requires
+frames-requires c κs = let p = c .before .before .before .before .before .before .before .before .before .before .before .before .before .before .before .before .before .before .before .before .before .before .before .before .before .before .before .before .before .before .before .before .before .before .before .before .before .before .pre .1 in (record { luma = c .before .before .before .before .before .before .before .before .before .before .before .before .before .before .before .before .before .before .before .before .before .before .before .luma-of .ensures; chroma = c .before .before .before .before .before .before .before .before .before .before .before .before .before .before .before .before .before .before .before .before .before .before .chroma-of .ensures }, record { numbers = p .numbers; shorts = omega (arith, c .before .before .before .before .before .before .before .before .before .before .before .before .before .before .before .before .before .before .before .complete .kept .0, p .shorts); steps = p .steps; flags = p .flags; offsets = p .offsets; places = search needs; lines = search needs })
 
 same-length : tie.Need-same-length
-same-length c = search needs
+same-length c = c .before .before .before .before .before .before .before .before .before .before .before .before .before .before .frames .kept .0
+
+same-length-2 : tie.Need-same-length-2
+same-length-2 c = c .before .before .before .before .before .before .before .before .before .before .before .before .before .before .frames .kept .1 .0
+
+same-length-3 : tie.Need-same-length-3
+same-length-3 c = c .before .before .before .before .before .before .before .before .before .before .before .before .before .before .frames .kept .1 .1 .0
+
+same-length-4 : tie.Need-same-length-4
+same-length-4 c = c .before .before .before .before .before .before .before .before .before .before .before .before .before .before .frames .kept .1 .1 .1 .0
+
+same-length-5 : tie.Need-same-length-5
+same-length-5 c = c .before .before .before .before .before .before .before .before .before .before .before .before .before .before .frames .kept .1 .1 .1 .1 .0
+
+same-length-6 : tie.Need-same-length-6
+same-length-6 c = c .before .before .before .before .before .before .before .before .before .before .before .before .before .before .frames .kept .1 .1 .1 .1 .1 .0
+
+same-length-7 : tie.Need-same-length-7
+same-length-7 c = c .before .before .before .before .before .before .before .before .before .before .before .before .before .before .frames .kept .1 .1 .1 .1 .1 .1 .0
+
+same-length-8 : tie.Need-same-length-8
+same-length-8 c = c .before .before .before .before .before .before .before .before .before .before .before .before .before .before .before .before .before .before .before .before .before .before .before .before .before .before .before .before .before .before .before .before .before .before .complete .kept .0
 
 returns : tie.Need-returns
 returns c = search needs
+
+same-length-9 : tie.Need-same-length-9
+same-length-9 c = c .before .before .before .before .before .before .before .complete .kept .0
+
+returns-2 : tie.Need-returns-2
+returns-2 c = search needs
 
 pub sized-spec : {M : Type 1} → statement M
 sized-spec =
     tie.close
     (tie.spec
-    limit-requires
-    limit-requires-2
-    shape-of-requires
-    shape-of-requires-2
+    luma-of-requires
+    chroma-of-requires
     complete-requires
-    filter-requires
+    inside-requires
+    open-out-requires
+    frames-requires
     same-length
-    returns)
+    same-length-2
+    same-length-3
+    same-length-4
+    same-length-5
+    same-length-6
+    same-length-7
+    same-length-8
+    returns
+    same-length-9
+    returns-2)

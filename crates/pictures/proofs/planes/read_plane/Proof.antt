@@ -1,6 +1,6 @@
 -- `read_plane` reads a row and puts it into the plane, a turn each. Assumes nothing.
 use borrow.Author.Needs.{needs}
-use mathlib.Core.Path.{_≡_}
+use mathlib.Core.Path.{_≡_, sym, _∙_}
 use Prim.Native.Nat.{_-_, _*_, _≤_}
 use lib.ListN.{length}
 use Rattle.laws.specs.Choose.{true-not-false}
@@ -27,11 +27,14 @@ slice-aggregate-read-row c = search needs
 read-row-requires : tie.Need-read-row-requires Inv-loop μ-loop
 read-row-requires c κs = search needs
 
+sum-up-requires : tie.Need-sum-up-requires Inv-loop μ-loop
+sum-up-requires c κs = search needs
+
 same-length : tie.Need-same-length Inv-loop μ-loop
 same-length c = search needs
 
 returns : tie.Need-returns Inv-loop μ-loop
-returns c = λ e. true-not-false e
+returns c = λ e. true-not-false (sym (c .sum-up .ensures) ∙ e)
 
 slice-aggregate-put-row : tie.Need-slice-aggregate-put-row Inv-loop μ-loop
 slice-aggregate-put-row c = search needs
@@ -39,11 +42,14 @@ slice-aggregate-put-row c = search needs
 put-row-requires : tie.Need-put-row-requires Inv-loop μ-loop
 put-row-requires c κs = search needs
 
+sum-up-requires-2 : tie.Need-sum-up-requires-2 Inv-loop μ-loop
+sum-up-requires-2 c κs = search needs
+
 same-length-2 : tie.Need-same-length-2 Inv-loop μ-loop
 same-length-2 c = search needs
 
 returns-2 : tie.Need-returns-2 Inv-loop μ-loop
-returns-2 c = λ e. true-not-false e
+returns-2 c = λ e. true-not-false (sym (c .sum-up2 .ensures) ∙ e)
 
 add-at : tie.Need-add-at Inv-loop μ-loop
 add-at c = search needs
@@ -68,13 +74,16 @@ loop-again c =
       so-far-more _ _ _ _ _ _ _ _ _ _ _ (i .4) (i .6) row (put .0) (c .before .if3 .left) (put .1),
     )
 
+sum-up-requires-3 : tie.Need-sum-up-requires-3 Inv-loop μ-loop
+sum-up-requires-3 c κs = search needs
+
 same-length-3 : tie.Need-same-length-3 Inv-loop μ-loop
 same-length-3 c = search needs
 
 returns-3 : tie.Need-returns-3 Inv-loop μ-loop
 returns-3 c =
-    let i = c .before .before .loop .inv in
-    λ e. so-far-end _ _ _ _ _ _ (i .6) (i .2) (c .if1 .left) (all-rows _ _ _ _ _ (i .4) (i .2) (c .if1 .left) (i .5))
+    let i = c .before .before .before .loop .inv in
+    λ e. so-far-end _ _ _ _ _ _ (i .6) (i .2) (c .before .if1 .left) (all-rows _ _ _ _ _ (i .4) (i .2) (c .before .if1 .left) (i .5))
 
 pub read-plane-spec : {M : Type 1} → statement M
 read-plane-spec =
@@ -86,15 +95,18 @@ read-plane-spec =
     loop-holds
     slice-aggregate-read-row
     read-row-requires
+    sum-up-requires
     same-length
     returns
     slice-aggregate-put-row
     put-row-requires
+    sum-up-requires-2
     same-length-2
     returns-2
     add-at
     add-r
     loop-less
     loop-again
+    sum-up-requires-3
     same-length-3
     returns-3)

@@ -9,10 +9,10 @@ use Rattle.settings.proofs.names.first_places.Statement.{statement}
 use Rattle.settings.proofs.names.first_places.Tie as tie
 
 abbrev Inv-loop : tie.InvT-loop
-Inv-loop places₀ kind₀ places kind = (kind ≤ 21) × (length places₀ ≡ 21) × (length places ≡ 21) × (places ≡ filled places₀ fromOf kind)
+Inv-loop n places₀ kind₀ places kind = (kind ≤ 21) × (length places₀ ≡ 21) × (length places ≡ 21) × (places ≡ filled places₀ (fromOf n) kind)
 
 abbrev μ-loop : tie.MeasureT-loop
-μ-loop places₀ kind₀ places kind = 21 - kind
+μ-loop n places₀ kind₀ places kind = 21 - kind
 
 loop-holds : tie.Need-loop-holds Inv-loop μ-loop
 loop-holds c = (search needs, search needs, search needs, filled-none _ _)
@@ -33,10 +33,10 @@ loop-less : tie.Need-loop-less Inv-loop μ-loop
 loop-less c = search needs
 
 loop-again : tie.Need-loop-again Inv-loop μ-loop
-loop-again c = (search needs, search needs, search needs, places-more _ _ _ _ (search placing) (c .before .before .loop .inv .3))
+loop-again c = (search needs, search needs, search needs, places-more _ _ _ _ _ (search placing) (c .before .before .loop .inv .3))
 
 returns : tie.Need-returns Inv-loop μ-loop
-returns c = places-end _ _ _ (c .before .loop .inv .1) (c .before .loop .inv .0) (search needs) (c .before .loop .inv .3)
+returns c = places-end _ _ _ _ (c .before .loop .inv .1) (c .before .loop .inv .0) (search needs) (c .before .loop .inv .3)
 
 pub first-places-spec : {M : Type 1} → statement M
 first-places-spec =

@@ -6,6 +6,15 @@ use borrow.Author.Needs.{needs}
 use Rattle.settings.proofs.names.rule_of.Statement.{statement}
 use Rattle.settings.proofs.names.rule_of.Tie as tie
 
+leaf-room-requires : tie.Need-leaf-room-requires
+leaf-room-requires c κs = search needs
+
+add-chroma : tie.Need-add-chroma
+add-chroma c = search needs
+
+add-skips : tie.Need-add-skips
+add-skips c = search needs
+
 put-requires : tie.Need-put-requires
 put-requires c κs = search needs
 
@@ -20,6 +29,9 @@ put-requires-4 c κs = search needs
 
 put-requires-5 : tie.Need-put-requires-5
 put-requires-5 c κs = search needs
+
+add-put : tie.Need-add-put
+add-put c = search needs
 
 put-requires-6 : tie.Need-put-requires-6
 put-requires-6 c κs = search needs
@@ -157,11 +169,15 @@ pub rule-of-spec : {M : Type 1} → statement M
 rule-of-spec =
     tie.close
     (tie.spec
+    leaf-room-requires
+    add-chroma
+    add-skips
     put-requires
     put-requires-2
     put-requires-3
     put-requires-4
     put-requires-5
+    add-put
     put-requires-6
     put-requires-7
     put-requires-8

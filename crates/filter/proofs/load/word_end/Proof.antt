@@ -1,0 +1,50 @@
+-- `word_end` walks to the first blank. Assumes nothing.
+use Prim.Native.Nat.{_-_, _≤_}
+use borrow.Author.Needs.{needs}
+use Rattle.filter.proofs.load.word_end.Statement.{statement}
+use Rattle.filter.proofs.load.word_end.Tie as tie
+
+abbrev Inv-loop : tie.InvT-loop
+Inv-loop text from end at₀ at = (from ≤ at) × (at ≤ end)
+
+abbrev μ-loop : tie.MeasureT-loop
+μ-loop text from end at₀ at = end - at
+
+loop-holds : tie.Need-loop-holds Inv-loop μ-loop
+loop-holds c = search needs
+
+shared-slice-read-blank : tie.Need-shared-slice-read-blank Inv-loop μ-loop
+shared-slice-read-blank c = search needs
+
+blank-requires : tie.Need-blank-requires Inv-loop μ-loop
+blank-requires c κs = search needs
+
+returns : tie.Need-returns Inv-loop μ-loop
+returns c = search needs
+
+add-at : tie.Need-add-at Inv-loop μ-loop
+add-at c = search needs
+
+loop-less : tie.Need-loop-less Inv-loop μ-loop
+loop-less c = search needs
+
+loop-again : tie.Need-loop-again Inv-loop μ-loop
+loop-again c = search needs
+
+returns-2 : tie.Need-returns-2 Inv-loop μ-loop
+returns-2 c = search needs
+
+pub word-end-spec : {M : Type 1} → statement M
+word-end-spec =
+    tie.close
+    (tie.spec
+    Inv-loop
+    μ-loop
+    loop-holds
+    shared-slice-read-blank
+    blank-requires
+    returns
+    add-at
+    loop-less
+    loop-again
+    returns-2)

@@ -1,0 +1,69 @@
+-- `treat` hands on what it was promised of the shapes and the lists. Assumes nothing.
+use borrow.Author.Needs.{needs}
+use Rattle.filter.proofs.treat.treat.Statement.{statement}
+use Rattle.filter.proofs.treat.treat.Tie as tie
+
+frame-by-requires : tie.Need-frame-by-requires
+frame-by-requires c κs = search needs
+
+deblocked-requires : tie.Need-deblocked-requires
+deblocked-requires c κs = (record { shorts-long = c .before .before .before .before .before .before .before .before .before .before .before .before .before .pre .1 .shorts; steps-long = c .before .before .before .before .before .before .before .before .before .before .before .before .before .pre .1 .steps; places-long = search needs }, c .before .before .before .before .before .before .before .before .before .before .before .before .before .pre .1 .lines)
+
+same-length : tie.Need-same-length
+same-length c = search needs
+
+same-length-2 : tie.Need-same-length-2
+same-length-2 c = search needs
+
+same-length-3 : tie.Need-same-length-3
+same-length-3 c = search needs
+
+returns : tie.Need-returns
+returns c = search needs
+
+pack-requires : tie.Need-pack-requires
+pack-requires c κs = c .before .before .before .before .before .before .before .before .before .before .before .before .before .before .before .before .before .before .before .before .before .before .before .before .pre .0
+
+copy-requires : tie.Need-copy-requires
+copy-requires c κs = tt
+
+width-of-requires : tie.Need-width-of-requires
+width-of-requires c κs = tt
+
+offset-requires : tie.Need-offset-requires
+offset-requires c κs = let p = c .before .before .before .before .before .before .before .before .before .before .before .before .before .before .before .before .before .before .before .before .before .before .before .before .before .before .before .before .before .before .before .before .before .before .before .before .before .before .before .before .before .pre .1 in (record { numbers-long = p .numbers; flags-long = p .flags; offsets-long = p .offsets; places-long = p .places }, p .lines)
+
+same-length-4 : tie.Need-same-length-4
+same-length-4 c = search needs
+
+same-length-5 : tie.Need-same-length-5
+same-length-5 c = search needs
+
+same-length-6 : tie.Need-same-length-6
+same-length-6 c = search needs
+
+same-length-7 : tie.Need-same-length-7
+same-length-7 c = search needs
+
+returns-2 : tie.Need-returns-2
+returns-2 c = search needs
+
+pub treat-spec : {M : Type 1} → statement M
+treat-spec =
+    tie.close
+    (tie.spec
+    frame-by-requires
+    deblocked-requires
+    same-length
+    same-length-2
+    same-length-3
+    returns
+    pack-requires
+    copy-requires
+    width-of-requires
+    offset-requires
+    same-length-4
+    same-length-5
+    same-length-6
+    same-length-7
+    returns-2)

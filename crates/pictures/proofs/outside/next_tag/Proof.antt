@@ -1,0 +1,49 @@
+-- `next_tag` walks to the next such letter. Assumes nothing.
+use Rattle.pictures.proofs.Beyond.{finding}
+use Rattle.words.specs.Places.{seek}
+use Rattle.y4m.specs.Headers.{tagAt}
+use Prim.Native.Nat.{_-_, _≤_}
+use mathlib.Core.Path.{_≡_}
+use Rattle.pictures.proofs.outside.next_tag.Statement.{statement}
+use Rattle.pictures.proofs.outside.next_tag.Tie as tie
+
+abbrev Inv-loop : tie.InvT-loop
+Inv-loop text from last letter at₀ at = seek (tagAt text letter) at (last - at) ≡ seek (tagAt text letter) from (last - from)
+
+abbrev μ-loop : tie.MeasureT-loop
+μ-loop text from last letter at₀ at = last - at
+
+loop-holds : tie.Need-loop-holds Inv-loop μ-loop
+loop-holds c = search finding
+
+is-tag-requires : tie.Need-is-tag-requires Inv-loop μ-loop
+is-tag-requires c κs = search finding
+
+returns : tie.Need-returns Inv-loop μ-loop
+returns c = search finding
+
+add-at : tie.Need-add-at Inv-loop μ-loop
+add-at c = search finding
+
+loop-less : tie.Need-loop-less Inv-loop μ-loop
+loop-less c = search finding
+
+loop-again : tie.Need-loop-again Inv-loop μ-loop
+loop-again c = search finding
+
+returns-2 : tie.Need-returns-2 Inv-loop μ-loop
+returns-2 c = search finding
+
+pub next-tag-spec : {M : Type 1} → statement M
+next-tag-spec =
+    tie.close
+    (tie.spec
+    Inv-loop
+    μ-loop
+    loop-holds
+    is-tag-requires
+    returns
+    add-at
+    loop-less
+    loop-again
+    returns-2)
