@@ -19,6 +19,7 @@ use Rattle.thresholds.specs.ByQindex.{ByQindex}
 use Rattle.rules.specs.Segment.{runEdges}
 use Rattle.rules.specs.Plane.{Grid, indexAt, shortenedAt, edgeAt, visitOf, startOf, countOf, lacksDir}
 use Rattle.cells.specs.Fit.{Ready, oneWay}
+use Rattle.records.specs.Noted.{noted}
 use Rattle.plane.specs.declared.part.Part.{Part}
 use Rattle.plane.specs.declared.visited.Visited.{Visited}
 
@@ -46,10 +47,23 @@ pub record IsEdgeAt (s : Plane) (t : List ℕ) (g : Grid) (dir r c : ℕ) (e : E
   pub q-most : e .q ≤ 2048
   pub side-most : e .side ≤ 839
 
--- what a run of a list of edges, by any steps that the table was made of, tells and leaves of the plane p: a and the plane q
-pub record Ran (s : Plane) (t : List ℕ) (edges : List ℕ → List Edge) (p : List ℕ) (a : Visited) (q : List ℕ) : Type 0 where
-  pub is : (steps : List ℕ) → Table s steps t → q ≡ runEdges (topOf (s .depth)) (s .stride) (edges steps) p
-  pub visited : (steps : List ℕ) → a .edges ≡ length (edges steps)
+-- where a run stands: the plane, the record's buffer, and what it has done so far
+pub record State : Type 0 where
+  pub plane : List ℕ
+  pub buffer : List ℕ
+  pub done : Visited
+
+abbrev pub state : List ℕ → List ℕ → Visited → State
+state p b d = record { plane = p; buffer = b; done = d }
+
+abbrev pub none : Visited
+none = record { edges = 0 }
+
+-- a run of a list of edges, by any steps that the table was made of, from x to y: each edge is noted, filtered and counted
+pub record Ran (s : Plane) (t : List ℕ) (edges : List ℕ → List Edge) (x y : State) : Type 0 where
+  pub is : (steps : List ℕ) → Table s steps t → y .plane ≡ runEdges (topOf (s .depth)) (s .stride) (edges steps) (x .plane)
+  pub notes : (steps : List ℕ) → Table s steps t → y .buffer ≡ noted (x .done .edges) (edges steps) (x .buffer)
+  pub visited : (steps : List ℕ) → y .done .edges ≡ x .done .edges + length (edges steps)
 
 -- ---- parts of the cells
 
