@@ -16,9 +16,9 @@ ghost use Prim.Native.Nat.{_+_, _*_, _≤_, _<_};
 ghost use lib.Dec.{eqb};
 ghost use lib.ListN.{length};
 ghost use Rattle.laws.specs.Choose.{pick};
-ghost use Rattle.rules.specs.Plane.{grid, visitOf, sbCols, sweepOf, turnOf, edgesOf};
+ghost use Rattle.rules.specs.Plane.{grid, visitOf, sbCols, turnOf, edgesOf};
 ghost use Rattle.cells.specs.Fit.{Cell, oneWay};
-ghost use Rattle.plane.specs.Run.{Field, PartOf, InPart, lineOf, none, state, Ran};
+ghost use Rattle.plane.specs.Run.{Field, PartOf, InPart, inLine, lineOf, inSweep, none, state, Ran, RanFew};
 
 // The edge of one cell, where it has one.
 fn visit(
@@ -35,7 +35,7 @@ fn visit(
     c: usize,
 ) -> Visited
     requires { ⌜ Field s (now marks) (now sizes) (now qindex) (now table) (length (now plane)) dir × Cell s r c × (dir ≤ 1) × (done .edges ≤ 1099511627776) ⌝ }
-    ensures { λ a. ⌜ Ran s (now (table .entry)) (λ steps. visitOf s steps (oneWay (now (marks .entry)) (now (sizes .entry)) (now (qindex .entry))) dir r c) (state (now (plane .entry)) (now (buffer .entry)) done) (state (now (plane .exit)) (now (buffer .exit)) a) × (a .edges ≤ done .edges + 1) ⌝ }
+    ensures { λ a. ⌜ RanFew s (now (table .entry)) 1 (λ steps. visitOf s steps (oneWay (now (marks .entry)) (now (sizes .entry)) (now (qindex .entry))) dir r c) (state (now (plane .entry)) (now (buffer .entry)) done) (state (now (plane .exit)) (now (buffer .exit)) a) ⌝ }
 {
     if !is_edge(marks, s, dir, r, c) {
         return done;
@@ -65,7 +65,7 @@ fn in_row(
     j: usize,
 ) -> Visited
     requires { ⌜ Field s (now marks) (now sizes) (now qindex) (now table) (length (now plane)) 0 × PartOf s p × (k < p .rows) × (j < p .cols) × (done .edges ≤ 1099511627776) ⌝ }
-    ensures { λ a. ⌜ Ran s (now (table .entry)) (λ steps. visitOf s steps (oneWay (now (marks .entry)) (now (sizes .entry)) (now (qindex .entry))) 0 (p .row + k) (p .col + j)) (state (now (plane .entry)) (now (buffer .entry)) done) (state (now (plane .exit)) (now (buffer .exit)) a) × (a .edges ≤ done .edges + 1) ⌝ }
+    ensures { λ a. ⌜ RanFew s (now (table .entry)) 1 (λ steps. visitOf s steps (oneWay (now (marks .entry)) (now (sizes .entry)) (now (qindex .entry))) 0 (p .row + k) (p .col + j)) (state (now (plane .entry)) (now (buffer .entry)) done) (state (now (plane .exit)) (now (buffer .exit)) a) ⌝ }
 {
     visit(
         plane,
@@ -97,7 +97,7 @@ fn in_column(
     j: usize,
 ) -> Visited
     requires { ⌜ Field s (now marks) (now sizes) (now qindex) (now table) (length (now plane)) 1 × PartOf s p × (k < p .cols) × (j < p .rows) × (done .edges ≤ 1099511627776) ⌝ }
-    ensures { λ a. ⌜ Ran s (now (table .entry)) (λ steps. visitOf s steps (oneWay (now (marks .entry)) (now (sizes .entry)) (now (qindex .entry))) 1 (p .row + j) (p .col + k)) (state (now (plane .entry)) (now (buffer .entry)) done) (state (now (plane .exit)) (now (buffer .exit)) a) × (a .edges ≤ done .edges + 1) ⌝ }
+    ensures { λ a. ⌜ RanFew s (now (table .entry)) 1 (λ steps. visitOf s steps (oneWay (now (marks .entry)) (now (sizes .entry)) (now (qindex .entry))) 1 (p .row + j) (p .col + k)) (state (now (plane .entry)) (now (buffer .entry)) done) (state (now (plane .exit)) (now (buffer .exit)) a) ⌝ }
 {
     visit(
         plane,
@@ -130,7 +130,7 @@ fn cell(
     j: usize,
 ) -> Visited
     requires { ⌜ Field s (now marks) (now sizes) (now qindex) (now table) (length (now plane)) dir × PartOf s p × InPart dir p k j × (done .edges ≤ 1099511627776) ⌝ }
-    ensures { λ a. ⌜ Ran s (now (table .entry)) (λ steps. visitOf s steps (oneWay (now (marks .entry)) (now (sizes .entry)) (now (qindex .entry))) dir (p .row + pick (eqb dir 0) k j) (p .col + pick (eqb dir 0) j k)) (state (now (plane .entry)) (now (buffer .entry)) done) (state (now (plane .exit)) (now (buffer .exit)) a) × (a .edges ≤ done .edges + 1) ⌝ }
+    ensures { λ a. ⌜ RanFew s (now (table .entry)) 1 (λ steps. inLine s steps (oneWay (now (marks .entry)) (now (sizes .entry)) (now (qindex .entry))) dir p k j) (state (now (plane .entry)) (now (buffer .entry)) done) (state (now (plane .exit)) (now (buffer .exit)) a) ⌝ }
 {
     if dir == 0 {
         return in_row(plane, buffer, marks, sizes, qindex, table, s, done, p, k, j);
@@ -153,7 +153,7 @@ fn line(
     k: usize,
 ) -> Visited
     requires { ⌜ Field s (now marks) (now sizes) (now qindex) (now table) (length (now plane)) dir × PartOf s p × (dir ≤ 1) × (k < pick (eqb dir 0) (p .rows) (p .cols)) × (sofar .edges ≤ 549755813888) ⌝ }
-    ensures { λ a. ⌜ Ran s (now (table .entry)) (λ steps. lineOf s steps (oneWay (now (marks .entry)) (now (sizes .entry)) (now (qindex .entry))) dir p k) (state (now (plane .entry)) (now (buffer .entry)) sofar) (state (now (plane .exit)) (now (buffer .exit)) a) × (a .edges ≤ sofar .edges + 1024) ⌝ }
+    ensures { λ a. ⌜ RanFew s (now (table .entry)) 1024 (λ steps. lineOf s steps (oneWay (now (marks .entry)) (now (sizes .entry)) (now (qindex .entry))) dir p k) (state (now (plane .entry)) (now (buffer .entry)) sofar) (state (now (plane .exit)) (now (buffer .exit)) a) ⌝ }
 {
     let n = by_dir(dir, p.cols, p.rows);
     let mut done = sofar;
@@ -190,7 +190,7 @@ fn sweep(
     p: Part,
 ) -> Visited
     requires { ⌜ Field s (now marks) (now sizes) (now qindex) (now table) (length (now plane)) dir × PartOf s p × (dir ≤ 1) × (sofar .edges ≤ 274877906944) ⌝ }
-    ensures { λ a. ⌜ Ran s (now (table .entry)) (λ steps. sweepOf s steps (oneWay (now (marks .entry)) (now (sizes .entry)) (now (qindex .entry))) dir (p .row) (p .rows) (p .col) (p .cols)) (state (now (plane .entry)) (now (buffer .entry)) sofar) (state (now (plane .exit)) (now (buffer .exit)) a) × (a .edges ≤ sofar .edges + 1024 * 1024) ⌝ }
+    ensures { λ a. ⌜ RanFew s (now (table .entry)) 1048576 (λ steps. inSweep s steps (oneWay (now (marks .entry)) (now (sizes .entry)) (now (qindex .entry))) dir p) (state (now (plane .entry)) (now (buffer .entry)) sofar) (state (now (plane .exit)) (now (buffer .exit)) a) ⌝ }
 {
     let n = by_dir(dir, p.rows, p.cols);
     let mut done = sofar;
@@ -227,7 +227,7 @@ fn turn(
     sb: usize,
 ) -> Visited
     requires { ⌜ Field s (now vedge) (now sqw) (now qindex) (now table) (length (now plane)) 0 × Field s (now hedge) (now sqh) (now qindex) (now table) (length (now plane)) 1 × (sb < sbCols s) × (done .edges ≤ 137438953472) ⌝ }
-    ensures { λ a. ⌜ Ran s (now (table .entry)) (λ steps. turnOf s steps (grid (now (vedge .entry)) (now (hedge .entry)) (now (sqw .entry)) (now (sqh .entry)) (now (qindex .entry))) sb) (state (now (plane .entry)) (now (buffer .entry)) done) (state (now (plane .exit)) (now (buffer .exit)) a) × (a .edges ≤ done .edges + 2 * (1024 * 1024)) ⌝ }
+    ensures { λ a. ⌜ RanFew s (now (table .entry)) 2097152 (λ t. turnOf s t (grid (now (vedge .entry)) (now (hedge .entry)) (now (sqw .entry)) (now (sqh .entry)) (now (qindex .entry))) sb) (state (now (plane .entry)) (now (buffer .entry)) done) (state (now (plane .exit)) (now (buffer .exit)) a) ⌝ }
 {
     let vertical = sweep(
         plane,

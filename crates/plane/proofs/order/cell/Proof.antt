@@ -18,7 +18,9 @@ same-length-2 : tie.Need-same-length-2
 same-length-2 c = search needs
 
 returns : tie.Need-returns
-returns c = (row-visit _ (c .before .before .before .before .before .before .before .before .before .before .before .before .before .args .p) _ _ (c .before .before .before .before .before .before .before .if1 .taken) (c .before .before .before .before .in-row .ensures .0), c .before .before .before .before .in-row .ensures .1)
+returns c =
+    let done = c .before .before .before .before .in-row .ensures in
+    record { ran = row-visit _ (c .before .before .before .before .before .before .before .before .before .before .before .before .before .args .p) _ _ (c .before .before .before .before .before .before .before .if1 .taken) (done .ran); few = done .few }
 
 in-column-requires : tie.Need-in-column-requires
 in-column-requires c κs =
@@ -33,7 +35,10 @@ same-length-4 : tie.Need-same-length-4
 same-length-4 c = search needs
 
 returns-2 : tie.Need-returns-2
-returns-2 c = (column-visit _ (c .before .before .before .before .before .before .before .before .before .before .before .before .before .args .p) _ _ (is-one (c .before .before .before .before .before .before .before .before .before .before .before .before .before .pre .2 .two) (c .before .before .before .before .before .before .before .if1 .left)) (c .before .before .before .before .in-column .ensures .0), c .before .before .before .before .in-column .ensures .1)
+returns-2 c =
+    let given = c .before .before .before .before .before .before .before .before .before .before .before .before .before .pre in
+    let done = c .before .before .before .before .in-column .ensures in
+    record { ran = column-visit _ (c .before .before .before .before .before .before .before .before .before .before .before .before .before .args .p) _ _ (is-one (given .2 .two) (c .before .before .before .before .before .before .before .if1 .left)) (done .ran); few = done .few }
 
 pub cell-spec : {M : Type 1} → statement M
 cell-spec =

@@ -2,14 +2,11 @@
 use native.Mathlib.Omega.{arith}
 use borrow.Author.Needs.{needs}
 use Prim.Native.Nat.{_+_, _-_, _≤_}
-use lib.Dec.{eqb}
 use lib.ListN.{length}
 use mathlib.Core.Path.{_≡_, refl}
-use Rattle.laws.specs.Choose.{pick}
 use Rattle.laws.specs.Loops.{each}
 use Rattle.cells.specs.Fit.{oneWay}
-use Rattle.plane.specs.Run.{state, Ran}
-use Rattle.rules.specs.Plane.{visitOf}
+use Rattle.plane.specs.Run.{inLine, state, Ran}
 use Rattle.plane.proofs.Runs.{field-same, ran-none, ran-more}
 use Rattle.plane.proofs.Superblocks.{line-most, line-is}
 use Rattle.plane.proofs.order.line.Statement.{statement}
@@ -18,7 +15,7 @@ use Rattle.plane.proofs.order.line.Tie as tie
 abbrev Inv-loop : tie.InvT-loop
 Inv-loop plane₀ buffer₀ marks sizes qindex table s dir p k n done₀ j₀ plane buffer done j =
     (j ≤ n)
-    × Ran s table (λ steps. each j (λ i. visitOf s steps (oneWay marks sizes qindex) dir (p .row + pick (eqb dir 0) k i) (p .col + pick (eqb dir 0) i k))) (state plane₀ buffer₀ done₀) (state plane buffer done)
+    × Ran s table (λ steps. each j (λ i. inLine s steps (oneWay marks sizes qindex) dir p k i)) (state plane₀ buffer₀ done₀) (state plane buffer done)
     × (length plane ≡ length plane₀) × (length buffer ≡ length buffer₀) × (done .edges ≤ done₀ .edges + j)
 
 abbrev μ-loop : tie.MeasureT-loop
@@ -46,7 +43,7 @@ loop-less c = search needs
 loop-again : tie.Need-loop-again Inv-loop μ-loop
 loop-again c =
     let turns = c .before .before .before .before .before .before .before .before .loop in
-    (search needs, ran-more _ _ (turns .inv .1) (c .before .before .before .before .cell .ensures .0), search needs, search needs, omega (arith, turns .inv .4, c .before .before .before .before .cell .ensures .1))
+    (search needs, ran-more _ _ (turns .inv .1) (c .before .before .before .before .cell .ensures .ran), search needs, search needs, omega (arith, turns .inv .4, c .before .before .before .before .cell .ensures .few))
 
 same-length : tie.Need-same-length Inv-loop μ-loop
 same-length c = search needs
@@ -59,7 +56,7 @@ returns c =
     let given = c .before .before .before .before .before .before .before .before .pre in
     let turns = c .before .loop in
     let most = line-most (c .before .before .before .before .before .before .before .before .args .dir) (given .0 .ready .sizes-ok) (given .1) (c .before .before .by-dir .ensures) in
-    (line-is _ _ _ _ (turns .inv .1) (c .before .before .by-dir .ensures) (turns .inv .0) (search needs), omega (arith, turns .inv .4, turns .inv .0))
+    record { ran = line-is _ _ _ _ (turns .inv .1) (c .before .before .by-dir .ensures) (turns .inv .0) (search needs); few = omega (arith, turns .inv .4, turns .inv .0) }
 
 pub line-spec : {M : Type 1} → statement M
 line-spec =

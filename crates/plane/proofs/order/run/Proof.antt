@@ -50,7 +50,7 @@ loop-less c = search needs
 loop-again : tie.Need-loop-again Inv-loop μ-loop
 loop-again c =
     let turns = c .before .before .before .before .before .before .before .before .loop in
-    (search needs, ran-more _ _ (turns .inv .1) (c .before .before .before .before .turn .ensures .0), search needs, search needs, omega (arith, turns .inv .4, c .before .before .before .before .turn .ensures .1))
+    (search needs, ran-more _ _ (turns .inv .1) (c .before .before .before .before .turn .ensures .ran), search needs, search needs, omega (arith, turns .inv .4, c .before .before .before .before .turn .ensures .few))
 
 sub-superblock : tie.Need-sub-superblock Inv-loop μ-loop
 unfolding sbCols
@@ -78,7 +78,7 @@ returns : tie.Need-returns Inv-loop μ-loop
 unfolding sbCols
 returns c =
     let turns = c .before .before .before .before .before .before .before .before .before .loop in
-    edges-are _ (turns .inv .1) (turns .inv .0) (search needs) (horz-of _ _ _ _ _ _ (c .before .before .before .before .before .superblock .ensures) (c .before .before .before .before .sweep .ensures .0))
+    edges-are _ (turns .inv .1) (turns .inv .0) (search needs) (horz-of _ _ _ _ _ _ (c .before .before .before .before .before .superblock .ensures) (c .before .before .before .before .sweep .ensures .ran))
 
 pub run-spec : {M : Type 1} → statement M
 run-spec =

@@ -43,7 +43,7 @@ loop-less c = search needs
 loop-again : tie.Need-loop-again Inv-loop μ-loop
 loop-again c =
     let turns = c .before .before .before .before .before .before .before .before .loop in
-    (search needs, ran-more _ _ (turns .inv .1) (c .before .before .before .before .line .ensures .0), search needs, search needs, omega (arith, turns .inv .4, c .before .before .before .before .line .ensures .1))
+    (search needs, ran-more _ _ (turns .inv .1) (c .before .before .before .before .line .ensures .ran), search needs, search needs, omega (arith, turns .inv .4, c .before .before .before .before .line .ensures .few))
 
 same-length : tie.Need-same-length Inv-loop μ-loop
 same-length c = search needs
@@ -56,7 +56,7 @@ returns c =
     let given = c .before .before .before .before .before .before .before .before .pre in
     let turns = c .before .loop in
     let most = lines-most (c .before .before .before .before .before .before .before .before .args .dir) (given .0 .ready .sizes-ok) (given .1) (c .before .before .by-dir .ensures) in
-    (sweep-is _ _ _ (turns .inv .1) (c .before .before .by-dir .ensures) (turns .inv .0) (search needs), omega (arith, turns .inv .4, turns .inv .0))
+    record { ran = sweep-is _ _ _ (turns .inv .1) (c .before .before .by-dir .ensures) (turns .inv .0) (search needs); few = omega (arith, turns .inv .4, turns .inv .0) }
 
 pub sweep-spec : {M : Type 1} → statement M
 sweep-spec =

@@ -22,7 +22,9 @@ same-length-2 : tie.Need-same-length-2
 same-length-2 c = search needs
 
 returns : tie.Need-returns
-returns c = (turn-first _ _ (vert-of _ _ _ _ _ _ (c .before .before .before .before .before .before .superblock .ensures) (c .before .before .before .before .before .sweep .ensures .0)) (c .if1 .taken), omega (arith, c .before .before .before .before .before .sweep .ensures .1))
+returns c =
+    let vertical = c .before .before .before .before .before .sweep .ensures in
+    record { ran = turn-first _ _ (vert-of _ _ _ _ _ _ (c .before .before .before .before .before .before .superblock .ensures) (vertical .ran)) (c .if1 .taken); few = omega (arith, vertical .few) }
 
 sub-superblock : tie.Need-sub-superblock
 sub-superblock c = search needs
@@ -33,7 +35,7 @@ superblock-requires-2 c κs = (c .before .before .before .before .before .before
 sweep-requires-2 : tie.Need-sweep-requires-2
 sweep-requires-2 c κs =
     let given = c .before .before .before .before .before .before .before .before .before .before .before .before .before .before .before .before .before .before .before .pre in
-    (field-same (search needs) (given .1), sb-part (given .0 .ready .sizes-ok) _ (c .superblock2 .ensures) (omega (arith, given .2)), omega arith, omega (arith, c .before .before .before .before .before .before .before .before .sweep .ensures .1, given .3))
+    (field-same (search needs) (given .1), sb-part (given .0 .ready .sizes-ok) _ (c .superblock2 .ensures) (omega (arith, given .2)), omega arith, omega (arith, c .before .before .before .before .before .before .before .before .sweep .ensures .few, given .3))
 
 same-length-3 : tie.Need-same-length-3
 same-length-3 c = search needs
@@ -44,10 +46,9 @@ same-length-4 c = search needs
 returns-2 : tie.Need-returns-2
 returns-2 c =
     let vertical = c .before .before .before .before .before .before .before .before .before .before .before .before .before .sweep .ensures in
-    let horizontal = c .before .before .before .before .sweep2 .ensures in (
-      turn-later _ _ (vert-of _ _ _ _ _ _ (c .before .before .before .before .before .before .before .before .before .before .before .before .before .before .superblock .ensures) (vertical .0)) (c .before .before .before .before .before .before .before .before .if1 .left) (horz-of _ _ _ _ _ _ (c .before .before .before .before .before .superblock2 .ensures) (horizontal .0)) refl,
-      omega (arith, vertical .1, horizontal .1),
-    )
+    let horizontal = c .before .before .before .before .sweep2 .ensures in
+    let first = vert-of _ _ _ _ _ _ (c .before .before .before .before .before .before .before .before .before .before .before .before .before .before .superblock .ensures) (vertical .ran) in
+    record { ran = turn-later _ _ first (c .before .before .before .before .before .before .before .before .if1 .left) (horz-of _ _ _ _ _ _ (c .before .before .before .before .before .superblock2 .ensures) (horizontal .ran)) refl; few = omega (arith, vertical .few, horizontal .few) }
 
 pub turn-spec : {M : Type 1} → statement M
 turn-spec =

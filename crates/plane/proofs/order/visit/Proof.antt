@@ -12,7 +12,7 @@ is-edge-requires : tie.Need-is-edge-requires
 is-edge-requires c κs = search visits
 
 returns : tie.Need-returns
-returns c = (visit-none _ _ _ _ _ _ _ (c .before .is-edge .ensures) (c .if1 .taken) _, omega arith)
+returns c = record { ran = visit-none _ _ _ _ _ _ _ (c .before .is-edge .ensures) (c .if1 .taken) _; few = omega arith }
 
 shortened-at-requires : tie.Need-shortened-at-requires
 shortened-at-requires c κs = c .before .before .before .before .before .before .before .pre .0 .ready .sizes-ok
@@ -51,7 +51,9 @@ same-length-2 c = search visits
 returns-2 : tie.Need-returns-2
 returns-2 c =
     let asked-of = c .before .before .before .before .before .before .before .before .before .before .before .before .before .before .before .is-edge .ensures in
-    (visit-edge _ _ _ _ _ _ _ asked-of (c .before .before .before .before .before .before .before .before .before .before .before .before .before .before .if1 .left) (c .before .before .before .before .before .before .before .before .before .before .before .before .edge-at .ensures) (c .before .before .before .before .top .ensures) (c .before .before .before .before .before .before .before .before .before .before .note .ensures) (c .before .before .before .filter-edge .ensures) refl, omega arith)
+    let is = c .before .before .before .before .before .before .before .before .before .before .before .before .edge-at .ensures in
+    let wrote = c .before .before .before .before .before .before .before .before .before .before .note .ensures in
+    record { ran = visit-edge _ _ _ _ _ _ _ asked-of (c .before .before .before .before .before .before .before .before .before .before .before .before .before .before .if1 .left) is (c .before .before .before .before .top .ensures) wrote (c .before .before .before .filter-edge .ensures) refl; few = omega arith }
 
 pub visit-spec : {M : Type 1} → statement M
 visit-spec =
