@@ -4,10 +4,10 @@
  * to that many, a list that is not const overlaps no other, and an empty list may be NULL.
  * A function does its work, or answers minus the number of a refusal and leaves all lent memory as it was, but for one list: `place` is
  * where the place of the refusal goes, and the one list that a refusal writes (a frame refused by 7 or 8 has built its grids too).
- * Where several refusals hold, the answer is the first in the order 1, 2, 3, 4, 5, 9, 6, 7, 8; enum bihargesh_refusal names them.
+ * Where several refusals hold, the answer is the first in the order 1, 2, 3, 4, 5, 9, 6, 7, 8, 10; enum bihargesh_refusal names them.
  *
  * The functions with a list `place` put the place of a refusal into its first entry, if it has one: the first bad step, cell, leaf
- * or sample, counted from 0, and 0 for a refusal that has no place. `place` is left as lent where the answer is 0.
+ * or sample, counted from 0, and 0 for a refusal that has no place. `place` is left as lent where the answer is no refusal.
  * The functions with a list `settings` take their settings as numbers in a fixed order, named by an enum with each; numbers beyond those
  * are not looked at, and a list with fewer is refused by 3 before all else, since nothing else can be read. A number below 0 where a count
  * stands is out of its range.
@@ -34,7 +34,8 @@ enum bihargesh_refusal {
   BIHARGESH_BAD_CELL = 6,    /* a grid cell has a bad mark or size index */
   BIHARGESH_NO_ROOM = 7,     /* an edge lacks room */
   BIHARGESH_BAD_SAMPLE = 8,  /* a used sample exceeds 2^depth - 1 */
-  BIHARGESH_BAD_LEAF = 9     /* a leaf is bad */
+  BIHARGESH_BAD_LEAF = 9,    /* a leaf is bad */
+  BIHARGESH_SHORT_BUFFER = 10 /* the buffer has less room than the record of a plane's marked edges takes */
 };
 
 /* Fills a list with the 352 AC steps of the published encoder, for `steps` below, and answers 0: 64, then 24 steps an octave, and from
@@ -79,6 +80,18 @@ int32_t bihargesh_plane(uint16_t *plane, size_t plane_len, const uint8_t *vedge,
                         const uint8_t *sqw, size_t sqw_len, const uint8_t *sqh, size_t sqh_len, const uint16_t *qindex, size_t qindex_len,
                         const uint32_t *steps, size_t steps_len, const int32_t *settings, size_t settings_len,
                         size_t *place, size_t place_len);
+
+/* Filters a plane as bihargesh_plane does, writes a record of every edge into the beginning of `record`, and answers the record's length in bytes.
+ * The record: the three bytes `EDG`, the version 1 in two bytes, and ten bytes for each marked edge in the order in which they are filtered: x and y
+ * (two bytes each, of the first sample after the edge), direction (one byte, 0 for vedge and 1 for hedge), number of the length pair (one byte, 0..7),
+ * q and side (two bytes each), low byte first. An edge that filters nothing is in it too; column 0 has no vertical edge and row 0 no horizontal one.
+ * Bytes after the record are kept. 5 + 20 * cols * rows bytes are always enough. The grid, steps and settings are bihargesh_plane's.
+ * Refusals 1, 2, 3, 4, 5, 6, 7, 8, 10, in this order; each leaves the plane and `record` as lent. A short `record` is refused by 10 and never by 3. */
+int32_t bihargesh_record_plane(uint16_t *plane, size_t plane_len, uint8_t *record, size_t record_len,
+                               const uint8_t *vedge, size_t vedge_len, const uint8_t *hedge, size_t hedge_len,
+                               const uint8_t *sqw, size_t sqw_len, const uint8_t *sqh, size_t sqh_len, const uint16_t *qindex, size_t qindex_len,
+                               const uint32_t *steps, size_t steps_len, const int32_t *settings, size_t settings_len,
+                               size_t *place, size_t place_len);
 
 /* Where a TU grid's settings stand. */
 enum bihargesh_tx_grid_setting {

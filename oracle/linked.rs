@@ -26,6 +26,8 @@ mod plane;
 mod random;
 #[path = "../bindings/rust/src/raw.rs"]
 mod raw;
+#[path = "src/record.rs"]
+mod record;
 #[path = "src/refusals.rs"]
 mod refusals;
 #[path = "src/rust.rs"]
@@ -214,12 +216,30 @@ fn of_segment(random: &Random, made: &Made) -> Compared {
     Ok(no)
 }
 
+/// The numbers of a plane's case, up to the plane.
+struct PlaneCase {
+    all: Vec<i32>,
+    grid: [Vec<u8>; 4],
+    qindex: Vec<u16>,
+    plane: Vec<u16>,
+    steps: Vec<u32>,
+}
+
+impl PlaneCase {
+    fn of(made: &Made, n: &mut Numbers) -> PlaneCase {
+        PlaneCase {
+            all: n.some(11),
+            grid: [n.list(), n.list(), n.list(), n.list()],
+            qindex: n.list(),
+            plane: n.list(),
+            steps: made.steps.clone().unwrap_or_default(),
+        }
+    }
+}
+
 fn of_plane(random: &Random, made: &Made) -> Compared {
     let mut n = Numbers::of(made);
-    let all = n.some(11);
-    let grid: [Vec<u8>; 4] = [n.list(), n.list(), n.list(), n.list()];
-    let (qindex, mut plane): (Vec<u16>, Vec<u16>) = (n.list(), n.list());
-    let steps = made.steps.clone().unwrap_or_default();
+    let PlaneCase { all, grid, qindex, mut plane, steps } = PlaneCase::of(made, &mut n);
     let due = n.due();
     let (settings, due) = settings(random, all, due, &[7]);
     let after = if due.no == 0 { n.some(plane.len()) } else { plane.clone() };
@@ -235,6 +255,32 @@ fn of_plane(random: &Random, made: &Made) -> Compared {
     same("the answer", answer, -due.no)?;
     same("the place", place, place_after)?;
     same("the plane", plane, after)?;
+    same("a list for reading", (grid, qindex, steps, settings), lent)?;
+    Ok(due.no)
+}
+
+/// The same with a record of the edges, whose length stands as the place of an accepted case.
+fn of_record_plane(random: &Random, made: &Made) -> Compared {
+    let mut n = Numbers::of(made);
+    let PlaneCase { all, grid, qindex, mut plane, steps } = PlaneCase::of(made, &mut n);
+    let mut record: Vec<u8> = n.list();
+    let due = n.due();
+    let (settings, due) = settings(random, all, due, &[7]);
+    let after = if due.no == 0 { (n.some(plane.len()), n.some(record.len())) } else { (plane.clone(), record.clone()) };
+    let (mut place, place_after) = places(random, due);
+    let lent = (grid.clone(), qindex.clone(), steps.clone(), settings.clone());
+    let [v, h, w, t] = &grid;
+    let answer = unsafe {
+        raw::bihargesh_record_plane(
+            plane.as_mut_ptr(), plane.len(), record.as_mut_ptr(), record.len(), v.as_ptr(), v.len(), h.as_ptr(), h.len(),
+            w.as_ptr(), w.len(), t.as_ptr(), t.len(), qindex.as_ptr(), qindex.len(), steps.as_ptr(), steps.len(),
+            settings.as_ptr(), settings.len(), place.as_mut_ptr(), place.len(),
+        )
+    };
+    same("the answer", answer, if due.no == 0 { due.place as i32 } else { -due.no })?;
+    same("the place", place, place_after)?;
+    same("the plane", plane, after.0)?;
+    same("the record", record, after.1)?;
     same("a list for reading", (grid, qindex, steps, settings), lent)?;
     Ok(due.no)
 }
@@ -447,6 +493,7 @@ const PARTS: [Part; 8] = [
     Part { name: "bihargesh_thresholds", makes: &[thresholds::make], kind: None, compare: of_thresholds },
     Part { name: "bihargesh_segment", makes: &[segment::make_window], kind: None, compare: of_segment },
     Part { name: "bihargesh_plane", makes: &[plane::make, plane::make_bins], kind: None, compare: of_plane },
+    Part { name: "bihargesh_record_plane", makes: &[record::make], kind: None, compare: of_record_plane },
     Part { name: "bihargesh_tx_grid", makes: &[grid::make], kind: Some(1), compare: of_tx_grid },
     Part { name: "bihargesh_tx_grid_leaves", makes: &[whole_leaves], kind: Some(1), compare: of_tx_grid_leaves },
     Part { name: "bihargesh_qindex_grid", makes: &[grid::make], kind: Some(2), compare: of_qindex_grid },
@@ -459,12 +506,12 @@ const PARTS: [Part; 8] = [
 struct Counts {
     accepted: u64,
     changed: u64,
-    refused: [u64; 10],
+    refused: [u64; 11],
 }
 
 impl Counts {
     fn print(&self, name: &str) {
-        let refused: Vec<String> = (1..10).filter(|&k| self.refused[k] > 0).map(|k| format!("by {k}: {}", self.refused[k])).collect();
+        let refused: Vec<String> = (1..self.refused.len()).filter(|&k| self.refused[k] > 0).map(|k| format!("by {k}: {}", self.refused[k])).collect();
         let cases = self.accepted + self.refused.iter().sum::<u64>();
         println!("linked: {name}: {cases} cases, {} accepted ({} changed what was lent), {}, 0 different", self.accepted, self.changed, refused.join(", "));
     }

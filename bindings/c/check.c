@@ -207,6 +207,60 @@ static void planes(void) {
        -1);
 }
 
+/* ---- the same plane with a record of its edge */
+
+static uint8_t record[16], record_lent[16];
+
+static int32_t record_plane(uint8_t *into, size_t room, size_t settings_len) {
+  return bihargesh_record_plane(plane, LEN(plane), into, room, vedge, LEN(vedge), hedge, LEN(hedge), sizes, LEN(sizes), sizes, LEN(sizes), qindex,
+                                LEN(qindex), table, LEN(table), plane_settings, settings_len, place, 1);
+}
+
+static void refused_record(const char *what, size_t room, size_t settings_len, int32_t want, size_t at) {
+  memcpy(lent, plane, sizeof plane);
+  memcpy(record_lent, record, sizeof record);
+  same(what, record_plane(record, room, settings_len), want);
+  same(what, (long long)place[0], (long long)at);
+  same("the plane as lent", memcmp(plane, lent, sizeof plane), 0);
+  same("the record as lent", memcmp(record, record_lent, sizeof record), 0);
+  plane_anew();
+}
+
+static void records(void) {
+  /* x 8, y 0, a vertical edge, pair 3, q 8, side 40; the last byte stays */
+  static const uint8_t want[16] = {'E', 'D', 'G', 1, 0, 8, 0, 0, 0, 0, 3, 8, 0, 40, 0, 9};
+  plane_anew();
+  memset(record, 9, sizeof record);
+  same("a record of one edge", record_plane(record, 16, 11), 15);
+  same("its bytes", memcmp(record, want, sizeof want), 0);
+  same("place as lent", (long long)place[0], 77);
+  memcpy(lent, plane, sizeof plane);
+  plane_anew();
+  same("plane", run_plane(11), 0);
+  same("the plane as without a record", memcmp(plane, lent, sizeof plane), 0);
+  plane_anew();
+  memset(record, 9, sizeof record);
+  same("a buffer of 15 bytes", record_plane(record, 15, 11), 15);
+  same("its bytes", memcmp(record, want, sizeof want), 0);
+  plane_anew();
+  vedge[2] = 0;
+  vedge[0] = hedge[3] = 1;
+  same("no edge but at column 0 and row 0", record_plane(record, 5, 11), 5);
+  plane_anew();
+  refused_record("a buffer of 14 bytes", 14, 11, -BIHARGESH_SHORT_BUFFER, 0);
+  refused_record("no buffer", 0, 11, -10, 0);
+  refused_record("ten numbers", 16, 10, -BIHARGESH_BAD_LENGTH, 0);
+  plane_settings[7] = 2;
+  refused_record("chroma 2", 16, 11, -2, 0);
+  plane_settings[8] = 9;
+  refused_record("depth 9", 16, 11, -1, 0);
+  plane[30] = 256;
+  refused_record("sample 256 before a buffer of 14 bytes", 14, 11, -8, 30);
+  vedge[1] = 1;
+  refused_record("no room", 16, 11, -7, 1);
+  same("no list for the record", record_plane(NULL, 0, 11), -10);
+}
+
 /* ---- grids of 16 by 16 cells, with one entry more that stays */
 
 static uint8_t marks[4][257];
@@ -386,7 +440,7 @@ static void settings_counted(void) {
   same("a qindex grid's settings", BIHARGESH_QINDEX_GRID_SETTINGS, 5);
   same("a frame's settings", BIHARGESH_FRAME_SETTINGS, 15);
   same("CCSO's settings", BIHARGESH_CCSO_SETTINGS, 16);
-  same("the last refusal", BIHARGESH_BAD_LEAF, 9);
+  same("the last refusal", BIHARGESH_SHORT_BUFFER, 10);
 }
 
 int main(void) {
@@ -394,6 +448,7 @@ int main(void) {
   segments();
   refusals();
   planes();
+  records();
   grids();
   records();
   frames();

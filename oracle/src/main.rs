@@ -10,6 +10,7 @@ mod made;
 mod picture;
 mod plane;
 mod random;
+mod record;
 mod refusals;
 mod rust;
 mod segment;
@@ -26,7 +27,7 @@ use std::io::{self, BufWriter, Write};
 use std::process::exit;
 use summary::Summary;
 
-const USAGE: &str = "oracle thresholds|segment|segment-limits|segment-window|plane|plane-bins|grid|frame|frame-bins|ccso N SEED [--only accepted|refused], or: oracle differences";
+const USAGE: &str = "oracle thresholds|segment|segment-limits|segment-window|plane|plane-bins|plane-record|grid|frame|frame-bins|ccso N SEED [--only accepted|refused], or: oracle differences";
 
 fn part(name: &str) -> Option<Make> {
     match name {
@@ -36,6 +37,7 @@ fn part(name: &str) -> Option<Make> {
         "segment-window" => Some(segment::make_window),
         "plane" => Some(plane::make),
         "plane-bins" => Some(plane::make_bins),
+        "plane-record" => Some(record::make),
         "grid" => Some(grid::make),
         "frame" => Some(frame::make),
         "frame-bins" => Some(frame::make_bins),

@@ -36,7 +36,7 @@ impl Case {
         }
     }
 
-    fn settings(&self) -> Settings {
+    pub fn settings(&self) -> Settings {
         let pair = |p: (u64, u64)| (p.0 as usize, p.1 as usize);
         Settings {
             cells: pair(self.cells),
@@ -196,6 +196,11 @@ fn bad_cells(random: &Random, marks: &mut Marks, n: u64) {
 }
 
 pub fn make(random: &Random, refused: bool, _: Option<&[u32]>) -> Made {
+    answered(case(random, refused))
+}
+
+/// A plane to be accepted or, if asked so, refused.
+pub fn case(random: &Random, refused: bool) -> Case {
     finished(random, refused, good(random))
 }
 
@@ -203,10 +208,10 @@ pub fn make(random: &Random, refused: bool, _: Option<&[u32]>) -> Made {
 pub fn make_bins(random: &Random, refused: bool, _: Option<&[u32]>) -> Made {
     let mut c = good(random);
     c.plane = picture::bin(random, c.stride as usize, c.plane.len(), c.depth);
-    finished(random, refused, c)
+    answered(finished(random, refused, c))
 }
 
-fn finished(random: &Random, refused: bool, mut c: Case) -> Made {
+fn finished(random: &Random, refused: bool, mut c: Case) -> Case {
     // A third of the refused cases lack room alone, a third lack nothing else.
     let kind = if refused { random.below(3) } else { 2 };
     if kind == 2 {
@@ -215,12 +220,12 @@ fn finished(random: &Random, refused: bool, mut c: Case) -> Made {
     if refused && kind > 0 {
         damaged(random, &mut c);
     }
-    answered(c)
+    c
 }
 
-fn answered(c: Case) -> Made {
-    let refusal = refusals::of_plane(&c);
-    let mut line = Line::new(2);
+/// What is asked of a plane, in a line of a kind.
+pub fn asked(c: &Case, kind: u64) -> Line {
+    let mut line = Line::new(kind);
     line.unsigned(&[c.cells.0, c.cells.1, c.stride, c.size.0, c.size.1, c.superblock.0, c.superblock.1])
         .unsigned(&[c.chroma as u64, c.depth])
         .signed(&[c.delta_q, c.delta_side])
@@ -230,6 +235,12 @@ fn answered(c: Case) -> Made {
         .list(&c.marks.height)
         .list(&c.qindex)
         .list(&c.plane);
+    line
+}
+
+fn answered(c: Case) -> Made {
+    let refusal = refusals::of_plane(&c);
+    let mut line = asked(&c, 2);
     if let Some(r) = refusal {
         line.unsigned(&[r.no, r.place]);
         return Made { line, refusal, width: None, changed: false, steps: Some(c.steps) };

@@ -7,7 +7,7 @@ pub struct Summary {
     cases: u64,
     accepted: u64,
     changed: u64,
-    refused: [u64; 10],
+    refused: [u64; 21],
     widths: [u64; 9],
 }
 

@@ -53,9 +53,11 @@ pub enum Reason {
     Sample,
     /// A leaf is bad.
     Leaf,
+    /// The buffer is too short for the record of a plane's edges.
+    Buffer,
 }
 
-const REASONS: [Reason; 9] = [
+const REASONS: [Reason; 10] = [
     Reason::Depth,
     Reason::Size,
     Reason::Length,
@@ -65,6 +67,7 @@ const REASONS: [Reason; 9] = [
     Reason::Room,
     Reason::Sample,
     Reason::Leaf,
+    Reason::Buffer,
 ];
 
 impl Reason {
@@ -91,6 +94,7 @@ impl fmt::Display for Reason {
             Reason::Room => "an edge lacks room",
             Reason::Sample => "a sample exceeds the depth's largest",
             Reason::Leaf => "a leaf is bad",
+            Reason::Buffer => "the buffer is too short for the record of a plane's edges",
         })
     }
 }
@@ -243,12 +247,22 @@ pub struct Ccso {
     pub band_log2: i32,
 }
 
+/// A plane's settings in their order.
+fn plane_settings(s: Plane) -> [i32; 11] {
+    [s.cols, s.rows, s.stride, s.width, s.height, s.superblock_width, s.superblock_height, s.chroma as i32, s.depth, s.delta_q, s.delta_side]
+}
+
 /// What was asked for, or the refusal with its place.
 fn told(answer: i32, place: [usize; 1]) -> Result<(), Refusal> {
+    counted(answer, place).map(|_| ())
+}
+
+/// A count, or the refusal with its place.
+fn counted(answer: i32, place: [usize; 1]) -> Result<usize, Refusal> {
     if answer < 0 {
         return Err(Refusal { reason: Reason::of(answer), place: place[0] });
     }
-    Ok(())
+    Ok(answer as usize)
 }
 
 // In each call below every pointer is that of a live list, beside its length, and the borrow checker keeps a `&mut` list apart from the others.
@@ -288,9 +302,7 @@ pub fn segment(window: &mut [u8], depth: u32, pair: u32, q: u32, side: u32) -> R
 
 /// Filters every marked edge of a plane.
 pub fn deblock_plane(plane: &mut [u16], grid: Grid, steps: &[u32], s: Plane) -> Result<(), Refusal> {
-    let settings = [
-        s.cols, s.rows, s.stride, s.width, s.height, s.superblock_width, s.superblock_height, s.chroma as i32, s.depth, s.delta_q, s.delta_side,
-    ];
+    let settings = plane_settings(s);
     let mut place = [0];
     // SAFETY: as above.
     let answer = unsafe {
@@ -301,6 +313,38 @@ pub fn deblock_plane(plane: &mut [u16], grid: Grid, steps: &[u32], s: Plane) -> 
         )
     };
     told(answer, place)
+}
+
+/// Filters every marked edge of a plane and writes the record of these edges into the beginning of a buffer; how many bytes it takes.
+/// `5 + 20 * cols * rows` bytes are always enough.
+///
+/// ```
+/// use bihargesh::{record_plane, Grid, Plane, Reason, Refusal};
+///
+/// // three cells in a row, with a vertical edge at the second: the pair of lengths is 4, 4
+/// let grid = Grid { vedge: &[0, 1, 0], hedge: &[0; 3], sqw: &[0; 3], sqh: &[0; 3], qindex: &[0; 3] };
+/// let settings = Plane { cols: 3, rows: 1, stride: 12, width: 12, height: 4, superblock_width: 8, superblock_height: 8, depth: 8, ..Plane::default() };
+/// let (mut plane, mut record) = ([100; 48], [7; 16]);
+/// assert_eq!(record_plane(&mut plane, &mut record, grid, &bihargesh::steps(), settings)?, 15);
+/// assert_eq!(record, [b'E', b'D', b'G', 1, 0, 4, 0, 0, 0, 0, 0, 0, 0, 0, 0, 7]);
+///
+/// let refusal = record_plane(&mut plane, &mut record[..14], grid, &bihargesh::steps(), settings).unwrap_err();
+/// assert_eq!(refusal, Refusal { reason: Reason::Buffer, place: 0 });
+/// # Ok::<(), Refusal>(())
+/// ```
+pub fn record_plane(plane: &mut [u16], record: &mut [u8], grid: Grid, steps: &[u32], s: Plane) -> Result<usize, Refusal> {
+    let settings = plane_settings(s);
+    let mut place = [0];
+    // SAFETY: as above.
+    let answer = unsafe {
+        bihargesh_record_plane(
+            plane.as_mut_ptr(), plane.len(), record.as_mut_ptr(), record.len(), grid.vedge.as_ptr(), grid.vedge.len(),
+            grid.hedge.as_ptr(), grid.hedge.len(), grid.sqw.as_ptr(), grid.sqw.len(), grid.sqh.as_ptr(), grid.sqh.len(),
+            grid.qindex.as_ptr(), grid.qindex.len(), steps.as_ptr(), steps.len(),
+            settings.as_ptr(), settings.len(), place.as_mut_ptr(), place.len(),
+        )
+    };
+    counted(answer, place)
 }
 
 /// Builds a plane's marks and size indices from its leaves and skip leaves, four numbers a leaf.

@@ -15,11 +15,14 @@ use Rattle.rules.specs.declared.refusals.Refusal.{Refusal}
 use Rattle.rules.specs.declared.refusals.Refusal.the-variants.{Length}
 use Rattle.rules.specs.declared.refusals.Answer.{Answer}
 use Rattle.rules.specs.declared.refusals.Answer.the-variants.{Accepted, Refused}
+use Rattle.rules.specs.declared.refusals.Recorded.{Recorded}
+use Rattle.rules.specs.declared.refusals.Recorded.the-variants.{Bytes, Refused as «NoRecord»}
 use Rattle.rules.specs.Refusals.{numberOf, placeOf, settle}
+use Rattle.rules.specs.Record.{answerBytes}
 use Rattle.rules.specs.CSide.{cAnswer}
 use Rattle.rules.proofs.Numbered.{number-most}
 use Rattle.scan.proofs.Checks.{stop, go-on, unless-bad, unless-good, settle-refused}
-use Rattle.answers.specs.Told.{placed, Told, listed, Handed, Reported}
+use Rattle.answers.specs.Told.{placed, Counted, Told, Few, refusalIn, bytesIn, listed, Handed, Reported}
 
 -- a count that the machine holds
 pub held : (z : ℤ) (n : ℕ) → z ≡ pos n → n < 2147483648 → toZ w32 (ofZ w32 z) ≡ pos n
@@ -91,6 +94,27 @@ held-answer z (Refused r) e = held-minus z r e
 pub told-by : {a b : Answer} {lent place : List ℕ} {z : ℤ} → a ≡ b → Told a lent z place → Told b lent (toZ w32 (ofZ w32 z)) place
 told-by {a} {b} {lent} {place} {z} e t =
     record { answer = held-answer z b (t .answer ∙ ap (λ (a : Answer). cAnswer a 0) e); place-is = t .place-is ∙ ap (λ (a : Answer). placed a lent) e }
+
+-- ---- a record's bytes
+
+pub bytes-told : {a : Recorded} (lent : List ℕ) {n : ℕ} {z : ℤ} → Few a → a ≡ Bytes n → z ≡ pos n → Counted (refusalIn a) (bytesIn a) lent (toZ w32 (ofZ w32 z)) lent
+unfolding refusalIn bytesIn cAnswer placed
+bytes-told lent {n} {z} few e h = let most = few n e in rw e (record { answer = held z n h (omega (arith, most)); place-is = refl })
+
+pub bytes-refused : {a : Recorded} {r : Refusal} (lent : List ℕ) {z : ℤ} {k : ℕ} {place : List ℕ} → a ≡ «NoRecord» r → k ≡ placeOf r → place ≡ set lent 0 k → z ≡ negℤ (pos (numberOf r)) → Counted (refusalIn a) (bytesIn a) lent (toZ w32 (ofZ w32 z)) place
+unfolding refusalIn bytesIn cAnswer placed
+bytes-refused {a} {r} lent {z} e f g h = rw e (record { answer = held-minus z r h; place-is = g ∙ ap (λ (k : ℕ). set lent 0 k) f })
+
+-- handed on by an export: the answer a is the bytes n where the check accepts
+pub counted-by : {a : Recorded} (check : Answer) (n : ℕ) {lent place : List ℕ} {z : ℤ} → a ≡ answerBytes check n → Few a → Counted (refusalIn a) (bytesIn a) lent z place → Counted check n lent (toZ w32 (ofZ w32 z)) place
+unfolding answerBytes refusalIn bytesIn cAnswer placed
+counted-by {a} Accepted n {lent} {place} {z} e few t =
+    let most = few n e in
+    let u : Counted Accepted n lent z place = rw e at t in
+    record { answer = held z n (u .answer) (omega (arith, most)); place-is = u .place-is }
+counted-by {a} (Refused r) n {lent} {place} {z} e few t =
+    let u : Counted (Refused r) 0 lent z place = rw e at t in
+    record { answer = held-minus z r (u .answer); place-is = u .place-is }
 
 -- ---- what is left of the lent lists
 

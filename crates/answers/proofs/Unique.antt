@@ -5,10 +5,13 @@ use mathlib.Core.List.{List}
 use Prim.Native.Nat.{ℕ}
 use lib.IntN.{ℤ}
 use Rattle.rules.specs.declared.refusals.Answer.{Answer}
-use Rattle.answers.specs.Told.{Told, Handed, Reported}
+use Rattle.answers.specs.Told.{Counted, Told, Handed, Reported}
+
+pub counted-unique : {a : Answer} {count : ℕ} {lent : List ℕ} {n m : ℤ} {p q : List ℕ} → Counted a count lent n p → Counted a count lent m q → (n ≡ m) × (p ≡ q)
+counted-unique t u = (t .answer ∙ sym (u .answer), t .place-is ∙ sym (u .place-is))
 
 pub told-unique : {a : Answer} {lent : List ℕ} {n m : ℤ} {p q : List ℕ} → Told a lent n p → Told a lent m q → (n ≡ m) × (p ≡ q)
-told-unique t u = (t .answer ∙ sym (u .answer), t .place-is ∙ sym (u .place-is))
+told-unique = counted-unique
 
 module _ {A : Type 0} {check : Answer} {lent new : A} where
   pub handed-unique : {a b : Answer} {l m : A} → Handed check lent new a l → Handed check lent new b m → (a ≡ b) × (l ≡ m)

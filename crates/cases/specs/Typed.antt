@@ -32,9 +32,9 @@ fromZero size rest = pick (ltb 2147483647 size) (record { value = pos 0; rest = 
 unfoldable pub signedOf : Number → Signed
 signedOf n = pick (n .negative) (belowZero (n .size) (n .rest)) (fromZero (n .size) (n .rest))
 
--- an answer: the refusal's number, 0 to 9, and its place
+-- an answer: the refusal's number, 0 for none, and its place
 unfoldable pub toldAt : List ℕ → Cursor → Told
-toldAt text c = told (unsignedOf 9 (numberAt text c))
+toldAt text c = told (unsignedOf 20 (numberAt text c))
   where
     told : Unsigned → Told
     told n = record {

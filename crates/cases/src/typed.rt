@@ -130,7 +130,7 @@ pub fn read_signed(text: &[u8], c: Cursor) -> Signed
 pub fn read_told(text: &[u8], c: Cursor) -> Told
     ensures { λ r. ⌜ r ≡ toldAt (now (text .entry)) c ⌝ }
 {
-    let number = read_unsigned(text, c, 9);
+    let number = read_unsigned(text, c, 20);
     let place = read_unsigned(text, number.rest, 4294967295);
     let rest = place.rest;
     Told {

@@ -11,9 +11,9 @@ use Rattle.rules.specs.Ccso.{ccsoCheck, ccsoOf}
 use Rattle.rules.specs.Frame.{Given, Lent}
 use Rattle.rules.specs.CSide.{cThresholds, cSegment, cWindow}
 use Rattle.answers.specs.Told.{listed, Reported}
-use Rattle.answers.proofs.Unique.{reported-unique}
+use Rattle.answers.proofs.Unique.{counted-unique, reported-unique}
 use Rattle.numbers.specs.Settings.{planeOf, tuGridOf, qindexGridOf, offsetsOf}
-use Rattle.entries.specs.Planes.{cPlaneCheck}
+use Rattle.entries.specs.Planes.{cPlaneCheck, RecordTold}
 use Rattle.leaves.specs.declared.records.Leaf.{Leaf}
 use Rattle.leaves.specs.Records.{flat}
 use Rattle.frame_entry.specs.Listed.{cFrameOf, FrameTold}
@@ -39,6 +39,14 @@ module _ {r s : ℤ} where
         → Reported (cPlaneCheck settings steps g l) l (runPlane (planeOf settings) steps g l) place s n q
         → (r ≡ s) × (m ≡ n) × (p ≡ q)
     plane-unique steps l g = reported-unique
+
+    pub record-plane-unique : (steps l b : List ℕ) (g : Grid) {m n c d : List ℕ}
+        → RecordTold settings steps g l b place r m c p
+        → RecordTold settings steps g l b place s n d q
+        → (r ≡ s) × (m ≡ n) × (c ≡ d) × (p ≡ q)
+    record-plane-unique steps l b g t u =
+        let e = counted-unique (t .told) (u .told) in
+        (e .0, t .plane ∙ sym (u .plane), t .buffer ∙ sym (u .buffer), e .1)
 
     pub tx-grid-unique : (leaves skips : List ℕ) (g : Marks) {m n : Marks}
         → Reported (listed 6 settings (txGridCheck (tuGridOf settings) leaves skips g)) g (txGridOf (tuGridOf settings) leaves skips g) place r m p

@@ -12,6 +12,9 @@ pub mod window;
 // One plane.
 pub mod planes;
 
+// One plane whose edges are recorded.
+pub mod recorded_planes;
+
 // The grids of a plane.
 pub mod qindex_grids;
 pub mod tx_grids;

@@ -1,9 +1,10 @@
 -- An entry's settings read from a list, and what the entry then gives.
 -- Assumes nothing.
-use mathlib.Core.Path.{_≡_, refl, ap, _∙_}
+use mathlib.Core.Path.{_≡_, refl, sym, ap, _∙_}
 use mathlib.Core.Bool.{Bool, true, false, not}
 use mathlib.Core.List.{List}
 use Prim.Native.Nat.{ℕ, _≤_, _<_}
+use borrow.Author.Tests.{leb-true}
 use lib.ListN.{length}
 use lib.IntN.{ℤ}
 use Rattle.laws.specs.Choose.{is-le, not-le, told-yes-not, told-no-not}
@@ -11,57 +12,69 @@ use Rattle.rules.specs.declared.settings.Plane.{Plane}
 use Rattle.rules.specs.declared.settings.TuGrid.{TuGrid}
 use Rattle.rules.specs.declared.settings.QindexGrid.{QindexGrid}
 use Rattle.rules.specs.declared.settings.Ccso.{Ccso}
+use Rattle.rules.specs.declared.refusals.Refusal.{Refusal}
 use Rattle.rules.specs.declared.refusals.Refusal.the-variants.{Depth, Size, Length}
 use Rattle.rules.specs.declared.refusals.Answer.{Answer}
-use Rattle.rules.specs.declared.refusals.Answer.the-variants.{Refused}
+use Rattle.rules.specs.declared.refusals.Answer.the-variants.{Accepted, Refused}
 use Rattle.rules.specs.Numbers.{depthOk}
-use Rattle.rules.specs.Plane.{Grid, planeCheck, planeAfter, runPlane}
+use Rattle.rules.specs.Plane.{Grid, planeAfter, runPlane}
 use Rattle.rules.specs.TuGrid.{Marks, txGridCheck, txGridOf, txGridAfter}
 use Rattle.rules.specs.QindexGrid.{qGridCheck, qGridOf, qGridAfter}
 use Rattle.rules.specs.Ccso.{ccsoCheck, ccsoOf, ccsoAfter}
-use Rattle.scan.proofs.Checks.{stop, go-on, unless-bad, unless-good}
+use Rattle.scan.proofs.Checks.{stop, stop-by, go-on, go-on-by, unless-bad, unless-good, unless-true, else-parts}
 use Rattle.plane.specs.Checked.{Stated as «PlaneStated»}
 use Rattle.ccso.specs.Stated.{Stated as «OffsetsStated»}
 use Rattle.answers.specs.Told.{listed, Handed}
 use Rattle.numbers.specs.Settings.{countAt, planeOf, tuGridOf, qindexGridOf, offsetsOf}
-use Rattle.entries.specs.Planes.{cPlaneCheck}
-use Rattle.answers.proofs.Numbers.{handed-refused, handed-on, short, long-is, long}
+use Rattle.entries.specs.Planes.{listCheck, cPlaneCheck}
+use Rattle.answers.proofs.Numbers.{handed-refused, handed-on, long}
 
 -- ---- a plane
 
-module _ (settings : List ℤ) (steps : List ℕ) (g : Grid) (l : List ℕ) where
-  pub plane-short : length settings < 11 → Handed (cPlaneCheck settings steps g l) l (runPlane (planeOf settings) steps g l) (Refused Length) l
-  unfolding cPlaneCheck
-  plane-short h = short 11 settings _ l _ h
+-- the list of settings, at each way out of its check
+module _ (settings : List ℤ) where
+  pub list-short : length settings < 11 → Refused Length ≡ listCheck settings
+  unfolding listCheck listed
+  list-short h = stop _ _ (unless-bad _ _ (not-le 11 (length settings) h))
 
-  module _ (enough : 11 ≤ length settings) {s : Plane} (read : s ≡ planeOf settings) {u : Bool} (asked : u ≡ depthOk (s .depth)) where
+  module _ (enough : 11 ≤ length settings) {depth : ℕ} (read : depth ≡ countAt settings 8) {u : Bool} (asked : u ≡ depthOk depth) where
     depth-is : u ≡ depthOk (countAt settings 8)
-    unfolding planeOf
-    depth-is = asked ∙ ap (λ (s : Plane). depthOk (s .depth)) read
+    depth-is = asked ∙ ap depthOk read
 
     -- no depth
-    pub no-depth : not u ≡ true → Handed (cPlaneCheck settings steps g l) l (runPlane (planeOf settings) steps g l) (Refused Depth) l
-    unfolding cPlaneCheck
-    no-depth f = handed-refused l _ (stop _ _ (unless-bad _ _ (told-no-not _ _ depth-is f)) ∙ long-is 11 settings _ l l enough)
+    pub list-depth : not u ≡ true → Refused Depth ≡ listCheck settings
+    unfolding listCheck listed
+    list-depth f = go-on _ _ _ (unless-good _ _ (is-le 11 (length settings) enough)) (stop _ _ (unless-bad _ _ (told-no-not _ _ depth-is f)))
 
     module _ (yes : not u ≡ false) {n : ℕ} (counted : n ≡ countAt settings 7) where
       -- a chroma that is neither 0 nor 1
-      pub no-kind : 1 < n → Handed (cPlaneCheck settings steps g l) l (runPlane (planeOf settings) steps g l) (Refused Size) l
-      unfolding cPlaneCheck
-      no-kind h =
-          handed-refused l _
-          (go-on _ _ _ (unless-good _ _ (told-yes-not _ _ depth-is yes)) (stop _ _ (unless-bad _ _ (not-le _ 1 (rw counted at h)))) ∙ long-is 11 settings _ l l enough)
+      pub list-kind : 1 < n → Refused Size ≡ listCheck settings
+      unfolding listCheck listed
+      list-kind h =
+          go-on _ _ _ (unless-good _ _ (is-le 11 (length settings) enough))
+          (go-on _ _ _ (unless-good _ _ (told-yes-not _ _ depth-is yes)) (unless-bad _ _ (not-le _ 1 (rw counted at h))))
 
-      own : n ≤ 1 → planeCheck (planeOf settings) steps g l ≡ cPlaneCheck settings steps g l
-      unfolding cPlaneCheck
-      own h =
-          go-on _ _ _ (unless-good _ _ (told-yes-not _ _ depth-is yes)) (go-on _ _ _ (unless-good _ _ (is-le _ 1 (rw counted at h))) refl) ∙ long-is 11 settings _ l l enough
+      pub list-good : n ≤ 1 → Accepted ≡ listCheck settings
+      unfolding listCheck listed
+      list-good h =
+          go-on _ _ _ (unless-good _ _ (is-le 11 (length settings) enough))
+          (go-on _ _ _ (unless-good _ _ (told-yes-not _ _ depth-is yes)) (unless-good _ _ (is-le _ 1 (rw counted at h))))
 
-      pub plane-done : n ≤ 1 → {a : Answer} {m : List ℕ} → «PlaneStated» s steps g l a m → Handed (cPlaneCheck settings steps g l) l (runPlane (planeOf settings) steps g l) a m
-      unfolding planeAfter
-      plane-done h {a} {m} t =
-          let w : «PlaneStated» (planeOf settings) steps g l a m = rw read at t in
-          handed-on l _ (own h) (w .answer) (w .plane)
+  -- a list that passes has its eleven numbers
+  pub list-long : {a : Answer} → a ≡ listCheck settings → a ≡ Accepted → 11 ≤ length settings
+  unfolding listCheck listed
+  list-long is e = leb-true 11 (length settings) (unless-true _ Length (else-parts _ _ (sym is ∙ e) .0))
+
+module _ (settings : List ℤ) (steps : List ℕ) (g : Grid) (l : List ℕ) {a : Answer} (is : a ≡ listCheck settings) where
+  pub plane-refused : {r : Refusal} → a ≡ Refused r → Handed (cPlaneCheck settings steps g l) l (runPlane (planeOf settings) steps g l) (Refused r) l
+  unfolding cPlaneCheck
+  plane-refused e = handed-refused l _ (stop-by _ _ _ is e)
+
+  pub plane-done : {s : Plane} {x : Answer} {m : List ℕ} → a ≡ Accepted → s ≡ planeOf settings → «PlaneStated» s steps g l x m → Handed (cPlaneCheck settings steps g l) l (runPlane (planeOf settings) steps g l) x m
+  unfolding cPlaneCheck planeAfter
+  plane-done {s} {x} {m} e read t =
+      let w : «PlaneStated» (planeOf settings) steps g l x m = rw read at t in
+      handed-on l _ (go-on-by _ _ _ _ is e refl) (w .answer) (w .plane)
 
 -- ---- the grids
 

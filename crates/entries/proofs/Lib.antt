@@ -1,3 +1,4 @@
 pub mod Done
+pub mod Recorded
 pub mod Unique
 pub mod Records

@@ -1,10 +1,11 @@
 -- Two results that an entry's statement allows are equal.
 -- Assumes nothing.
-use mathlib.Core.Path.{_≡_}
+use mathlib.Core.Path.{_≡_, sym, _∙_}
 use mathlib.Core.List.{List}
 use Prim.Native.Nat.{ℕ}
 use lib.IntN.{ℤ}
 use Rattle.rules.specs.declared.refusals.Answer.{Answer}
+use Rattle.rules.specs.declared.refusals.Recorded.{Recorded}
 use Rattle.rules.specs.Plane.{Grid, runPlane}
 use Rattle.rules.specs.TuGrid.{Marks, txGridCheck, txGridOf}
 use Rattle.rules.specs.QindexGrid.{qGridCheck, qGridOf}
@@ -12,7 +13,7 @@ use Rattle.rules.specs.Ccso.{ccsoCheck, ccsoOf}
 use Rattle.answers.specs.Told.{listed, Handed}
 use Rattle.answers.proofs.Unique.{handed-unique}
 use Rattle.numbers.specs.Settings.{planeOf, tuGridOf, qindexGridOf, offsetsOf}
-use Rattle.entries.specs.Planes.{cPlaneCheck}
+use Rattle.entries.specs.Planes.{cPlaneCheck, RecordHanded}
 
 module _ {a b : Answer} (settings : List ℤ) where
   pub deblock-unique : (steps l : List ℕ) (g : Grid) {m n : List ℕ}
@@ -38,3 +39,9 @@ module _ {a b : Answer} (settings : List ℤ) where
       → Handed (listed 16 settings (ccsoCheck (offsetsOf settings) luma flags offsets t)) t (ccsoOf (offsetsOf settings) luma flags offsets t) b n
       → (a ≡ b) × (m ≡ n)
   apply-unique luma flags t offsets = handed-unique
+
+pub record-unique : {settings : List ℤ} {steps : List ℕ} {g : Grid} {l b : List ℕ} {x y : Recorded} {m n c d : List ℕ}
+    → RecordHanded settings steps g l b x m c
+    → RecordHanded settings steps g l b y n d
+    → (x ≡ y) × (m ≡ n) × (c ≡ d)
+record-unique t u = (t .answer ∙ sym (u .answer), t .plane ∙ sym (u .plane), t .buffer ∙ sym (u .buffer))

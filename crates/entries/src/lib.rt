@@ -3,6 +3,9 @@
 // One plane.
 pub mod planes;
 
+// One plane whose edges are recorded.
+pub mod recorded_planes;
+
 // The grids of a plane.
 pub mod qindex_grids;
 pub mod tx_grids;

@@ -5,10 +5,27 @@ use plane::deblock_plane;
 use rules::depth::Depth;
 use rules::refusals::Answer;
 use rules::refusals::Refusal;
+ghost use mathlib.Core.Path.{_≡_};
 ghost use Rattle.rules.specs.Plane.{grid, runPlane};
 ghost use Rattle.answers.specs.Told.{Handed};
 ghost use Rattle.numbers.specs.Settings.{planeOf};
-ghost use Rattle.entries.specs.Planes.{cPlaneCheck};
+ghost use Rattle.entries.specs.Planes.{cPlaneCheck, listCheck};
+
+// The first refusal that the list of settings itself gives: too few numbers, and a flag that is none after the depth.
+pub fn list_check(settings: &[i32]) -> Answer
+    ensures { λ a. ⌜ a ≡ listCheck (now (settings .entry)) ⌝ }
+{
+    if settings.len() < 11 {
+        return Answer::Refused(Refusal::Length);
+    }
+    if !Depth::is(count(settings, 8)) {
+        return Answer::Refused(Refusal::Depth);
+    }
+    if 1 < count(settings, 7) {
+        return Answer::Refused(Refusal::Size);
+    }
+    Answer::Accepted
+}
 
 // Deblocks a plane, or refuses it and leaves it as lent.
 pub fn deblock(
@@ -23,15 +40,10 @@ pub fn deblock(
 ) -> Answer
     ensures { λ a. ⌜ Handed (cPlaneCheck (now (settings .entry)) (now (steps .entry)) (grid (now (vedge .entry)) (now (hedge .entry)) (now (sqw .entry)) (now (sqh .entry)) (now (qindex .entry))) (now (plane .entry))) (now (plane .entry)) (runPlane (planeOf (now (settings .entry))) (now (steps .entry)) (grid (now (vedge .entry)) (now (hedge .entry)) (now (sqw .entry)) (now (sqh .entry)) (now (qindex .entry))) (now (plane .entry))) a (now (plane .exit)) ⌝ }
 {
-    if settings.len() < 11 {
-        return Answer::Refused(Refusal::Length);
+    let a = list_check(settings);
+    if let Answer::Refused(r) = a {
+        return Answer::Refused(r);
     }
     let s = plane_of(settings);
-    if !Depth::is(s.depth) {
-        return Answer::Refused(Refusal::Depth);
-    }
-    if 1 < count(settings, 7) {
-        return Answer::Refused(Refusal::Size);
-    }
     deblock_plane(plane, vedge, hedge, sqw, sqh, qindex, steps, s)
 }

@@ -192,6 +192,7 @@ fn meaning(r: Refusal) {
         Refusal::Room(_) => words(b"an edge lacks room"),
         Refusal::Sample(_) => words(b"a sample is above the depth's top"),
         Refusal::Leaf(_) => words(b"a leaf is bad"),
+        Refusal::Buffer => words(b"the record's buffer is too short"),
     }
 }
 

@@ -6,7 +6,7 @@ use borrow.Author.Needs.{needs}
 use lib.ListN.{length, getD}
 use Rattle.rules.specs.declared.settings.Frame.{Frame}
 use Rattle.rules.specs.declared.refusals.Refusal.{Refusal}
-use Rattle.rules.specs.declared.refusals.Refusal.the-variants.{Depth, Size, Length, Steps, Setting, Cell, Room, Sample, Leaf}
+use Rattle.rules.specs.declared.refusals.Refusal.the-variants.{Depth, Size, Length, Steps, Setting, Cell, Room, Sample, Leaf, Buffer}
 use Rattle.rules.specs.declared.refusals.Answer.{Answer}
 use Rattle.rules.specs.declared.refusals.Answer.the-variants.{Accepted, Refused}
 use Rattle.rules.specs.Frame.{Planes, Given, lent, grids}
@@ -57,7 +57,11 @@ module _ (f : Frame) (n : Given) (p : Planes) (r : Refusal) {x : Place} where
   unfolding refusalPlace
   of-cell e g = rw e g
 
-pub ruleset refusing = (needs, at-sample, at-room, at-leaf, at-step, of-depth, of-size, of-length, of-setting, of-cell)
+  pub of-buffer : r ≡ Buffer → x ≡ placeIn 8 0 0 → x ≡ refusalPlace f n p r
+  unfolding refusalPlace
+  of-buffer e g = rw e g
+
+pub ruleset refusing = (needs, at-sample, at-room, at-leaf, at-step, of-depth, of-size, of-length, of-setting, of-cell, of-buffer)
 
 -- ---- what a deblocked frame tells
 

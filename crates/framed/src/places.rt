@@ -82,5 +82,6 @@ pub fn place_of(
         Refusal::Length => at(8, 0, 0),
         Refusal::Setting => at(8, 0, 0),
         Refusal::Cell(_) => at(8, 0, 0),
+        Refusal::Buffer => at(8, 0, 0),
     }
 }

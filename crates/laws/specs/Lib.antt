@@ -15,3 +15,4 @@ pub mod Schedules
 pub mod Reorder
 pub mod Rising
 pub mod Sums
+pub mod Sets

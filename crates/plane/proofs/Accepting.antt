@@ -28,8 +28,8 @@ use Rattle.scan.proofs.Checks.{else-parts, unless-true, found-nothing, settle-r
 use Rattle.cells.specs.Fit.{Sizes, Long, Ready, badOf, oneWay}
 use Rattle.cells.proofs.Accepted.{sizes, sizes-by}
 use Rattle.cells.proofs.Marks.{none-good}
-use Rattle.plane.specs.Run.{Levels, Field, Ran}
-use Rattle.plane.specs.Checked.{Sized, Checked, Filtered, Stated}
+use Rattle.plane.specs.Run.{Table, Levels, Field, none, state, Ran}
+use Rattle.plane.specs.Checked.{Sized, Checked, Noted, Stated}
 use Rattle.plane.specs.declared.visited.Visited.{Visited}
 
 -- ---- lengths
@@ -154,9 +154,11 @@ module _ {s : Plane} {steps : List ℕ} (v h w t q : List ℕ) {n : ℕ} {table 
         room = no-lack .1;
       }
 
-  pub ran-plane : {x : Visited} {a b : List ℕ} → Ran s table (λ st. edgesOf s st (grid v h w t q)) a x b → Filtered s steps (grid v h w t q) a x b
+  pub ran-plane : (a b : List ℕ) {x : Visited} {m c : List ℕ} → Ran s table (λ st. edgesOf s st (grid v h w t q)) (state a b none) (state m c x) → Noted s steps (grid v h w t q) a b x m c
   unfolding runPlane
-  ran-plane r = record { plane = r .is steps (record { entries = by; accepted = k .steps-ok }); visited = r .visited steps }
+  ran-plane a b r =
+      let of : Table s steps table = record { entries = by; accepted = k .steps-ok } in
+      record { plane = r .is steps of; buffer = r .notes steps of; visited = omega (arith, r .visited steps) }
 
 -- ---- the entry
 

@@ -19,9 +19,10 @@ use Rattle.thresholds.proofs.Packed.{edge-q, edge-side}
 use Rattle.thresholds.proofs.TwoBlocks.{both-most}
 use Rattle.scan.proofs.First.{nothing-all, unless-nothing}
 use Rattle.segment.specs.Fit.{InPlane}
-use Rattle.cells.specs.Fit.{Cell, oneWay, sized, marked}
+use Rattle.cells.specs.Fit.{Sizes, Cell, oneWay, sized, marked}
 use Rattle.cells.proofs.Places.{pair-below}
 use Rattle.cells.proofs.Reach.{inner-by}
+use Rattle.records.specs.Fit.{InBytes}
 use Rattle.plane.specs.Run.{Table, Levels, IsEdgeAt, Field}
 
 block-most : (t : List ℕ) (k : ℕ) → Levels t → (getD t (min k 1415) 0 / 65536 ≤ 2048) × (getD t (min k 1415) 0 % 65536 ≤ 839)
@@ -75,6 +76,17 @@ module _ {s : Plane} (marks sizes qindex : List ℕ) {t : List ℕ} {size : ℕ}
     plane = f .plane-long;
     room = edge-room (found-room (sym (told-yes-not _ u edge there)));
   }
+
+-- its numbers fit the bytes of a record's entry
+pub in-bytes : {s : Plane} {t sizes qindex : List ℕ} {dir r c : ℕ} {e : Edge} → Sizes s → Cell s r c → dir ≤ 1 → IsEdgeAt s t (oneWay [] sizes qindex) dir r c e → InBytes e
+in-bytes z k two is = record {
+  x-fits = omega (arith, is .x-is, k .in-cols, z .cols-most);
+  y-fits = omega (arith, is .y-is, k .in-rows, z .rows-most);
+  dir-fits = omega (arith, is .dir-is);
+  pair-fits = omega (arith, pair-below _ _ _ (is .pair-is));
+  q-fits = omega (arith, is .q-most);
+  side-fits = omega (arith, is .side-most);
+}
 
 pub ruleset edges = (needs, edge-is, in-plane)
 

@@ -17,8 +17,7 @@ use Rattle.rules.specs.declared.settings.Plane.{Plane}
 use Rattle.rules.specs.Plane.{Grid, grid, marksOf, indicesOf, indexAt, isEdge, edgeAt, visitOf, startOf, countOf, sbCols, sweepOf, columnOf, turnOf, edgesOf}
 use Rattle.cells.specs.Fit.{Sizes, Cell, oneWay}
 use Rattle.plane.specs.declared.part.Part.{Part}
-use Rattle.plane.specs.declared.visited.Visited.{Visited}
-use Rattle.plane.specs.Run.{Ran, PartOf, InPart, superblockOf, lineOf}
+use Rattle.plane.specs.Run.{State, Ran, PartOf, InPart, superblockOf, lineOf}
 use Rattle.plane.proofs.Runs.{ran-same, ran-then, ran-end}
 
 -- ---- where they stand
@@ -103,12 +102,12 @@ pub is-one : {dir : ℕ} → dir ≤ 1 → (dir ≡ 0 → ⊥) → dir ≡ 1
 is-one {dir} h e = omega arith
 
 -- the visit of a cell, as each direction calls it
-module _ {s : Plane} {t : List ℕ} (g : Grid) {dir : ℕ} (p : Part) (k j : ℕ) {x : Visited} {l m : List ℕ} where
-  pub row-visit : dir ≡ 0 → Ran s t (λ steps. visitOf s steps g 0 (p .row + k) (p .col + j)) l x m → Ran s t (λ steps. visitOf s steps g dir (p .row + pick (eqb dir 0) k j) (p .col + pick (eqb dir 0) j k)) l x m
+module _ {s : Plane} {t : List ℕ} (g : Grid) {dir : ℕ} (p : Part) (k j : ℕ) {x y : State} where
+  pub row-visit : dir ≡ 0 → Ran s t (λ steps. visitOf s steps g 0 (p .row + k) (p .col + j)) x y → Ran s t (λ steps. visitOf s steps g dir (p .row + pick (eqb dir 0) k j) (p .col + pick (eqb dir 0) j k)) x y
   unfolding pick
   row-visit e r = rw e r
 
-  pub column-visit : dir ≡ 1 → Ran s t (λ steps. visitOf s steps g 1 (p .row + j) (p .col + k)) l x m → Ran s t (λ steps. visitOf s steps g dir (p .row + pick (eqb dir 0) k j) (p .col + pick (eqb dir 0) j k)) l x m
+  pub column-visit : dir ≡ 1 → Ran s t (λ steps. visitOf s steps g 1 (p .row + j) (p .col + k)) x y → Ran s t (λ steps. visitOf s steps g dir (p .row + pick (eqb dir 0) k j) (p .col + pick (eqb dir 0) j k)) x y
   unfolding pick
   column-visit e r = rw e r
 
@@ -124,42 +123,42 @@ module _ (s : Plane) (steps : List ℕ) (g : Grid) (dir : ℕ) (p : Part) where
       go false = refl
 
 module _ {s : Plane} {t : List ℕ} (g : Grid) (dir : ℕ) (p : Part) where
-  pub line-is : (k : ℕ) {j n : ℕ} {x : Visited} {l m : List ℕ} → Ran s t (λ steps. each j (λ i. visitOf s steps g dir (p .row + pick (eqb dir 0) k i) (p .col + pick (eqb dir 0) i k))) l x m
-      → n ≡ pick (eqb dir 0) (p .cols) (p .rows) → j ≤ n → n ≤ j → Ran s t (λ steps. lineOf s steps g dir p k) l x m
+  pub line-is : (k : ℕ) {j n : ℕ} {x y : State} → Ran s t (λ steps. each j (λ i. visitOf s steps g dir (p .row + pick (eqb dir 0) k i) (p .col + pick (eqb dir 0) i k))) x y
+      → n ≡ pick (eqb dir 0) (p .cols) (p .rows) → j ≤ n → n ≤ j → Ran s t (λ steps. lineOf s steps g dir p k) x y
   unfolding lineOf
   line-is k {j} one e a b =
       ran-end (λ steps i. visitOf s steps g dir (p .row + pick (eqb dir 0) k i) (p .col + pick (eqb dir 0) i k)) j (pick (eqb dir 0) (p .cols) (p .rows)) one (omega (arith, e)) (omega (arith, e))
 
   -- all lines
-  pub sweep-is : {k n : ℕ} {x : Visited} {l m : List ℕ} → Ran s t (λ steps. each k (λ i. lineOf s steps g dir p i)) l x m → n ≡ pick (eqb dir 0) (p .rows) (p .cols) → k ≤ n → n ≤ k → Ran s t (λ steps. sweepOf s steps g dir (p .row) (p .rows) (p .col) (p .cols)) l x m
+  pub sweep-is : {k n : ℕ} {x y : State} → Ran s t (λ steps. each k (λ i. lineOf s steps g dir p i)) x y → n ≡ pick (eqb dir 0) (p .rows) (p .cols) → k ≤ n → n ≤ k → Ran s t (λ steps. sweepOf s steps g dir (p .row) (p .rows) (p .col) (p .cols)) x y
   sweep-is {k} one e a b = ran-same (λ steps. lines-are s steps g dir p) (ran-end (λ steps i. lineOf s steps g dir p i) k (pick (eqb dir 0) (p .rows) (p .cols)) one (omega (arith, e)) (omega (arith, e)))
 
 -- ---- a superblock column's edges
 
 -- each direction reads its own lists of the whole grid
-module _ {s : Plane} {t : List ℕ} (v h w y q : List ℕ) (sb : ℕ) {p : Part} {x : Visited} {a b : List ℕ} (is : p ≡ superblockOf s sb) where
-  pub vert-of : Ran s t (λ steps. sweepOf s steps (oneWay v w q) 0 (p .row) (p .rows) (p .col) (p .cols)) a x b → Ran s t (λ steps. columnOf s steps (grid v h w y q) 0 sb) a x b
+module _ {s : Plane} {t : List ℕ} (v h w y q : List ℕ) (sb : ℕ) {p : Part} {x z : State} (is : p ≡ superblockOf s sb) where
+  pub vert-of : Ran s t (λ steps. sweepOf s steps (oneWay v w q) 0 (p .row) (p .rows) (p .col) (p .cols)) x z → Ran s t (λ steps. columnOf s steps (grid v h w y q) 0 sb) x z
   unfolding columnOf superblockOf sweepOf visitOf isEdge edgeAt indexAt marksOf indicesOf pick
   vert-of r = rw is at r
 
-  pub horz-of : Ran s t (λ steps. sweepOf s steps (oneWay h y q) 1 (p .row) (p .rows) (p .col) (p .cols)) a x b → Ran s t (λ steps. columnOf s steps (grid v h w y q) 1 sb) a x b
+  pub horz-of : Ran s t (λ steps. sweepOf s steps (oneWay h y q) 1 (p .row) (p .rows) (p .col) (p .cols)) x z → Ran s t (λ steps. columnOf s steps (grid v h w y q) 1 sb) x z
   unfolding columnOf superblockOf sweepOf visitOf isEdge edgeAt indexAt marksOf indicesOf pick
   horz-of r = rw is at r
 
-module _ {s : Plane} {t : List ℕ} (g : Grid) (sb : ℕ) {x : Visited} {a b : List ℕ} (one : Ran s t (λ steps. columnOf s steps g 0 sb) a x b) where
-  pub turn-first : sb ≡ 0 → Ran s t (λ steps. turnOf s steps g sb) a x b
+module _ {s : Plane} {t : List ℕ} (g : Grid) (sb : ℕ) {x y : State} (one : Ran s t (λ steps. columnOf s steps g 0 sb) x y) where
+  pub turn-first : sb ≡ 0 → Ran s t (λ steps. turnOf s steps g sb) x y
   unfolding turnOf pick
   turn-first e = ran-same (λ steps. rw (eq-eqb _ _ e) (sym (append-nil (columnOf s steps g 0 sb)))) one
 
   -- the superblock column whose horizontal edges follow is the previous one
-  pub turn-later : {prev : ℕ} {y z : Visited} {c : List ℕ} → (sb ≡ 0 → ⊥) → Ran s t (λ steps. columnOf s steps g 1 prev) b y c → prev ≡ sb - 1 → z .edges ≡ x .edges + y .edges → Ran s t (λ steps. turnOf s steps g sb) a z c
+  pub turn-later : {prev : ℕ} {z : State} → (sb ≡ 0 → ⊥) → Ran s t (λ steps. columnOf s steps g 1 prev) y z → prev ≡ sb - 1 → Ran s t (λ steps. turnOf s steps g sb) x z
   unfolding turnOf pick
-  turn-later e two is sum = rw (ne-eqb _ _ e) (ran-then (λ steps. columnOf s steps g 0 sb) (λ steps. columnOf s steps g 1 (sb - 1)) one (rw is at two) sum)
+  turn-later e two is = rw (ne-eqb _ _ e) (ran-then (λ steps. columnOf s steps g 0 sb) (λ steps. columnOf s steps g 1 (sb - 1)) one (rw is at two))
 
-pub edges-are : {s : Plane} {t : List ℕ} (g : Grid) {k : ℕ} {x y z : Visited} {a b c : List ℕ} → Ran s t (λ steps. each k (λ sb. turnOf s steps g sb)) a x b → k ≤ sbCols s → sbCols s ≤ k → Ran s t (λ steps. columnOf s steps g 1 (sbCols s - 1)) b y c → z .edges ≡ x .edges + y .edges → Ran s t (λ steps. edgesOf s steps g) a z c
+pub edges-are : {s : Plane} {t : List ℕ} (g : Grid) {k : ℕ} {x y z : State} → Ran s t (λ steps. each k (λ sb. turnOf s steps g sb)) x y → k ≤ sbCols s → sbCols s ≤ k → Ran s t (λ steps. columnOf s steps g 1 (sbCols s - 1)) y z → Ran s t (λ steps. edgesOf s steps g) x z
 unfolding edgesOf
-edges-are {s} g {k} one l m two sum =
+edges-are {s} g {k} one l m two =
     ran-then (λ steps. each (sbCols s) (λ sb. turnOf s steps g sb)) (λ steps. columnOf s steps g 1 (sbCols s - 1))
-    (ran-end (λ steps sb. turnOf s steps g sb) k (sbCols s) one l m) two sum
+    (ran-end (λ steps sb. turnOf s steps g sb) k (sbCols s) one l m) two
 
 pub ruleset blocks = (needs, sb-some, sb-last, sb-most, sb-start, sb-start-fits, sb-part, sb-is, lines-most, line-most)

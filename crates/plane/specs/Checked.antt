@@ -15,6 +15,7 @@ use Rattle.rules.specs.Refusals.{orElse, found}
 use Rattle.rules.specs.Thresholds.{stepsCheck}
 use Rattle.rules.specs.Plane.{Grid, badCell, noRoom, overPlane, planeLengthsOk, edgesOf, runPlane, planeCheck, planeAfter}
 use Rattle.cells.specs.Fit.{Sizes, Long}
+use Rattle.records.specs.Noted.{noted}
 use Rattle.plane.specs.declared.visited.Visited.{Visited}
 
 -- depth, sizes and lengths are good
@@ -42,6 +43,12 @@ pub record Checked (s : Plane) (steps : List ℕ) (g : Grid) (size : ℕ) : Type
 -- what a checked plane's run tells and leaves of the plane l: a and the plane m
 pub record Filtered (s : Plane) (steps : List ℕ) (g : Grid) (l : List ℕ) (a : Visited) (m : List ℕ) : Type 0 where
   pub plane : m ≡ runPlane s steps g l
+  pub visited : a .edges ≡ length (edgesOf s steps g)
+
+-- the same of a run that notes its edges, in the record's buffer b: the buffer c
+pub record Noted (s : Plane) (steps : List ℕ) (g : Grid) (l b : List ℕ) (a : Visited) (m c : List ℕ) : Type 0 where
+  pub plane : m ≡ runPlane s steps g l
+  pub buffer : c ≡ noted 0 (edgesOf s steps g) b
   pub visited : a .edges ≡ length (edgesOf s steps g)
 
 -- all that the entry states: its answer a, and the plane afterwards m, of a plane l

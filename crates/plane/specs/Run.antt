@@ -17,8 +17,9 @@ use Rattle.rules.specs.declared.refusals.Answer.the-variants.{Accepted}
 use Rattle.rules.specs.Thresholds.{stepsCheck}
 use Rattle.thresholds.specs.ByQindex.{ByQindex}
 use Rattle.rules.specs.Segment.{runEdges}
-use Rattle.rules.specs.Plane.{Grid, indexAt, shortenedAt, edgeAt, visitOf, startOf, countOf, lacksDir}
+use Rattle.rules.specs.Plane.{Grid, indexAt, shortenedAt, edgeAt, visitOf, sweepOf, startOf, countOf, lacksDir}
 use Rattle.cells.specs.Fit.{Ready, oneWay}
+use Rattle.records.specs.Noted.{noted}
 use Rattle.plane.specs.declared.part.Part.{Part}
 use Rattle.plane.specs.declared.visited.Visited.{Visited}
 
@@ -46,10 +47,28 @@ pub record IsEdgeAt (s : Plane) (t : List ℕ) (g : Grid) (dir r c : ℕ) (e : E
   pub q-most : e .q ≤ 2048
   pub side-most : e .side ≤ 839
 
--- what a run of a list of edges, by any steps that the table was made of, tells and leaves of the plane p: a and the plane q
-pub record Ran (s : Plane) (t : List ℕ) (edges : List ℕ → List Edge) (p : List ℕ) (a : Visited) (q : List ℕ) : Type 0 where
-  pub is : (steps : List ℕ) → Table s steps t → q ≡ runEdges (topOf (s .depth)) (s .stride) (edges steps) p
-  pub visited : (steps : List ℕ) → a .edges ≡ length (edges steps)
+-- where a run stands: the plane, the record's buffer, and what it has done so far
+pub record State : Type 0 where
+  pub plane : List ℕ
+  pub buffer : List ℕ
+  pub done : Visited
+
+abbrev pub state : List ℕ → List ℕ → Visited → State
+state p b d = record { plane = p; buffer = b; done = d }
+
+abbrev pub none : Visited
+none = record { edges = 0 }
+
+-- a run of a list of edges, by any steps that the table was made of, from x to y: each edge is noted, filtered and counted
+pub record Ran (s : Plane) (t : List ℕ) (edges : List ℕ → List Edge) (x y : State) : Type 0 where
+  pub is : (steps : List ℕ) → Table s steps t → y .plane ≡ runEdges (topOf (s .depth)) (s .stride) (edges steps) (x .plane)
+  pub notes : (steps : List ℕ) → Table s steps t → y .buffer ≡ noted (x .done .edges) (edges steps) (x .buffer)
+  pub visited : (steps : List ℕ) → y .done .edges ≡ x .done .edges + length (edges steps)
+
+-- the same of at most n edges
+pub record RanFew (s : Plane) (t : List ℕ) (n : ℕ) (edges : List ℕ → List Edge) (x y : State) : Type 0 where
+  pub ran : Ran s t edges x y
+  pub few : y .done .edges ≤ x .done .edges + n
 
 -- ---- parts of the cells
 
@@ -66,10 +85,17 @@ pub record InPart (dir : ℕ) (p : Part) (k j : ℕ) : Type 0 where
 unfoldable pub superblockOf : Plane → ℕ → Part
 superblockOf s sb = record { row = 0; rows = s .rows; col = startOf s sb; cols = countOf s sb }
 
--- the k-th line of a part: a row in direction 0, a column in direction 1
+-- the j-th cell of the k-th line of a part: a row in direction 0, a column in direction 1
+abbrev pub inLine : Plane → List ℕ → Grid → ℕ → Part → ℕ → ℕ → List Edge
+inLine s steps g dir p k j = visitOf s steps g dir (p .row + pick (eqb dir 0) k j) (p .col + pick (eqb dir 0) j k)
+
+-- one direction's edges of a part
+abbrev pub inSweep : Plane → List ℕ → Grid → ℕ → Part → List Edge
+inSweep s steps g dir p = sweepOf s steps g dir (p .row) (p .rows) (p .col) (p .cols)
+
+-- the k-th line
 unfoldable pub lineOf : Plane → List ℕ → Grid → ℕ → Part → ℕ → List Edge
-lineOf s steps g dir p k =
-    each (pick (eqb dir 0) (p .cols) (p .rows)) (λ j. visitOf s steps g dir (p .row + pick (eqb dir 0) k j) (p .col + pick (eqb dir 0) j k))
+lineOf s steps g dir p k = each (pick (eqb dir 0) (p .cols) (p .rows)) (λ j. inLine s steps g dir p k j)
 
 -- a direction's own lists and the table, for a plane of so many samples: every edge has room
 pub record Field (s : Plane) (marks sizes qindex t : List ℕ) (size dir : ℕ) : Type 0 where

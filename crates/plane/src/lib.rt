@@ -20,5 +20,6 @@ mod run;
 
 pub use check::plane_check;
 pub use run::deblock_plane;
+pub use run::run_noted;
 pub use run::run_plane;
 pub use visited::Visited;

@@ -8,9 +8,29 @@ use rules::settings::Plane;
 use thresholds::by_qindex::thresholds_by_qindex;
 ghost use lib.ListN.{length};
 ghost use Rattle.rules.specs.Plane.{grid};
-ghost use Rattle.plane.specs.Checked.{Checked, Filtered, Stated};
+ghost use Rattle.plane.specs.Checked.{Checked, Noted, Filtered, Stated};
 
-// Runs every edge of a checked plane; the thresholds of each qindex are made once.
+// Runs every edge of a checked plane, and notes it in the record where that has room; the thresholds of each qindex are made once.
+pub fn run_noted(
+    plane: &mut [u16],
+    buffer: &mut [u8],
+    vedge: &[u8],
+    hedge: &[u8],
+    sqw: &[u8],
+    sqh: &[u8],
+    qindex: &[u16],
+    steps: &[u32],
+    s: Plane,
+) -> Visited
+    requires { ⌜ Checked s (now steps) (grid (now vedge) (now hedge) (now sqw) (now sqh) (now qindex)) (length (now plane)) ⌝ }
+    ensures { λ a. ⌜ Noted s (now (steps .entry)) (grid (now (vedge .entry)) (now (hedge .entry)) (now (sqw .entry)) (now (sqh .entry)) (now (qindex .entry))) (now (plane .entry)) (now (buffer .entry)) a (now (plane .exit)) (now (buffer .exit)) ⌝ }
+{
+    let depth = Depth { bits: s.depth };
+    let table = thresholds_by_qindex(s.deltaq, s.deltaside, depth, steps);
+    run(plane, buffer, vedge, hedge, sqw, sqh, qindex, &table, s)
+}
+
+// Runs every edge of a checked plane: the same run, with no record.
 pub fn run_plane(
     plane: &mut [u16],
     vedge: &[u8],
@@ -24,9 +44,7 @@ pub fn run_plane(
     requires { ⌜ Checked s (now steps) (grid (now vedge) (now hedge) (now sqw) (now sqh) (now qindex)) (length (now plane)) ⌝ }
     ensures { λ a. ⌜ Filtered s (now (steps .entry)) (grid (now (vedge .entry)) (now (hedge .entry)) (now (sqw .entry)) (now (sqh .entry)) (now (qindex .entry))) (now (plane .entry)) a (now (plane .exit)) ⌝ }
 {
-    let depth = Depth { bits: s.depth };
-    let table = thresholds_by_qindex(s.deltaq, s.deltaside, depth, steps);
-    run(plane, vedge, hedge, sqw, sqh, qindex, &table, s)
+    run_noted(plane, &mut [], vedge, hedge, sqw, sqh, qindex, steps, s)
 }
 
 // Deblocks a plane, or refuses it and leaves it as lent.

@@ -9,6 +9,7 @@ pub mod Ramp
 pub mod Segment
 pub mod Lone
 pub mod Plane
+pub mod Record
 pub mod TuGrid
 pub mod QindexGrid
 pub mod Frame

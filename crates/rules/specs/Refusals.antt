@@ -6,7 +6,7 @@ use mathlib.Core.List.{List}
 use lib.ListN.{getD}
 use lib.Dec.{ltb}
 use Rattle.rules.specs.declared.refusals.Refusal.{Refusal}
-use Rattle.rules.specs.declared.refusals.Refusal.the-variants.{Depth, Size, Length, Steps, Setting, Cell, Room, Sample, Leaf}
+use Rattle.rules.specs.declared.refusals.Refusal.the-variants.{Depth, Size, Length, Steps, Setting, Cell, Room, Sample, Leaf, Buffer}
 use Rattle.rules.specs.declared.refusals.Answer.{Answer}
 use Rattle.rules.specs.declared.refusals.Answer.the-variants.{Accepted, Refused}
 use Rattle.rules.specs.declared.refusals.Found.{Found}
@@ -23,6 +23,8 @@ numberOf (Cell k) = 6
 numberOf (Room k) = 7
 numberOf (Sample k) = 8
 numberOf (Leaf k) = 9
+-- ticket 1: "10, room less than 5 + 10 times the marked edges"
+numberOf Buffer = 10
 
 -- the table's last column
 abbrev pub placeOf : Refusal → ℕ
@@ -35,6 +37,8 @@ placeOf (Cell k) = k
 placeOf (Room k) = k
 placeOf (Sample k) = k
 placeOf (Leaf k) = k
+-- "any place that a ticket leaves unnamed, is 0"
+placeOf Buffer = 0
 
 -- ---- checks, one after the other
 

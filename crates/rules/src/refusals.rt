@@ -1,4 +1,4 @@
-// Document 01's refusals as named cases; specs/Refusals.antt gives each its number and place.
+// Document 01's refusals and those of the tickets, as named cases; specs/Refusals.antt gives each its number and place.
 ghost use mathlib.Core.Path.{_≡_};
 ghost use Rattle.rules.specs.Refusals.{numberOf, placeOf};
 
@@ -13,6 +13,7 @@ pub enum Refusal {
     Room(usize),
     Sample(usize),
     Leaf(usize),
+    Buffer,
 }
 
 // What a check, or an entry that gives back nothing but the lent lists, answers.
@@ -24,6 +25,12 @@ pub enum Answer {
 // Both thresholds of an edge, q and side, or why there are none.
 pub enum Thresholds {
     Both(u32, u32),
+    Refused(Refusal),
+}
+
+// How many bytes a recorded plane's record takes, or why there is none.
+pub enum Recorded {
+    Bytes(usize),
     Refused(Refusal),
 }
 
@@ -53,6 +60,7 @@ pub fn number(r: Refusal) -> u32
         Refusal::Room(_) => 7,
         Refusal::Sample(_) => 8,
         Refusal::Leaf(_) => 9,
+        Refusal::Buffer => 10,
     }
 }
 
@@ -70,5 +78,6 @@ pub fn place(r: Refusal) -> usize
         Refusal::Size => 0,
         Refusal::Length => 0,
         Refusal::Setting => 0,
+        Refusal::Buffer => 0,
     }
 }

@@ -1,9 +1,11 @@
-// One plane: what the entry is asked, and what the stream says that it answers.
-ghost use Prim.Native.Nat.{_≤_};
-ghost use lib.ListN.{length};
+// One plane, recorded or not: what the entry is asked, and what the stream says that it answers.
+ghost use Rattle.cases.specs.Lists.{Fills};
 use cases::Cursor;
+use cases::Listed;
 use cases::Told;
 use plane::deblock_plane;
+use recorded::record_plane;
+use rules::refusals::Recorded;
 use rules::settings::Plane;
 use tally::Tally;
 
@@ -56,6 +58,57 @@ fn held(text: &[u8], lent: Cursor, told: Told, plane: &[u16]) -> bool {
     old.same && cases::ended(told.rest)
 }
 
+// Whether plane and buffer are the stream's.
+fn held_both(text: &[u8], lent: Cursor, told: Told, plane: &[u16], buffer: &[u8]) -> bool {
+    if told.number == 0 {
+        let new = cases::hold_u16s(text, told.rest, plane);
+        let noted = cases::hold_u8s(text, new.rest, buffer);
+        return new.same && noted.same && cases::ended(noted.rest);
+    }
+    let n = cases::read_unsigned(text, lent, 4294967295);
+    let old = cases::hold_u16s(text, n.rest, plane);
+    let m = cases::read_unsigned(text, old.rest, 4294967295);
+    let kept = cases::hold_u8s(text, m.rest, buffer);
+    old.same && kept.same && cases::ended(told.rest)
+}
+
+// Whether a recorded plane's answer is the stream's: the length of the record, or the refusal.
+fn same_record(answer: Recorded, told: Told) -> bool {
+    match answer {
+        Recorded::Bytes(n) => told.number == 0 && n == told.place,
+        Recorded::Refused(r) => tally::refused(r, told.number, told.place),
+    }
+}
+
+// The recorded plane's answer, its plane and its buffer, held against the stream's.
+fn compare_recorded(
+    text: &[u8],
+    lent: Cursor,
+    told: Told,
+    s: Plane,
+    vedge: &[u8],
+    hedge: &[u8],
+    sqw: &[u8],
+    sqh: &[u8],
+    qindex: &[u16],
+    plane: &mut [u16],
+    buffer: &mut [u8],
+    steps: &[u32],
+) -> bool {
+    let answer = record_plane(plane, buffer, vedge, hedge, sqw, sqh, qindex, steps, s);
+    same_record(answer, told) && held_both(text, lent, told, plane, buffer)
+}
+
+// The buffer of a recorded plane; a plane that is not recorded has none.
+fn read_buffer(text: &[u8], c: Cursor, recorded: bool, buffer: &mut [u8]) -> Listed
+    ensures { λ r. ⌜ Fills (r .length) (now (buffer .entry)) (now (buffer .exit)) ⌝ }
+{
+    if recorded {
+        return cases::read_u8s(text, c, buffer);
+    }
+    Listed { length: 0, rest: c }
+}
+
 // The entry's answer and its plane, held against the stream's.
 fn compare(
     text: &[u8],
@@ -84,20 +137,41 @@ fn replay_samples(
     sqw: &[u8],
     sqh: &[u8],
     steps: &[u32],
+    recorded: bool,
     t: Tally,
 ) -> Tally {
     let mut qindex = [0u16; 16384];
     let mut plane = [0u16; 131072];
+    let mut buffer = [0u8; 65536];
     let q = cases::read_u16s(text, c, &mut qindex);
     let lent = q.rest;
     let p = cases::read_u16s(text, lent, &mut plane);
-    let told = cases::read_told(text, p.rest);
+    let b = read_buffer(text, p.rest, recorded, &mut buffer);
+    let told = cases::read_told(text, b.rest);
     let rest = told.rest;
     if !rest.good {
         return tally::unread(t);
     }
     let cells = q.length;
     let samples = p.length;
+    let bytes = b.length;
+    if recorded {
+        let same = compare_recorded(
+            text,
+            lent,
+            told,
+            s,
+            vedge,
+            hedge,
+            sqw,
+            sqh,
+            &qindex[..cells],
+            &mut plane[..samples],
+            &mut buffer[..bytes],
+            steps,
+        );
+        return tally::case(t, told.number, same);
+    }
     let same = compare(
         text,
         lent,
@@ -115,7 +189,7 @@ fn replay_samples(
 }
 
 // A line after its kind.
-pub fn replay(text: &[u8], c: Cursor, steps: &[u32], t: Tally) -> Tally {
+pub fn replay(text: &[u8], c: Cursor, steps: &[u32], recorded: bool, t: Tally) -> Tally {
     let mut vedge = [0u8; 16384];
     let mut hedge = [0u8; 16384];
     let mut sqw = [0u8; 16384];
@@ -136,6 +210,7 @@ pub fn replay(text: &[u8], c: Cursor, steps: &[u32], t: Tally) -> Tally {
         &sqw[..w],
         &sqh[..n],
         steps,
+        recorded,
         t,
     )
 }

@@ -1,6 +1,6 @@
-// Replays a stream of planes and prints one line: how many there were, how they came out, and how many differ.
+// Replays a stream of planes and recorded planes, and prints one line: how many there were, how they came out, and how many differ.
 
-// one plane of the stream
+// one plane of the stream, recorded or not
 mod case;
 
 ghost use mathlib.Core.Path.{_≡_};
@@ -19,13 +19,13 @@ fn room() -> [u8; 1048576] {
     [0; 1048576]
 }
 
-// A line of either kind.
+// A line: 1 sets the step table, 2 is a plane, 3 a recorded plane.
 fn replay(text: &[u8], c: Cursor, steps: &mut [u32], before: Run) -> Run
     ensures { λ r. ⌜ length (now (steps .exit)) ≡ length (now (steps .entry)) ⌝ }
 {
     let t = before.tally;
     let n = before.steps;
-    let kind = cases::read_unsigned(text, c, 2);
+    let kind = cases::read_unsigned(text, c, 3);
     let rest = kind.rest;
     if kind.value == 1 {
         let table = cases::set_steps(text, rest, steps);
@@ -34,14 +34,14 @@ fn replay(text: &[u8], c: Cursor, steps: &mut [u32], before: Run) -> Run
             steps: table.length,
         };
     }
-    if kind.value != 2 || steps.len() < n {
+    if kind.value == 0 || steps.len() < n {
         return Run {
             tally: tally::unread(t),
             steps: n,
         };
     }
     Run {
-        tally: case::replay(text, rest, &steps[..n], t),
+        tally: case::replay(text, rest, &steps[..n], kind.value == 3, t),
         steps: n,
     }
 }

@@ -24,15 +24,15 @@ pub line-unread : (t r : Tally) (b : Bool) → b ≡ false → r ≡ unreadMore 
 unfolding noCase
 line-unread t r b e f = pick-no _ _ _ _ (sym e) f
 
-pub number-counted : (t : Tally) (n v : ℕ) → n < 10 → v ≡ nextOf (getD (t .numbers) n 0)
+pub number-counted : (t : Tally) (n v : ℕ) → n < 21 → v ≡ nextOf (getD (t .numbers) n 0)
     → counts (set (t .numbers) n v) (t .widths) (t .different) (t .unread) ≡ numberMore t n
 unfolding numberMore bumped
 number-counted t n v h e =
-    pick-yes _ _ _ _ (is-lt n 10 h) (ap (λ (x : ℕ). counts (set (t .numbers) n x) (t .widths) (t .different) (t .unread)) e)
+    pick-yes _ _ _ _ (is-lt n 21 h) (ap (λ (x : ℕ). counts (set (t .numbers) n x) (t .widths) (t .different) (t .unread)) e)
 
-pub number-unknown : (t r : Tally) (n : ℕ) → 10 ≤ n → r ≡ unreadMore t → r ≡ numberMore t n
+pub number-unknown : (t r : Tally) (n : ℕ) → 21 ≤ n → r ≡ unreadMore t → r ≡ numberMore t n
 unfolding numberMore
-number-unknown t r n h e = pick-no _ _ _ _ (not-lt n 10 h) e
+number-unknown t r n h e = pick-no _ _ _ _ (not-lt n 21 h) e
 
 pub case-same : (t u : Tally) (n : ℕ) (s : Bool) → u ≡ numberMore t n → not s ≡ false → u ≡ caseMore t n s
 unfolding caseMore

@@ -23,7 +23,7 @@ abbrev pub counts : List ℕ → List ℕ → ℕ → ℕ → Tally
 counts numbers widths different unread = record { numbers = numbers; widths = widths; different = different; unread = unread }
 
 unfoldable pub noCounts : Tally
-noCounts = counts (0 ∷ 0 ∷ 0 ∷ 0 ∷ 0 ∷ 0 ∷ 0 ∷ 0 ∷ 0 ∷ 0 ∷ []) (0 ∷ 0 ∷ 0 ∷ 0 ∷ 0 ∷ 0 ∷ 0 ∷ 0 ∷ 0 ∷ []) 0 0
+noCounts = counts (0 ∷ 0 ∷ 0 ∷ 0 ∷ 0 ∷ 0 ∷ 0 ∷ 0 ∷ 0 ∷ 0 ∷ 0 ∷ 0 ∷ 0 ∷ 0 ∷ 0 ∷ 0 ∷ 0 ∷ 0 ∷ 0 ∷ 0 ∷ 0 ∷ []) (0 ∷ 0 ∷ 0 ∷ 0 ∷ 0 ∷ 0 ∷ 0 ∷ 0 ∷ 0 ∷ []) 0 0
 
 unfoldable pub unreadMore : Tally → Tally
 unreadMore t = counts (t .numbers) (t .widths) (t .different) (nextOf (t .unread))
@@ -35,9 +35,9 @@ noCase t read = pick read t (unreadMore t)
 unfoldable pub differentMore : Tally → Tally
 differentMore t = counts (t .numbers) (t .widths) (nextOf (t .different)) (t .unread)
 
--- a number of document 01, or 0; any other is a line that can't be read
+-- a number of document 01 or of a ticket, or 0; any other is a line that can't be read
 unfoldable pub numberMore : Tally → ℕ → Tally
-numberMore t n = pick (ltb n 10) (counts (bumped (t .numbers) n) (t .widths) (t .different) (t .unread)) (unreadMore t)
+numberMore t n = pick (ltb n 21) (counts (bumped (t .numbers) n) (t .widths) (t .different) (t .unread)) (unreadMore t)
 
 unfoldable pub caseMore : Tally → ℕ → Bool → Tally
 caseMore t n same = pick same (numberMore t n) (differentMore (numberMore t n))

@@ -8,7 +8,7 @@ use std::num::wrapping_add_u64;
 
 // Cases by the refusal number that the stream gives them, 0 for none; accepted segments by their width; cases that differ; lines that can't be read.
 pub struct Tally {
-    pub numbers: [u64; 10],
+    pub numbers: [u64; 21],
     pub widths: [u64; 9],
     pub different: u64,
     pub unread: u64,
@@ -18,7 +18,7 @@ pub fn none() -> Tally
     ensures { λ r. ⌜ r ≡ noCounts ⌝ }
 {
     Tally {
-        numbers: [0; 10],
+        numbers: [0; 21],
         widths: [0; 9],
         different: 0,
         unread: 0,
@@ -56,7 +56,7 @@ fn count(before: Tally, number: usize) -> Tally
     ensures { λ r. ⌜ r ≡ numberMore before number ⌝ }
 {
     let mut t = before;
-    if number < 10 {
+    if number < 21 {
         t.numbers[number] = next(t.numbers[number]);
         return t;
     }
@@ -111,17 +111,21 @@ fn part(name: &[u8], value: u64) {
     io::print_decimal(1, value);
 }
 
-fn print_numbers(n: [u64; 10]) {
+// A refusal number and its count: document 01's always, a ticket's where it was given.
+fn print_number(k: usize, n: u64) {
+    if 9 < k && n == 0 {
+        return;
+    }
+    part(b", by ", k as u64);
+    part(b": ", n);
+}
+
+fn print_numbers(n: [u64; 21]) {
     part(b"accepted ", n[0]);
     part(b", refused by 1: ", n[1]);
-    part(b", by 2: ", n[2]);
-    part(b", by 3: ", n[3]);
-    part(b", by 4: ", n[4]);
-    part(b", by 5: ", n[5]);
-    part(b", by 6: ", n[6]);
-    part(b", by 7: ", n[7]);
-    part(b", by 8: ", n[8]);
-    part(b", by 9: ", n[9]);
+    for k in 2..21 {
+        print_number(k, n[k]);
+    }
 }
 
 // How the cases came out, in one line.

@@ -1,4 +1,4 @@
--- `count` answers a count of samples, which fits. Assumes nothing.
+-- `count` answers a count, which fits. Assumes nothing.
 use mathlib.Core.Path.{refl}
 use native.Mathlib.Omega.{arith}
 use lib.IntN.{pos}
@@ -11,7 +11,7 @@ cast-result : tie.Need-cast-result
 cast-result c = search needs
 
 returns : tie.Need-returns
-returns c = held (pos (c .args .w)) (c .args .w) refl (omega arith)
+returns c = held (pos (c .args .k)) (c .args .k) refl (omega arith)
 
 pub count-spec : {M : Type 1} → statement M
 count-spec = tie.close (tie.spec cast-result returns)

@@ -1,5 +1,6 @@
 -- `bihargesh_segment` answers and leaves the window as document 01's C side says. Assumes nothing.
 use mathlib.Core.Path.{sym, _∙_}
+use native.Mathlib.Omega.{arith}
 use borrow.Author.Needs.{needs}
 use borrow.Author.Tests.{not-true, not-false}
 use Rattle.cside.proofs.Windows.{bad-depth, bad-length, width-range, told-width, told-refused}
@@ -46,14 +47,17 @@ count-requires c κs =
     let edged = filtered .before .before in
     let read = edged .before in
     let long = read .before .before in
-    width-range _ _ _ _ _
-    (sym (not-false _ (long .before .if1 .left)) ∙ long .before .before .is .ensures)
-    (long .if2 .left)
-    (read .samples .ensures)
-    (edged .edge .ensures)
-    (filtered .filter-lone .ensures .0)
-    (filtered .filter-lone .ensures .1)
-    (way .w .given .1)
+    omega (
+      arith,
+      width-range _ _ _ _ _
+          (sym (not-false _ (long .before .if1 .left)) ∙ long .before .before .is .ensures)
+          (long .if2 .left)
+          (read .samples .ensures)
+          (edged .edge .ensures)
+          (filtered .filter-lone .ensures .0)
+          (filtered .filter-lone .ensures .1)
+          (way .w .given .1),
+    )
 
 enum-known-r : tie.Need-enum-known-r
 enum-known-r c = search needs

@@ -60,6 +60,12 @@ enum-told-5 c = search needs
 at-requires-6 : tie.Need-at-requires-6
 at-requires-6 c κs = tt
 
+enum-told-6 : tie.Need-enum-told-6
+enum-told-6 c = search needs
+
+at-requires-7 : tie.Need-at-requires-7
+at-requires-7 c κs = tt
+
 returns : tie.Need-returns
 returns c = λ s v. at-sample _ _ _ _ (c .before .before .r .given .1) (c .sample-place .ensures)
 
@@ -87,6 +93,9 @@ returns-8 c = λ s v. of-setting _ _ _ _ (c .before .enum-told4 .given .1) (c .a
 returns-9 : tie.Need-returns-9
 returns-9 c = λ s v. search refusing
 
+returns-10 : tie.Need-returns-10
+returns-10 c = λ s v. search refusing
+
 pub place-of-spec : {M : Type 1} → statement M
 place-of-spec =
     tie.close
@@ -109,6 +118,8 @@ place-of-spec =
     at-requires-5
     enum-told-5
     at-requires-6
+    enum-told-6
+    at-requires-7
     returns
     returns-2
     returns-3
@@ -117,4 +128,5 @@ place-of-spec =
     returns-6
     returns-7
     returns-8
-    returns-9)
+    returns-9
+    returns-10)

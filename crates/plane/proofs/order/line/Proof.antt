@@ -2,42 +2,37 @@
 use native.Mathlib.Omega.{arith}
 use borrow.Author.Needs.{needs}
 use Prim.Native.Nat.{_+_, _-_, _≤_}
-use lib.Dec.{eqb}
 use lib.ListN.{length}
 use mathlib.Core.Path.{_≡_, refl}
-use Rattle.laws.specs.Choose.{pick}
 use Rattle.laws.specs.Loops.{each}
 use Rattle.cells.specs.Fit.{oneWay}
-use Rattle.plane.specs.Run.{Ran}
-use Rattle.rules.specs.Plane.{visitOf}
+use Rattle.plane.specs.Run.{inLine, state, Ran}
 use Rattle.plane.proofs.Runs.{field-same, ran-none, ran-more}
 use Rattle.plane.proofs.Superblocks.{line-most, line-is}
 use Rattle.plane.proofs.order.line.Statement.{statement}
 use Rattle.plane.proofs.order.line.Tie as tie
 
 abbrev Inv-loop : tie.InvT-loop
-Inv-loop plane₀ marks sizes qindex table s dir p k n done₀ j₀ plane done j =
-    (j ≤ n) × Ran s table (λ steps. each j (λ i. visitOf s steps (oneWay marks sizes qindex) dir (p .row + pick (eqb dir 0) k i) (p .col + pick (eqb dir 0) i k))) plane₀ done plane × (length plane ≡ length plane₀) × (done .edges ≤ j)
+Inv-loop plane₀ buffer₀ marks sizes qindex table s dir p k n done₀ j₀ plane buffer done j =
+    (j ≤ n)
+    × Ran s table (λ steps. each j (λ i. inLine s steps (oneWay marks sizes qindex) dir p k i)) (state plane₀ buffer₀ done₀) (state plane buffer done)
+    × (length plane ≡ length plane₀) × (length buffer ≡ length buffer₀) × (done .edges ≤ done₀ .edges + j)
 
 abbrev μ-loop : tie.MeasureT-loop
-μ-loop plane₀ marks sizes qindex table s dir p k n done₀ j₀ plane done j = n - j
+μ-loop plane₀ buffer₀ marks sizes qindex table s dir p k n done₀ j₀ plane buffer done j = n - j
 
 by-dir-requires : tie.Need-by-dir-requires Inv-loop μ-loop
 by-dir-requires c κs = search needs
 
 loop-holds : tie.Need-loop-holds Inv-loop μ-loop
-loop-holds c = (search needs, ran-none _ _ refl, refl, search needs)
+loop-holds c = (search needs, ran-none _ _, refl, refl, search needs)
 
 cell-requires : tie.Need-cell-requires Inv-loop μ-loop
 cell-requires c κs =
-    let given = c .before .before .before .before .before .before .before .before .pre in
-    (field-same (c .before .before .loop .inv .2) (given .0), (given .1), record { two = (given .2); line-in = (given .3); cell-in = omega (arith, (c .before .before .before .by-dir .ensures)) })
-
-plus-requires : tie.Need-plus-requires Inv-loop μ-loop
-plus-requires c κs =
-    let given = c .before .before .before .before .before .before .before .before .before .before .before .pre in
-    let turns = c .before .before .before .before .before .loop in
-    (omega (arith, (turns .inv .3), (turns .inv .0), line-most (c .before .before .before .before .before .before .before .before .before .before .before .args .dir) (given .0 .ready .sizes-ok) (given .1) (c .before .before .before .before .before .before .by-dir .ensures)), omega (arith, (c .before .before .cell .ensures .1)))
+    let given = c .before .before .before .before .before .before .before .before .before .before .pre in
+    let turns = c .before .before .before .loop in
+    let most = line-most (c .before .before .before .before .before .before .before .before .before .before .args .dir) (given .0 .ready .sizes-ok) (given .1) (c .before .before .before .before .by-dir .ensures) in
+    (field-same (turns .inv .2) (given .0), given .1, record { two = given .2; line-in = given .3; cell-in = omega (arith, c .before .before .before .before .by-dir .ensures) }, omega (arith, turns .inv .4, turns .inv .0, given .4))
 
 add-j : tie.Need-add-j Inv-loop μ-loop
 add-j c = search needs
@@ -47,17 +42,21 @@ loop-less c = search needs
 
 loop-again : tie.Need-loop-again Inv-loop μ-loop
 loop-again c =
-    let turns = c .before .before .before .before .before .before .loop in
-    (search needs, ran-more _ _ (turns .inv .1) (c .before .before .before .cell .ensures .0) (c .plus .ensures), search needs, omega (arith, c .plus .ensures, (turns .inv .3), (c .before .before .before .cell .ensures .1)))
+    let turns = c .before .before .before .before .before .before .before .before .loop in
+    (search needs, ran-more _ _ (turns .inv .1) (c .before .before .before .before .cell .ensures .ran), search needs, search needs, omega (arith, turns .inv .4, c .before .before .before .before .cell .ensures .few))
 
 same-length : tie.Need-same-length Inv-loop μ-loop
 same-length c = search needs
 
+same-length-2 : tie.Need-same-length-2 Inv-loop μ-loop
+same-length-2 c = search needs
+
 returns : tie.Need-returns Inv-loop μ-loop
 returns c =
-    let given = c .before .before .before .before .before .before .before .pre in
+    let given = c .before .before .before .before .before .before .before .before .pre in
     let turns = c .before .loop in
-    (line-is _ _ _ _ (turns .inv .1) (c .before .before .by-dir .ensures) (turns .inv .0) (search needs), omega (arith, (turns .inv .3), (turns .inv .0), line-most (c .before .before .before .before .before .before .before .args .dir) (given .0 .ready .sizes-ok) (given .1) (c .before .before .by-dir .ensures)))
+    let most = line-most (c .before .before .before .before .before .before .before .before .args .dir) (given .0 .ready .sizes-ok) (given .1) (c .before .before .by-dir .ensures) in
+    record { ran = line-is _ _ _ _ (turns .inv .1) (c .before .before .by-dir .ensures) (turns .inv .0) (search needs); few = omega (arith, turns .inv .4, turns .inv .0) }
 
 pub line-spec : {M : Type 1} → statement M
 line-spec =
@@ -68,9 +67,9 @@ line-spec =
     by-dir-requires
     loop-holds
     cell-requires
-    plus-requires
     add-j
     loop-less
     loop-again
     same-length
+    same-length-2
     returns)

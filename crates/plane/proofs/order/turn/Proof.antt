@@ -8,44 +8,47 @@ use Rattle.plane.proofs.order.turn.Statement.{statement}
 use Rattle.plane.proofs.order.turn.Tie as tie
 
 superblock-requires : tie.Need-superblock-requires
-superblock-requires c κs = ((c .before .before .before .before .before .before .before .pre .0 .ready .sizes-ok), (c .before .before .before .before .before .before .before .pre .2))
+superblock-requires c κs = (c .before .before .before .before .before .before .before .before .before .pre .0 .ready .sizes-ok, c .before .before .before .before .before .before .before .before .before .pre .2)
 
 sweep-requires : tie.Need-sweep-requires
 sweep-requires c κs =
-    let given = c .before .before .before .before .before .before .before .before .pre in
-    ((given .0), sb-part (given .0 .ready .sizes-ok) _ (c .superblock .ensures) (given .2), omega arith)
+    let given = c .before .before .before .before .before .before .before .before .before .before .pre in
+    (given .0, sb-part (given .0 .ready .sizes-ok) _ (c .superblock .ensures) (given .2), omega arith, omega (arith, given .3))
 
 same-length : tie.Need-same-length
 same-length c = search needs
 
+same-length-2 : tie.Need-same-length-2
+same-length-2 c = search needs
+
 returns : tie.Need-returns
-returns c = (turn-first _ _ (vert-of _ _ _ _ _ _ (c .before .before .before .before .superblock .ensures) (c .before .before .before .sweep .ensures .0)) (c .if1 .taken), omega (arith, (c .before .before .before .sweep .ensures .1)))
+returns c =
+    let vertical = c .before .before .before .before .before .sweep .ensures in
+    record { ran = turn-first _ _ (vert-of _ _ _ _ _ _ (c .before .before .before .before .before .before .superblock .ensures) (vertical .ran)) (c .if1 .taken); few = omega (arith, vertical .few) }
 
 sub-superblock : tie.Need-sub-superblock
 sub-superblock c = search needs
 
 superblock-requires-2 : tie.Need-superblock-requires-2
-superblock-requires-2 c κs = ((c .before .before .before .before .before .before .before .before .before .before .before .before .before .pre .0 .ready .sizes-ok), omega (arith, (c .before .before .before .before .before .before .before .before .before .before .before .before .before .pre .2)))
+superblock-requires-2 c κs = (c .before .before .before .before .before .before .before .before .before .before .before .before .before .before .before .before .before .before .pre .0 .ready .sizes-ok, omega (arith, c .before .before .before .before .before .before .before .before .before .before .before .before .before .before .before .before .before .before .pre .2))
 
 sweep-requires-2 : tie.Need-sweep-requires-2
 sweep-requires-2 c κs =
-    let given = c .before .before .before .before .before .before .before .before .before .before .before .before .before .before .pre in
-    (field-same (search needs) (given .1), sb-part (given .0 .ready .sizes-ok) _ (c .superblock2 .ensures) (omega (arith, (given .2))), omega arith)
+    let given = c .before .before .before .before .before .before .before .before .before .before .before .before .before .before .before .before .before .before .before .pre in
+    (field-same (search needs) (given .1), sb-part (given .0 .ready .sizes-ok) _ (c .superblock2 .ensures) (omega (arith, given .2)), omega arith, omega (arith, c .before .before .before .before .before .before .before .before .sweep .ensures .few, given .3))
 
-plus-requires : tie.Need-plus-requires
-plus-requires c κs = (omega (arith, (c .before .before .before .before .before .before .before .before .sweep .ensures .1)), omega (arith, (c .before .before .sweep2 .ensures .1)))
+same-length-3 : tie.Need-same-length-3
+same-length-3 c = search needs
 
-same-length-2 : tie.Need-same-length-2
-same-length-2 c = search needs
+same-length-4 : tie.Need-same-length-4
+same-length-4 c = search needs
 
 returns-2 : tie.Need-returns-2
 returns-2 c =
-    let vertical = c .before .before .before .before .before .before .before .before .before .sweep .ensures in
-    let horizontal = c .before .before .before .sweep2 .ensures in (
-      turn-later _ _ (vert-of _ _ _ _ _ _ (c .before .before .before .before .before .before .before .before .before .before .superblock .ensures) (vertical .0)) (c .before .before .before .before .before .before .if1 .left)
-          (horz-of _ _ _ _ _ _ (c .before .before .before .before .superblock2 .ensures) (horizontal .0)) refl (c .plus .ensures),
-      omega (arith, c .plus .ensures, (vertical .1), (horizontal .1)),
-    )
+    let vertical = c .before .before .before .before .before .before .before .before .before .before .before .before .before .sweep .ensures in
+    let horizontal = c .before .before .before .before .sweep2 .ensures in
+    let first = vert-of _ _ _ _ _ _ (c .before .before .before .before .before .before .before .before .before .before .before .before .before .before .superblock .ensures) (vertical .ran) in
+    record { ran = turn-later _ _ first (c .before .before .before .before .before .before .before .before .if1 .left) (horz-of _ _ _ _ _ _ (c .before .before .before .before .before .superblock2 .ensures) (horizontal .ran)) refl; few = omega (arith, vertical .few, horizontal .few) }
 
 pub turn-spec : {M : Type 1} → statement M
 turn-spec =
@@ -54,10 +57,11 @@ turn-spec =
     superblock-requires
     sweep-requires
     same-length
+    same-length-2
     returns
     sub-superblock
     superblock-requires-2
     sweep-requires-2
-    plus-requires
-    same-length-2
+    same-length-3
+    same-length-4
     returns-2)

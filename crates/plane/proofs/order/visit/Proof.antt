@@ -3,8 +3,7 @@ use mathlib.Core.Path.{refl}
 use native.Mathlib.Omega.{arith}
 use Rattle.cells.proofs.Accepted.{rows-fit}
 use Rattle.plane.proofs.Runs.{visit-none, visit-edge}
-use Rattle.plane.proofs.Edges.{asked}
-use Rattle.plane.proofs.Edges.{edges}
+use Rattle.plane.proofs.Edges.{asked, in-plane, in-bytes}
 use Rattle.plane.proofs.Runs.{visits}
 use Rattle.plane.proofs.order.visit.Statement.{statement}
 use Rattle.plane.proofs.order.visit.Tie as tie
@@ -13,33 +12,48 @@ is-edge-requires : tie.Need-is-edge-requires
 is-edge-requires c κs = search visits
 
 returns : tie.Need-returns
-returns c = (visit-none _ _ _ _ _ _ _ (c .before .is-edge .ensures) (c .if1 .taken) refl _, search visits)
+returns c = record { ran = visit-none _ _ _ _ _ _ _ (c .before .is-edge .ensures) (c .if1 .taken) _; few = omega arith }
 
 shortened-at-requires : tie.Need-shortened-at-requires
-shortened-at-requires c κs = c .before .before .before .before .before .before .pre .0 .ready .sizes-ok
+shortened-at-requires c κs = c .before .before .before .before .before .before .before .pre .0 .ready .sizes-ok
 
 edge-at-requires : tie.Need-edge-at-requires
 edge-at-requires c κs = search asked
 
+note-requires : tie.Need-note-requires
+note-requires c κs =
+    let given = c .before .before .before .before .before .before .before .before .before .before .pre in
+    (in-bytes (given .0 .ready .sizes-ok) (given .1) (given .2) (c .before .edge-at .ensures), given .3)
+
 mul-filter-edge : tie.Need-mul-filter-edge
-mul-filter-edge c = record { fits = omega (arith, c .before .before .before .before .before .before .before .before .before .before .pre .0 .ready .sizes-ok .cols-most) }
+mul-filter-edge c = record { fits = omega (arith, c .before .before .before .before .before .before .before .before .before .before .before .before .before .before .before .pre .0 .ready .sizes-ok .cols-most) }
 
 mul-filter-edge-2 : tie.Need-mul-filter-edge-2
-mul-filter-edge-2 c = rows-fit (c .before .before .before .before .before .before .before .before .before .before .before .pre .0 .ready .sizes-ok)
+mul-filter-edge-2 c = rows-fit (c .before .before .before .before .before .before .before .before .before .before .before .before .before .before .before .before .pre .0 .ready .sizes-ok)
 
 top-requires : tie.Need-top-requires
-top-requires c κs = c .before .before .before .before .before .before .before .before .before .before .before .pre .0 .depth
+top-requires c κs = c .before .before .before .before .before .before .before .before .before .before .before .before .before .before .before .before .pre .0 .depth
 
 filter-edge-requires : tie.Need-filter-edge-requires
-filter-edge-requires c κs = search edges
+filter-edge-requires c κs =
+    let given = c .before .before .before .before .before .before .before .before .before .before .before .before .before .before .before .before .before .pre in
+    in-plane _ _ _ _ _ _ (given .0) (given .1) (c .before .before .before .before .before .before .before .before .edge-at .ensures) (c .before .before .before .before .before .before .before .before .before .before .before .is-edge .ensures) (c .before .before .before .before .before .before .before .before .before .before .if1 .left)
+
+add-t23 : tie.Need-add-t23
+add-t23 c = record { fits = omega (arith, c .before .before .before .before .before .before .before .before .before .before .before .before .before .before .before .before .before .before .before .before .before .pre .3) }
 
 same-length : tie.Need-same-length
 same-length c = search visits
 
+same-length-2 : tie.Need-same-length-2
+same-length-2 c = search visits
+
 returns-2 : tie.Need-returns-2
 returns-2 c =
-    let asked-of = c .before .before .before .before .before .before .before .before .before .before .is-edge .ensures in
-    (visit-edge _ _ _ _ _ _ _ asked-of (c .before .before .before .before .before .before .before .before .before .if1 .left) (c .before .before .before .before .before .before .before .edge-at .ensures) (c .before .before .before .top .ensures) (c .before .before .filter-edge .ensures) refl, search visits)
+    let asked-of = c .before .before .before .before .before .before .before .before .before .before .before .before .before .before .before .is-edge .ensures in
+    let is = c .before .before .before .before .before .before .before .before .before .before .before .before .edge-at .ensures in
+    let wrote = c .before .before .before .before .before .before .before .before .before .before .note .ensures in
+    record { ran = visit-edge _ _ _ _ _ _ _ asked-of (c .before .before .before .before .before .before .before .before .before .before .before .before .before .before .if1 .left) is (c .before .before .before .before .top .ensures) wrote (c .before .before .before .filter-edge .ensures) refl; few = omega arith }
 
 pub visit-spec : {M : Type 1} → statement M
 visit-spec =
@@ -49,9 +63,12 @@ visit-spec =
     returns
     shortened-at-requires
     edge-at-requires
+    note-requires
     mul-filter-edge
     mul-filter-edge-2
     top-requires
     filter-edge-requires
+    add-t23
     same-length
+    same-length-2
     returns-2)

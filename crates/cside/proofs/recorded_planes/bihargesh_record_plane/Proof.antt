@@ -1,0 +1,34 @@
+-- `bihargesh_record_plane` answers by a recorded plane's rules. Assumes nothing.
+use Rattle.entries.proofs.Recorded.{record-told}
+use borrow.Author.Needs.{needs}
+use Rattle.cside.proofs.recorded_planes.bihargesh_record_plane.Statement.{statement}
+use Rattle.cside.proofs.recorded_planes.bihargesh_record_plane.Tie as tie
+
+write-record-requires : tie.Need-write-record-requires
+write-record-requires c κs = search needs
+
+told-bytes-requires : tie.Need-told-bytes-requires
+told-bytes-requires c κs = search needs
+
+same-length : tie.Need-same-length
+same-length c = search needs
+
+same-length-2 : tie.Need-same-length-2
+same-length-2 c = search needs
+
+same-length-3 : tie.Need-same-length-3
+same-length-3 c = search needs
+
+returns : tie.Need-returns
+returns c = record-told (c .before .before .before .before .before .before .before .before .write-record .ensures) (c .before .before .told-bytes .ensures)
+
+pub bihargesh-record-plane-spec : {M : Type 1} → statement M
+bihargesh-record-plane-spec =
+    tie.close
+    (tie.spec
+    write-record-requires
+    told-bytes-requires
+    same-length
+    same-length-2
+    same-length-3
+    returns)

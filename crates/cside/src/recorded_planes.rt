@@ -1,0 +1,35 @@
+// A plane whose edges are recorded, for C: the record's bytes as the answer, or a refusal's number with its place.
+use answers::told_bytes;
+use entries::recorded_planes::write_record;
+ghost use Rattle.rules.specs.Plane.{grid};
+ghost use Rattle.entries.specs.Planes.{RecordTold};
+
+// How many bytes the record takes, or minus the refusal number with its place in the first entry of `place`.
+#[no_mangle]
+pub extern "C" fn bihargesh_record_plane(
+    plane: &mut [u16],
+    buffer: &mut [u8],
+    vedge: &[u8],
+    hedge: &[u8],
+    sqw: &[u8],
+    sqh: &[u8],
+    qindex: &[u16],
+    steps: &[u32],
+    settings: &[i32],
+    place: &mut [usize],
+) -> i32
+    ensures { λ r. ⌜ RecordTold (now (settings .entry)) (now (steps .entry)) (grid (now (vedge .entry)) (now (hedge .entry)) (now (sqw .entry)) (now (sqh .entry)) (now (qindex .entry))) (now (plane .entry)) (now (buffer .entry)) (now (place .entry)) r (now (plane .exit)) (now (buffer .exit)) (now (place .exit)) ⌝ }
+{
+    let a = write_record(
+        plane,
+        buffer,
+        vedge,
+        hedge,
+        sqw,
+        sqh,
+        qindex,
+        steps,
+        settings,
+    );
+    told_bytes(a, place)
+}

@@ -1,0 +1,30 @@
+// A plane whose edges are recorded, by its settings as a list of numbers.
+use crate::planes::list_check;
+use numbers::plane_of;
+use recorded::record_plane;
+use rules::refusals::Answer;
+use rules::refusals::Recorded;
+ghost use Rattle.rules.specs.Plane.{grid};
+ghost use Rattle.entries.specs.Planes.{RecordHanded};
+
+// Deblocks a plane and writes the record of its edges, or refuses and leaves both as lent.
+pub fn write_record(
+    plane: &mut [u16],
+    buffer: &mut [u8],
+    vedge: &[u8],
+    hedge: &[u8],
+    sqw: &[u8],
+    sqh: &[u8],
+    qindex: &[u16],
+    steps: &[u32],
+    settings: &[i32],
+) -> Recorded
+    ensures { λ a. ⌜ RecordHanded (now (settings .entry)) (now (steps .entry)) (grid (now (vedge .entry)) (now (hedge .entry)) (now (sqw .entry)) (now (sqh .entry)) (now (qindex .entry))) (now (plane .entry)) (now (buffer .entry)) a (now (plane .exit)) (now (buffer .exit)) ⌝ }
+{
+    let a = list_check(settings);
+    if let Answer::Refused(r) = a {
+        return Recorded::Refused(r);
+    }
+    let s = plane_of(settings);
+    record_plane(plane, buffer, vedge, hedge, sqw, sqh, qindex, steps, s)
+}

@@ -1,0 +1,137 @@
+-- What `record_plane` promises where it answers so many bytes: they are the header and an entry for each marked edge, once, in document 01's order;
+-- the bytes after them stay, and the plane is that of the run without a record. And that a refusal leaves both as lent, and that there is one result.
+-- Assumes nothing.
+use mathlib.Core.Path.{_≡_, refl, sym, ap, _∙_}
+use mathlib.Core.List.{List}
+use Prim.Native.Nat.{ℕ, _+_, _*_}
+use native.Mathlib.Omega.{arith}
+use lib.ListN.{length, take, drop}
+use lib.Seq.{take-at, drop-at}
+use Rattle.laws.specs.Lists.{Each, each-both}
+use Rattle.laws.specs.Reorder.{count}
+use Rattle.rules.specs.declared.edge.Edge.{Edge}
+use Rattle.rules.specs.declared.settings.Plane.{Plane}
+use Rattle.rules.specs.declared.refusals.Refusal.{Refusal}
+use Rattle.rules.specs.declared.refusals.Answer.{Answer}
+use Rattle.rules.specs.declared.refusals.Answer.the-variants.{Accepted, Refused}
+use Rattle.rules.specs.declared.refusals.Recorded.{Recorded}
+use Rattle.rules.specs.declared.refusals.Recorded.the-variants.{Bytes, Refused as «NoRecord»}
+use Rattle.rules.specs.Refusals.{settle}
+use Rattle.rules.specs.Plane.{Grid, edgeAt, edgesOf, runPlane, planeCheck, planeAfter}
+use Rattle.rules.specs.Record.{recordOf, bufferAfter, edgesIn, edgeCount, recordedCheck, answerBytes, recordedAnswer, recordedPlane, recordedBuffer}
+use Rattle.segment.specs.Fit.{InPlane}
+use Rattle.records.specs.Fit.{InBytes}
+use Rattle.records.proofs.RoundTrip.{record-length, read-record}
+use Rattle.plane.specs.Checked.{Stated as «PlaneStated»}
+use Rattle.plane.proofs.Everywhere.{every-edge}
+use Rattle.orders.specs.Walks.{sameEdge}
+use Rattle.orders.proofs.Once.{Marked, only-marked, marked-once, other-never, edges-length}
+use Rattle.recorded.specs.Stated.{Stated}
+use Rattle.recorded.proofs.Recording.{Passed, passed}
+
+-- ---- what an answer says of the checks
+
+bytes-accepted : (a : Answer) (k : ℕ) {n : ℕ} → Bytes n ≡ answerBytes a k → (a ≡ Accepted) × (n ≡ k)
+unfolding answerBytes
+bytes-accepted Accepted k e = (refl, (cc))
+bytes-accepted (Refused r) k e = absurd (let z : _≡_ {A = ℕ} 0 1 = cc in omega arith)
+
+refused-refused : (a : Answer) (k : ℕ) {r : Refusal} → «NoRecord» r ≡ answerBytes a k → a ≡ Refused r
+unfolding answerBytes
+refused-refused Accepted k e = absurd (let z : _≡_ {A = ℕ} 0 1 = cc in omega arith)
+refused-refused (Refused q) k e = cc
+
+-- ---- the numbers of every edge fit an entry's bytes
+
+module _ (s : Plane) (steps : List ℕ) (g : Grid) (l : List ℕ) (n : ℕ) (ok : Passed s steps g l n) where
+  abbrev Inside : Edge → Type 0
+  Inside e = InPlane (s .stride) (4 * s .cols) (4 * s .rows) e (length l)
+
+  in-bytes : (e : Edge) → Marked s steps g e → Inside e → InBytes e
+  unfolding edgeAt
+  in-bytes e m k =
+      let z = ok .checks .sizes-ok in
+      record {
+        x-fits = omega (arith, ap (λ (f : Edge). f .x) (m .is), m .cell .in-cols, z .cols-most);
+        y-fits = omega (arith, ap (λ (f : Edge). f .y) (m .is), m .cell .in-rows, z .rows-most);
+        dir-fits = omega (arith, ap (λ (f : Edge). f .dir) (m .is), m .two);
+        pair-fits = omega (arith, k .pair-is);
+        q-fits = omega (arith, k .q-most);
+        side-fits = omega (arith, k .side-most);
+      }
+
+  edges-in-bytes : Each InBytes (edgesOf s steps g)
+  edges-in-bytes =
+      each-both (Marked s steps g) Inside InBytes in-bytes (edgesOf s steps g)
+      (only-marked s steps g (ok .checks .sizes-ok)) (every-edge s steps g l (ok .plane))
+
+-- ---- where the answer is a number of bytes
+
+module _ (s : Plane) (steps : List ℕ) (g : Grid) (l b : List ℕ) {n : ℕ} {m c : List ℕ} (done : Stated s steps g l b (Bytes n) m c) where
+  accepted : (recordedCheck s steps g l (length b) ≡ Accepted) × (n ≡ length (recordOf (edgesOf s steps g)))
+  unfolding recordedAnswer
+  accepted = bytes-accepted (recordedCheck s steps g l (length b)) _ (done .answer)
+
+  ok : Passed s steps g l (length b)
+  ok = passed s steps g l (length b) (accepted .0)
+
+  -- "5 + 10 times the marked edges (column 0 and row 0 left out)"
+  pub record-long : n ≡ 5 + 10 * edgeCount s g
+  record-long = omega (arith, accepted .1, record-length (edgesOf s steps g), edges-length s steps g (ok .checks .sizes-ok))
+
+  plane-ran : m ≡ runPlane s steps g l
+  unfolding recordedPlane settle
+  plane-ran = done .plane ∙ ap (λ (a : Answer). settle a l (runPlane s steps g l)) (accepted .0)
+
+  -- "the plane ends as without it": the run without a record is accepted too, and leaves the same plane
+  pub plane-as-without : {a : Answer} {p : List ℕ} → «PlaneStated» s steps g l a p → (a ≡ Accepted) × (m ≡ p)
+  unfolding planeAfter settle
+  plane-as-without {p = p} alone =
+      let same : p ≡ runPlane s steps g l = alone .plane ∙ ap (λ (a : Answer). settle a l (runPlane s steps g l)) (ok .plane) in
+      (alone .answer ∙ ok .plane, plane-ran ∙ sym same)
+
+  buffer-is : c ≡ bufferAfter (edgesOf s steps g) b
+  unfolding recordedBuffer settle
+  buffer-is = done .buffer ∙ ap (λ (a : Answer). settle a b (bufferAfter (edgesOf s steps g) b)) (accepted .0)
+
+  -- the bytes answered are the header and the entries of document 01's edges, in their order
+  pub record-is : take n c ≡ recordOf (edgesOf s steps g)
+  unfolding bufferAfter
+  record-is = ap (take n) buffer-is ∙ take-at (recordOf (edgesOf s steps g)) _ n (sym (accepted .1))
+
+  -- "Bytes of the buffer after the record stay."
+  pub rest-stays : drop n c ≡ drop n b
+  unfolding bufferAfter
+  rest-stays = ap (drop n) buffer-is ∙ drop-at (recordOf (edgesOf s steps g)) _ n (sym (accepted .1)) ∙ ap (λ (k : ℕ). drop k b) (sym (accepted .1))
+
+  -- read again, they are those edges: "Edges of width 0 are included", since no sample decides what is listed
+  pub record-edges : edgesIn (take n c) ≡ edgesOf s steps g
+  record-edges = ap edgesIn record-is ∙ read-record (edgesOf s steps g) (edges-in-bytes s steps g l (length b) ok)
+
+  -- "The record lists each marked edge once and no others"
+  pub listed-once : (e : Edge) → Marked s steps g e → count sameEdge e (edgesIn (take n c)) ≡ 1
+  listed-once e k = ap (count sameEdge e) record-edges ∙ marked-once s steps g (ok .checks .sizes-ok) e k
+
+  pub others-not-listed : (e : Edge) → (Marked s steps g e → ⊥) → count sameEdge e (edgesIn (take n c)) ≡ 0
+  others-not-listed e k = ap (count sameEdge e) record-edges ∙ other-never s steps g (ok .checks .sizes-ok) e k
+
+-- what a record says does not depend on a sample
+pub record-by-grid : (s : Plane) (steps : List ℕ) (g : Grid) (l k b d : List ℕ) {n i : ℕ} {m o c e : List ℕ}
+    → Stated s steps g l b (Bytes n) m c → Stated s steps g k d (Bytes i) o e → take n c ≡ take i e
+record-by-grid s steps g l k b d x y = record-is s steps g l b x ∙ sym (record-is s steps g k d y)
+
+-- ---- "the plane and buffer stay unchanged"
+
+pub refused-as-lent : (s : Plane) (steps : List ℕ) (g : Grid) (l b : List ℕ) {r : Refusal} {m c : List ℕ} → Stated s steps g l b («NoRecord» r) m c → (m ≡ l) × (c ≡ b)
+unfolding recordedAnswer recordedPlane recordedBuffer settle
+refused-as-lent s steps g l b done =
+    let no = refused-refused (recordedCheck s steps g l (length b)) _ (done .answer) in (
+      done .plane ∙ ap (λ (a : Answer). settle a l (runPlane s steps g l)) no,
+      done .buffer ∙ ap (λ (a : Answer). settle a b (bufferAfter (edgesOf s steps g) b)) no,
+    )
+
+-- ---- the statement leaves one result
+
+pub one-result : {s : Plane} {steps : List ℕ} {g : Grid} {l b : List ℕ} {a a' : Recorded} {m m' c c' : List ℕ}
+    → Stated s steps g l b a m c → Stated s steps g l b a' m' c' → (a ≡ a') × (m ≡ m') × (c ≡ c')
+one-result x y = (x .answer ∙ sym (y .answer), x .plane ∙ sym (y .plane), x .buffer ∙ sym (y .buffer))

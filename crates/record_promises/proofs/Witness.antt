@@ -1,0 +1,61 @@
+-- A plane whose record is computed from the rules: two cells, 100 | 108, with a marked vertical edge between them. Its record takes 15 bytes.
+-- Assumes nothing.
+use mathlib.Core.Path.{_≡_, refl, sym, ap, _∙_}
+use mathlib.Core.List.{List, [], _∷_}
+use Prim.Native.Nat.{ℕ}
+use Rattle.laws.specs.Choose.{pick, both}
+use Rattle.laws.specs.Loops.{each}
+use Rattle.laws.specs.Sums.{sum}
+use Rattle.low_first.specs.Bytes.{lowFirst}
+use Rattle.rules.specs.declared.edge.Edge.{Edge}
+use Rattle.rules.specs.declared.refusals.Refusal.the-variants.{Buffer}
+use Rattle.rules.specs.declared.refusals.Answer.{Answer}
+use Rattle.rules.specs.declared.refusals.Answer.the-variants.{Accepted, Refused}
+use Rattle.rules.specs.declared.refusals.Recorded.the-variants.{Bytes, Refused as «NoRecord»}
+use Rattle.rules.specs.Numbers.{highestOf, offsetOf, shiftOf}
+use Rattle.rules.specs.Refusals.{orElse, unless, settle}
+use Rattle.rules.specs.Thresholds.{indexOf, stepOf, quantOf, lowered, sideOf, bothOf, qThreshold, sideThreshold}
+use Rattle.rules.specs.Lengths.{pairOf}
+use Rattle.rules.specs.Plane.{cellOf, cellBefore, marksOf, indicesOf, cappedOf, indexAt, shortenedAt, edgeAt, isEdge, visitOf, startOf, countOf, sbCols, sweepOf, columnOf, turnOf, edgesOf, runPlane, planeCheck, planeAfter}
+use Rattle.rules.specs.Record.{entryOf, entriesOf, recordOf, bufferAfter, edgeCount, recordedCheck, answerBytes, recordedAnswer, recordedPlane, recordedBuffer}
+use Rattle.promises.proofs.Witness.{settings, steps, cells, four, samples, accepted, witness}
+use Rattle.recorded.specs.Stated.{Stated}
+
+-- a buffer with room for the record and two bytes more, and one with a byte less than the record
+abbrev pub roomy : List ℕ
+roomy = 7 ∷ 7 ∷ 7 ∷ 7 ∷ 7 ∷ 7 ∷ 7 ∷ 7 ∷ 7 ∷ 7 ∷ 7 ∷ 7 ∷ 7 ∷ 7 ∷ 7 ∷ 7 ∷ 7 ∷ []
+
+abbrev pub short : List ℕ
+short = 7 ∷ 7 ∷ 7 ∷ 7 ∷ 7 ∷ 7 ∷ 7 ∷ 7 ∷ 7 ∷ 7 ∷ 7 ∷ 7 ∷ 7 ∷ 7 ∷ []
+
+edges : edgesOf settings steps cells ≡ record { x = 4; y = 0; dir = 0; pair = 1; q = 16; side = 23 } ∷ []
+unfolding each pick both highestOf offsetOf shiftOf indexOf stepOf quantOf lowered sideOf bothOf qThreshold sideThreshold pairOf cellOf cellBefore marksOf indicesOf cappedOf indexAt shortenedAt isEdge edgeAt visitOf startOf countOf sbCols sweepOf columnOf turnOf edgesOf
+edges = refl
+
+marked : edgeCount settings cells ≡ 1
+unfolding sum pick both cellOf marksOf isEdge edgeCount
+marked = refl
+
+-- the plane afterwards, as without a record
+left : four (100 ∷ 101 ∷ 102 ∷ 103 ∷ 105 ∷ 106 ∷ 107 ∷ 108 ∷ []) ≡ runPlane settings steps cells samples
+unfolding planeAfter settle
+left = witness .plane ∙ ap (λ (a : Answer). settle a samples (runPlane settings steps cells samples)) accepted
+
+given-room : recordedCheck settings steps cells samples 17 ≡ Accepted
+unfolding recordedCheck orElse unless
+given-room = rw (accepted, marked)
+
+lacks-room : recordedCheck settings steps cells samples 14 ≡ Refused Buffer
+unfolding recordedCheck orElse unless
+lacks-room = rw (accepted, marked)
+
+-- what `record_plane` must answer and leave: EDG, 1, and the edge at 4,0 of direction 0 with pair 1, q 16 and side 23
+pub recorded : Stated settings steps cells samples roomy (Bytes 15) (four (100 ∷ 101 ∷ 102 ∷ 103 ∷ 105 ∷ 106 ∷ 107 ∷ 108 ∷ []))
+    (69 ∷ 68 ∷ 71 ∷ 1 ∷ 0 ∷ 4 ∷ 0 ∷ 0 ∷ 0 ∷ 0 ∷ 1 ∷ 16 ∷ 0 ∷ 23 ∷ 0 ∷ 7 ∷ 7 ∷ [])
+unfolding recordedAnswer answerBytes recordedPlane recordedBuffer settle bufferAfter recordOf entriesOf entryOf lowFirst
+recorded = record { answer = rw (given-room, edges); plane = rw given-room left; buffer = rw (given-room, edges) }
+
+-- a byte too few: 10, and both lists as lent
+pub refused : Stated settings steps cells samples short («NoRecord» Buffer) samples short
+unfolding recordedAnswer answerBytes recordedPlane recordedBuffer settle
+refused = record { answer = rw lacks-room; plane = rw lacks-room; buffer = rw lacks-room }
