@@ -1,0 +1,9 @@
+// Ticket 2: a record read, checked, and its edges run in order on a plane. The rules stand in rules' Record and Replay.
+
+// The checks on the record.
+mod check;
+
+// The entry.
+mod run;
+
+pub use run::replay_plane;
