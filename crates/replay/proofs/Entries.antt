@@ -1,27 +1,29 @@
 -- The entries of a record: where each lies, what a check that passed says of each, and the run of them one after the other.
 -- Assumes nothing.
-use mathlib.Core.Path.{_≡_, refl, sym, ap, _∙_}
+use mathlib.Core.Path.{_≡_, sym, ap, _∙_}
 use mathlib.Core.Bool.{Bool, true, false, not}
 use mathlib.Core.List.{List, [], _∷_}
-use Prim.Native.Nat.{ℕ, _+_, _*_, _-_, _≤_, _<_}
+use Prim.Native.Nat.{ℕ, _+_, _*_, _-_, _%_, _≤_, _<_}
 use native.Mathlib.Nat.{mul-le-mul}
 use native.Mathlib.Omega.{arith}
 use borrow.Author.Tests.{leb-true}
 use lib.ListN.{length}
-use Rattle.laws.specs.Choose.{all-parts, told-yes-not, told-no-not}
+use Rattle.laws.specs.Choose.{all-parts, is-eq, not-eq, told-yes-not, told-no-not}
 use Rattle.laws.specs.Loops.{each}
 use Rattle.laws.specs.Trace.{run-none, run-more, run-end}
 use Rattle.rules.specs.declared.edge.Edge.{Edge}
 use Rattle.rules.specs.declared.settings.Replay.{Replay}
 use Rattle.rules.specs.declared.refusals.Found.{Found}
 use Rattle.rules.specs.declared.refusals.Found.the-variants.{At, Nothing}
-use Rattle.rules.specs.Numbers.{topOf, inRange}
+use Rattle.rules.specs.Numbers.{topOf}
 use Rattle.rules.specs.Refusals.{first, foundUnless}
-use Rattle.rules.specs.Segment.{hasRoom, segmentOf, runEdges}
+use Rattle.rules.specs.Segment.{rangesOk, hasRoom, segmentOf, runEdges}
 use Rattle.rules.specs.Record.{edgeIn, entryAt, entryCount, edgesIn}
-use Rattle.rules.specs.Replay.{replaySizesOk, entryOk, badEntry, noRoomIn, replayOf}
+use Rattle.rules.specs.Replay.{replaySizesOk, headerOk, cutEntry, firstEntry, replayOf}
 use Rattle.scan.proofs.First.{first-more, first-found, first-end, found-unless, found-unless-not, nothing-all, unless-nothing}
 use Rattle.scan.proofs.Ranges.{in-range}
+use Rattle.lengths.proofs.Inside.{Ranges, ranges-are}
+use Rattle.segment.specs.declared.outcome.Outcome.{Outcome}
 use Rattle.segment.specs.Fit.{InPlane, EdgeFiltered}
 use Rattle.replay.specs.Fit.{Sized, Ranged, Runnable}
 
@@ -44,6 +46,19 @@ sized-of s h =
     let z = in-range (4 * s .cols) 8192 (s .stride) (r .0) in
     record { cols-most = x .1; rows-most = y .1; row = z .0; stride-most = z .1 }
 
+pub header-there : (bytes : List ℕ) → true ≡ headerOk bytes → 5 ≤ length bytes
+unfolding headerOk
+header-there bytes h = leb-true 5 (length bytes) (all-parts _ _ (sym h) .0)
+
+-- the bytes after the header are whole entries, or not
+pub cut-at : (bytes : List ℕ) (n : ℕ) → n ≡ entryCount bytes → ((length bytes - 5) % 10 ≡ 0 → ⊥) → At n ≡ cutEntry bytes
+unfolding cutEntry
+cut-at bytes n e h = ap At e ∙ found-unless _ _ (not-eq _ _ h)
+
+pub cut-none : (bytes : List ℕ) → (length bytes - 5) % 10 ≡ 0 → Nothing ≡ cutEntry bytes
+unfolding cutEntry
+cut-none bytes h = found-unless-not _ _ (is-eq _ _ h)
+
 -- the samples of a plane are few
 pub samples-most : {s : Replay} → Sized s → 4 * s .rows * s .stride ≤ 33554432
 samples-most {s} z =
@@ -51,36 +66,28 @@ samples-most {s} z =
     mul-le-mul (let e : 4 * s .rows ≤ 4096 = omega arith in e) (z .stride-most)
 
 module _ (bytes : List ℕ) (k : ℕ) (h : k < entryCount bytes) {e : Edge} (is : e ≡ edgeIn bytes (entryAt k)) where
-  pub entry-good : badEntry bytes ≡ Nothing → entryOk e ≡ true
-  unfolding badEntry
-  entry-good n = rw is (unless-nothing _ k (nothing-all _ _ n k h))
+  -- an entry that passed a test of every entry
+  pub entry-good : (good : Edge → Bool) → firstEntry good bytes ≡ Nothing → good e ≡ true
+  unfolding firstEntry
+  entry-good good n = rw is (unless-nothing _ k (nothing-all _ _ n k h))
 
-  pub entry-room : (s : Replay) → noRoomIn s bytes ≡ Nothing → hasRoom (4 * s .cols) (4 * s .rows) e ≡ true
-  unfolding noRoomIn
-  entry-room s n = rw is (unless-nothing _ k (nothing-all _ _ n k h))
+  entry-ranges : Ranged bytes → Ranges e
+  entry-ranges r = ranges-are e (entry-good rangesOk (r .entries-ok))
 
   pub pair-below : Ranged bytes → e .pair < 8
-  unfolding entryOk
-  pair-below r =
-      let p = all-parts _ _ (entry-good (r .entries-ok)) in
-      let q = all-parts _ _ (p .1) in
-      let t = all-parts _ _ (q .1) in
-      let m = leb-true (e .pair) 7 (t .0) in
-      omega arith
+  pair-below r = let p = entry-ranges r in omega arith
 
   -- an entry of a record that was checked may be run
   pub entry-runs : {s : Replay} {size top : ℕ} → Runnable s bytes size top → InPlane (s .stride) (4 * s .cols) (4 * s .rows) e size
-  unfolding entryOk
   entry-runs {s} r =
-      let p = all-parts _ _ (entry-good (r .ranged .entries-ok)) in
-      let q = all-parts _ _ (p .1) in
+      let p = entry-ranges (r .ranged) in
       record {
         pair-is = pair-below (r .ranged);
-        q-most = leb-true (e .q) 2048 (p .0);
-        side-most = leb-true (e .side) 839 (q .0);
+        q-most = p .q-most;
+        side-most = p .side-most;
         row = r .sized .row;
         plane = r .plane-long;
-        room = entry-room s (r .room);
+        room = entry-good (hasRoom (4 * s .cols) (4 * s .rows)) (r .room);
       }
 
 -- ---- the search for the first bad entry, by any test of an edge
@@ -93,11 +100,13 @@ module _ (bytes : List ℕ) (good : Edge → Bool) (k : ℕ) (before : first k (
   entry-more is says ok = first-more (goodAt bytes good) k before (found-unless-not _ k (told-yes-not _ _ (says ∙ ap good is) ok))
 
   pub entry-found : (n : ℕ) {e : Edge} {u : Bool} → n ≡ entryCount bytes → e ≡ edgeIn bytes (entryAt k) → u ≡ good e → not u ≡ true → k < n
-      → At k ≡ first (entryCount bytes) (goodAt bytes good)
+      → At k ≡ firstEntry good bytes
+  unfolding firstEntry
   entry-found n all is says no-good h =
       first-found (goodAt bytes good) k (entryCount bytes) before (found-unless _ k (told-no-not _ _ (says ∙ ap good is) no-good)) (omega arith)
 
-  pub entry-end : (n : ℕ) → n ≡ entryCount bytes → k ≤ n → n ≤ k → Nothing ≡ first (entryCount bytes) (goodAt bytes good)
+  pub entry-end : (n : ℕ) → n ≡ entryCount bytes → k ≤ n → n ≤ k → Nothing ≡ firstEntry good bytes
+  unfolding firstEntry
   entry-end n all a b = first-end (goodAt bytes good) k (entryCount bytes) before (omega arith) (omega arith)
 
 -- ---- the run
@@ -111,8 +120,8 @@ module _ (s : Replay) (bytes l : List ℕ) where
   unfolding runEdges
   replayed-none = run-none (segmentOf (topOf (s .depth)) (s .stride)) (λ j. edgeIn bytes (entryAt j) ∷ []) l
 
-  pub replayed-more : (k : ℕ) {m n : List ℕ} {e : Edge} {top w : ℕ} → m ≡ runEdges (topOf (s .depth)) (s .stride) (firstEntries bytes k) l
-      → e ≡ edgeIn bytes (entryAt k) → top ≡ topOf (s .depth) → EdgeFiltered top (s .stride) e m w n
+  pub replayed-more : (k : ℕ) {m n : List ℕ} {e : Edge} {top : ℕ} {o : Outcome} → m ≡ runEdges (topOf (s .depth)) (s .stride) (firstEntries bytes k) l
+      → e ≡ edgeIn bytes (entryAt k) → top ≡ topOf (s .depth) → EdgeFiltered top (s .stride) e m o n
       → n ≡ runEdges (topOf (s .depth)) (s .stride) (firstEntries bytes (k + 1)) l
   unfolding runEdges
   replayed-more k {m} {e = e} so-far is deep done =

@@ -1,4 +1,6 @@
 // The checks of a record and its plane, in ticket 2's order.
+use lengths::ranges::ranges_ok;
+use lengths::room::has_room;
 use low_first::two_at;
 use records::edge_at;
 use rules::depth::Depth;
@@ -9,12 +11,11 @@ use rules::refusals::Refusal;
 use rules::settings::Replay;
 use scan::in_range;
 use scan::samples;
-use segment::has_room;
 ghost use mathlib.Core.Path.{_≡_};
 ghost use Prim.Native.Nat.{_≤_, _<_};
 ghost use lib.ListN.{length};
 ghost use Rattle.rules.specs.Record.{edgeIn, entryAt, entryCount};
-ghost use Rattle.rules.specs.Replay.{replaySizesOk, headerOk, entryOk, badEntry, noRoomIn, recordCheck, replayCheck};
+ghost use Rattle.rules.specs.Replay.{replaySizesOk, headerOk, badEntry, noRoomIn, recordCheck, replayCheck};
 ghost use Rattle.replay.specs.Fit.{Sized, Ranged};
 
 // A plane's ranges.
@@ -65,29 +66,13 @@ pub fn entry(bytes: &[u8], k: usize) -> Edge
     edge_at(bytes, 5 + 10 * k)
 }
 
-// An entry within a segment's ranges.
-fn entry_ok(e: Edge) -> bool
-    ensures { λ r. ⌜ r ≡ entryOk e ⌝ }
-{
-    if 2048 < e.q {
-        return false;
-    }
-    if 839 < e.side {
-        return false;
-    }
-    if 7 < e.pair {
-        return false;
-    }
-    e.dir <= 1
-}
-
 // The first of n entries that is out of range.
 fn bad_entry(bytes: &[u8], n: usize) -> Found
     requires { ⌜ n ≡ entryCount (now bytes) ⌝ }
     ensures { λ r. ⌜ r ≡ badEntry (now (bytes .entry)) ⌝ }
 {
     for k in 0..n {
-        if !entry_ok(entry(bytes, k)) {
+        if !ranges_ok(entry(bytes, k)) {
             return Found::At(k);
         }
     }

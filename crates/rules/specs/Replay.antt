@@ -1,4 +1,4 @@
--- Ticket 2, "Run a record again": the checks in their order 1, 2, 3, 11, 12, 13, 7, 8, and the plane afterwards.
+-- Ticket 2, "Run a record again": the checks of a record and its plane in their order 1, 2, 3, 11, 12, 13, 7, 8, and the plane afterwards.
 -- Assumes nothing.
 use mathlib.Core.Bool.{Bool}
 use mathlib.Core.List.{List, [], _∷_}
@@ -14,14 +14,16 @@ use Rattle.rules.specs.declared.refusals.Answer.{Answer}
 use Rattle.rules.specs.declared.refusals.Found.{Found}
 use Rattle.rules.specs.Numbers.{depthOk, topOf, inRange}
 use Rattle.rules.specs.Refusals.{orElse, unless, found, settle, first, foundUnless, overBox}
-use Rattle.rules.specs.Segment.{hasRoom, runEdges}
+use Rattle.rules.specs.Segment.{rangesOk, hasRoom, runEdges}
 use Rattle.rules.specs.Record.{edgeIn, entryAt, entryCount, edgesIn}
 
--- a plane's ranges: "mi_cols and mi_rows 1..1024. Stride 4·mi_cols..8192"
+-- ---- the checks
+
+-- document 01's ranges of a plane: "mi_cols and mi_rows 1..1024. Stride 4·mi_cols..8192"
 unfoldable pub replaySizesOk : Replay → Bool
 replaySizesOk s = all (inRange 1 1024 (s .cols) ∷ inRange 1 1024 (s .rows) ∷ inRange (4 * s .cols) 8192 (s .stride) ∷ [])
 
--- "11 mark, version or fewer than 5 bytes"
+-- "11 mark, version or fewer than 5 bytes": at least 5 bytes, `EDG`, version 1
 unfoldable pub headerOk : List ℕ → Bool
 headerOk bytes =
     all
@@ -32,39 +34,46 @@ headerOk bytes =
     ∷ eqb (numberIn 2 bytes 3) 1
     ∷ [])
 
--- "12 a cut entry"
-unfoldable pub entriesWhole : List ℕ → Bool
-entriesWhole bytes = eqb ((length bytes - 5) % 10) 0
+-- "12 a cut entry": the bytes after the header are no whole entries; the number is that of the entry begun last
+unfoldable pub cutEntry : List ℕ → Found
+cutEntry bytes = foundUnless (eqb ((length bytes - 5) % 10) 0) (entryCount bytes)
 
--- "13 an entry outside 01's ranges for a segment": q 0..2048, side 0..839, pair number 0..7, direction 0 or 1
-unfoldable pub entryOk : Edge → Bool
-entryOk e = all (leb (e .q) 2048 ∷ leb (e .side) 839 ∷ leb (e .pair) 7 ∷ leb (e .dir) 1 ∷ [])
+-- the number of the first entry whose edge fails a test
+unfoldable pub firstEntry : (Edge → Bool) → List ℕ → Found
+firstEntry good bytes = first (entryCount bytes) (λ k. foundUnless (good (edgeIn bytes (entryAt k))) k)
 
-unfoldable pub badEntry : List ℕ → Found
-badEntry bytes = first (entryCount bytes) (λ k. foundUnless (entryOk (edgeIn bytes (entryAt k))) k)
+-- "13 an entry outside 01's ranges for a segment"
+abbrev pub badEntry : List ℕ → Found
+badEntry bytes = firstEntry rangesOk bytes
 
--- "then 7 with its number"
-unfoldable pub noRoomIn : Replay → List ℕ → Found
-noRoomIn s bytes = first (entryCount bytes) (λ k. foundUnless (hasRoom (4 * s .cols) (4 * s .rows) (edgeIn bytes (entryAt k))) k)
+-- "then 7 with its number": the edge has room in the plane's 4·mi_cols by 4·mi_rows samples
+abbrev pub noRoomIn : Replay → List ℕ → Found
+noRoomIn s bytes = firstEntry (hasRoom (4 * s .cols) (4 * s .rows)) bytes
 
--- the checks on the record
+-- "and 8 over the whole plane"
+abbrev pub overReplay : Replay → List ℕ → Found
+overReplay s l = overBox (topOf (s .depth)) l 0 (s .stride) (4 * s .cols) (4 * s .rows)
+
+-- the checks on the record: "11 .., 12 .. and 13 .., each with its number; then 7 with its number"
 unfoldable pub recordCheck : Replay → List ℕ → Answer
 recordCheck s bytes =
     orElse (unless (headerOk bytes) Header)
-    (orElse (unless (entriesWhole bytes) (Cut (entryCount bytes)))
+    (orElse (found (cutEntry bytes) Cut)
     (orElse (found (badEntry bytes) Entry)
     (found (noRoomIn s bytes) Room)))
 
--- "and 8 over the whole plane"
+-- "in this order after 5", of which 1, 2 and 3 have an input here
 unfoldable pub replayCheck : Replay → List ℕ → List ℕ → Answer
 replayCheck s bytes l =
     orElse (unless (depthOk (s .depth)) Depth)
     (orElse (unless (replaySizesOk s) Size)
     (orElse (unless (leb (4 * s .rows * s .stride) (length l)) Length)
     (orElse (recordCheck s bytes)
-    (found (overBox (topOf (s .depth)) l 0 (s .stride) (4 * s .cols) (4 * s .rows)) Sample))))
+    (found (overReplay s l) Sample))))
 
--- "Read the record, run its edges in order, and hand back the plane."
+-- ---- the run
+
+-- "Read the record, run its edges in order, and hand back the plane."; "also one with an edge twice: the segments are applied one after the other"
 unfoldable pub replayOf : Replay → List ℕ → List ℕ → List ℕ
 replayOf s bytes l = runEdges (topOf (s .depth)) (s .stride) (edgesIn bytes) l
 

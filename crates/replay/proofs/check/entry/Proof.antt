@@ -5,23 +5,16 @@ use Rattle.rules.specs.Record.{entryAt}
 use Rattle.replay.proofs.Entries.{entry-inside}
 use Rattle.replay.proofs.check.entry.Statement.{statement}
 use Rattle.replay.proofs.check.entry.Tie as tie
-use Rattle.replay.proofs.check.entry.Reads as reads
-use Rattle.replay.proofs.check.entry.Lts as lts
-use Rattle.records.proofs.edge_at.Reads as edge-at-reads
 
--- src/check.rt:65:24
 mul-edge-at : tie.Need-mul-edge-at
 mul-edge-at c = omega (arith, entry-inside _ _ (c .before .pre))
 
--- src/check.rt:65:20
 add-edge-at : tie.Need-add-edge-at
 add-edge-at c = omega (arith, entry-inside _ _ (c .before .pre))
 
--- src/check.rt:65:5
 edge-at-requires : tie.Need-edge-at-requires
 edge-at-requires c κs = omega (arith, entry-inside _ _ (c .before .pre))
 
--- src/check.rt:61:1
 returns : tie.Need-returns
 unfolding entryAt
 returns c = search needs

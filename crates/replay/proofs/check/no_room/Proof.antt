@@ -4,21 +4,13 @@ use Rattle.replay.proofs.Entries.{goodAt, entry-more, entry-found, entr
 use mathlib.Core.Path.{_≡_}
 use Prim.Native.Nat.{_-_, _≤_}
 use native.Mathlib.Omega.{arith}
-use Rattle.laws.specs.Choose.{told-yes-not, told-no-not}
 use Rattle.rules.specs.declared.refusals.Found.the-variants.{Nothing}
-use Rattle.rules.specs.Refusals.{first, foundUnless}
-use Rattle.scan.proofs.First.{firsts}
+use Rattle.rules.specs.Refusals.{first}
 use Prim.Native.Nat.{_*_}
 use Rattle.rules.specs.Segment.{hasRoom}
-use Rattle.rules.specs.Record.{edgeIn, entryAt}
-use Rattle.rules.specs.Replay.{noRoomIn}
 use Rattle.replay.proofs.Entries.{pair-below}
 use Rattle.replay.proofs.check.no_room.Statement.{statement}
 use Rattle.replay.proofs.check.no_room.Tie as tie
-use Rattle.replay.proofs.check.no_room.Reads as reads
-use Rattle.replay.proofs.check.no_room.Lts as lts
-use Rattle.replay.proofs.check.entry.Reads as entry-reads
-use Rattle.segment.proofs.has_room.Reads as has-room-reads
 
 abbrev Inv-loop : tie.InvT-loop
 Inv-loop bytes n s k₀ k = (k ≤ n) × (first k (goodAt bytes (hasRoom (4 * s .cols) (4 * s .rows))) ≡ Nothing)
@@ -26,47 +18,35 @@ Inv-loop bytes n s k₀ k = (k ≤ n) × (first k (goodAt bytes (hasRoom (4 * s 
 abbrev μ-loop : tie.MeasureT-loop
 μ-loop bytes n s k₀ k = n - k
 
--- src/check.rt:102:5
 loop-holds : tie.Need-loop-holds Inv-loop μ-loop
 loop-holds c = (omega arith, first-none _)
 
--- src/check.rt:103:22
 mul-has-room : tie.Need-mul-has-room Inv-loop μ-loop
 mul-has-room c = omega (arith, c .before .before .before .before .pre .1 .cols-most)
 
--- src/check.rt:103:34
 mul-has-room-2 : tie.Need-mul-has-room-2 Inv-loop μ-loop
 mul-has-room-2 c = omega (arith, c .before .before .before .before .before .pre .1 .rows-most)
 
--- src/check.rt:103:46
 entry-requires : tie.Need-entry-requires Inv-loop μ-loop
 entry-requires c κs = let e = c .before .before .before .before .before .pre .0 in omega arith
 
--- src/check.rt:103:13
 has-room-requires : tie.Need-has-room-requires Inv-loop μ-loop
 has-room-requires c κs = (pair-below _ _ (let e = c .before .before .before .before .before .before .pre .0 in omega arith) (c .entry .ensures .0) (c .before .before .before .before .before .before .pre .2), c .entry .ensures .1, c .entry .ensures .2)
 
--- src/check.rt:104:13
 returns : tie.Need-returns Inv-loop μ-loop
-unfolding noRoomIn
-returns c = entry-found _ _ _ (c .before .before .before .before .before .before .loop .inv .1) _ (c .before .before .before .before .before .before .before .before .pre .0) (c .before .before .entry .ensures .0) (c .before .has-room .ensures) (c .if1 .taken) (omega arith)
+returns c = entry-found _ (hasRoom (4 * (c .before .before .before .before .before .before .before .before .args .s .cols)) (4 * (c .before .before .before .before .before .before .before .before .args .s .rows))) _ (c .before .before .before .before .before .before .loop .inv .1) _ (c .before .before .before .before .before .before .before .before .pre .0) (c .before .before .entry .ensures .0) (c .before .has-room .ensures) (c .if1 .taken) (omega arith)
 
--- src/check.rt:102:9
 add-k : tie.Need-add-k Inv-loop μ-loop
 add-k c = omega arith
 
--- src/check.rt:102:5
 loop-less : tie.Need-loop-less Inv-loop μ-loop
 loop-less c = omega arith
 
--- src/check.rt:102:5
 loop-again : tie.Need-loop-again Inv-loop μ-loop
-loop-again c = (omega arith, entry-more _ _ _ (c .before .before .before .before .before .before .loop .inv .1) (c .before .before .entry .ensures .0) (c .before .has-room .ensures) (c .if1 .left))
+loop-again c = (omega arith, entry-more _ (hasRoom (4 * (c .before .before .before .before .before .before .before .before .args .s .cols)) (4 * (c .before .before .before .before .before .before .before .before .args .s .rows))) _ (c .before .before .before .before .before .before .loop .inv .1) (c .before .before .entry .ensures .0) (c .before .has-room .ensures) (c .if1 .left))
 
--- src/check.rt:98:1
 returns-2 : tie.Need-returns-2 Inv-loop μ-loop
-unfolding noRoomIn
-returns-2 c = entry-end _ _ _ (c .before .loop .inv .1) _ (c .before .before .before .pre .0) (c .before .loop .inv .0) (omega arith)
+returns-2 c = entry-end _ (hasRoom (4 * (c .before .before .before .args .s .cols)) (4 * (c .before .before .before .args .s .rows))) _ (c .before .loop .inv .1) _ (c .before .before .before .pre .0) (c .before .loop .inv .0) (omega arith)
 
 pub no-room-spec : {M : Type 1} → statement M
 no-room-spec =

@@ -1,87 +1,75 @@
+-- `replay_check` meets its contract: each check in its order; what the later ones need is what the earlier ones tested. Assumes nothing.
+use Rattle.replay.proofs.Checking.{record-refused, sample-refused, replay-passed}
+use Rattle.replay.proofs.Entries.{sized-of, samples-most}
+use Rattle.scan.proofs.Rows.{box-whole}
+use Rattle.scan.proofs.Checks.{checks, stop, go-on, unless-bad, unless-good}
+use Rattle.rules.specs.Replay.{replayCheck}
+use Rattle.laws.specs.Choose.{not-le, told-yes-not}
+use native.Mathlib.Omega.{arith}
+use mathlib.Core.Path.{sym}
 use borrow.Author.Needs.{needs}
 use Rattle.replay.proofs.check.replay_check.Statement.{statement}
 use Rattle.replay.proofs.check.replay_check.Tie as tie
-use Rattle.replay.proofs.check.replay_check.Reads as reads
-use Rattle.replay.proofs.check.replay_check.Lts as lts
-use Rattle.replay.proofs.check.record_check.Reads as record-check-reads
-use Rattle.replay.proofs.check.sizes_ok.Reads as sizes-ok-reads
-use Rattle.rules.proofs.depth.Depth.is.Reads as is-reads
-use Rattle.rules.proofs.depth.Depth.top.Reads as top-reads
-use Rattle.scan.proofs.samples.Reads as samples-reads
 
--- src/check.rt:137:9
 is-requires : tie.Need-is-requires
 is-requires c κs = search needs
 
--- src/check.rt:138:9
 returns : tie.Need-returns
-returns c = ?
+unfolding replayCheck
+returns c = search checks
 
--- src/check.rt:140:9
 sizes-ok-requires : tie.Need-sizes-ok-requires
 sizes-ok-requires c κs = search needs
 
--- src/check.rt:141:9
 returns-2 : tie.Need-returns-2
-returns-2 c = ?
+unfolding replayCheck
+returns-2 c = search checks
 
--- src/check.rt:143:22
 mul-if3 : tie.Need-mul-if3
-mul-if3 c = ?
+mul-if3 c = let z = (sized-of _ (told-yes-not _ _ (c .before .before .sizes-ok .ensures) (c .before .if2 .left))) in omega arith
 
--- src/check.rt:143:22
 mul-if3-2 : tie.Need-mul-if3-2
-mul-if3-2 c = ?
+mul-if3-2 c = omega (arith, samples-most (sized-of _ (told-yes-not _ _ (c .before .before .before .sizes-ok .ensures) (c .before .before .if2 .left))))
 
--- src/check.rt:144:9
 returns-3 : tie.Need-returns-3
-returns-3 c = ?
+unfolding replayCheck
+returns-3 c = go-on _ _ _ (unless-good _ _ (told-yes-not _ _ (c .before .before .before .before .before .before .is .ensures) (c .before .before .before .before .before .if1 .left))) (go-on _ _ _ (unless-good _ _ (told-yes-not _ _ (c .before .before .before .before .sizes-ok .ensures) (c .before .before .before .if2 .left))) (stop _ _ (unless-bad _ _ (not-le _ _ (c .if3 .taken)))))
 
--- src/check.rt:146:9
 record-check-requires : tie.Need-record-check-requires
-record-check-requires c κs = ?
+record-check-requires c κs = (sized-of _ (told-yes-not _ _ (c .before .before .before .before .sizes-ok .ensures) (c .before .before .before .if2 .left)))
 
--- src/check.rt:147:28
 enum-known-a : tie.Need-enum-known-a
 enum-known-a c = search needs
 
--- src/check.rt:148:9
 returns-4 : tie.Need-returns-4
-returns-4 c = ?
+returns-4 c = record-refused _ _ _ (told-yes-not _ _ (c .before .before .before .before .before .before .before .before .before .before .is .ensures) (c .before .before .before .before .before .before .before .before .before .if1 .left)) (told-yes-not _ _ (c .before .before .before .before .before .before .before .before .sizes-ok .ensures) (c .before .before .before .before .before .before .before .if2 .left)) (c .before .before .before .before .if3 .left) (c .before .before .before .record-check .ensures) (search needs)
 
 enum-told : tie.Need-enum-told
 enum-told c = search needs
 
--- src/check.rt:151:44
 mul-samples : tie.Need-mul-samples
-mul-samples c = ?
+mul-samples c = let z = (sized-of _ (told-yes-not _ _ (c .before .before .before .before .before .before .before .before .sizes-ok .ensures) (c .before .before .before .before .before .before .before .if2 .left))) in omega arith
 
--- src/check.rt:151:56
 mul-samples-2 : tie.Need-mul-samples-2
-mul-samples-2 c = ?
+mul-samples-2 c = let z = (sized-of _ (told-yes-not _ _ (c .before .before .before .before .before .before .before .before .before .sizes-ok .ensures) (c .before .before .before .before .before .before .before .before .if2 .left))) in omega arith
 
--- src/check.rt:151:68
 top-requires : tie.Need-top-requires
-top-requires c κs = ?
+top-requires c κs = sym (told-yes-not _ _ (c .before .before .before .before .before .before .before .before .before .before .before .is .ensures) (c .before .before .before .before .before .before .before .before .before .before .if1 .left))
 
--- src/check.rt:151:9
 samples-requires : tie.Need-samples-requires
-samples-requires c κs = ?
+samples-requires c κs = box-whole ((sized-of _ (told-yes-not _ _ (c .before .before .before .before .before .before .before .before .before .before .sizes-ok .ensures) (c .before .before .before .before .before .before .before .before .before .if2 .left))) .row) (c .before .before .before .before .before .before .if3 .left)
 
--- src/check.rt:152:22
 enum-known-over : tie.Need-enum-known-over
 enum-known-over c = search needs
 
--- src/check.rt:153:9
 returns-5 : tie.Need-returns-5
-returns-5 c = ?
+returns-5 c = sample-refused _ _ _ (told-yes-not _ _ (c .before .before .before .before .before .before .before .before .before .before .before .before .before .before .before .before .is .ensures) (c .before .before .before .before .before .before .before .before .before .before .before .before .before .before .before .if1 .left)) (told-yes-not _ _ (c .before .before .before .before .before .before .before .before .before .before .before .before .before .before .sizes-ok .ensures) (c .before .before .before .before .before .before .before .before .before .before .before .before .before .if2 .left)) (c .before .before .before .before .before .before .before .before .before .before .if3 .left) (c .before .before .before .before .before .before .before .before .before .record-check .ensures) (search needs) (c .before .before .before .before .top .ensures) (c .before .before .before .samples .ensures) (search needs)
 
 enum-told-2 : tie.Need-enum-told-2
 enum-told-2 c = search needs
 
--- src/check.rt:134:1
 returns-6 : tie.Need-returns-6
-returns-6 c = ?
+returns-6 c = replay-passed _ _ _ (told-yes-not _ _ (c .before .before .before .before .before .before .before .before .before .before .before .before .before .before .before .is .ensures) (c .before .before .before .before .before .before .before .before .before .before .before .before .before .before .if1 .left)) (told-yes-not _ _ (c .before .before .before .before .before .before .before .before .before .before .before .before .before .sizes-ok .ensures) (c .before .before .before .before .before .before .before .before .before .before .before .before .if2 .left)) (c .before .before .before .before .before .before .before .before .before .if3 .left) (c .before .before .before .before .before .before .before .before .record-check .ensures) (search needs) (c .before .before .before .top .ensures) (c .before .before .samples .ensures) (search needs)
 
 pub replay-check-spec : {M : Type 1} → statement M
 replay-check-spec =

@@ -8,37 +8,27 @@ use Rattle.laws.specs.Choose.{tests}
 use borrow.Author.Needs.{needs}
 use Rattle.replay.proofs.check.sizes_ok.Statement.{statement}
 use Rattle.replay.proofs.check.sizes_ok.Tie as tie
-use Rattle.replay.proofs.check.sizes_ok.Reads as reads
-use Rattle.replay.proofs.check.sizes_ok.Lts as lts
-use Rattle.scan.proofs.in_range.Reads as in-range-reads
 
--- src/check.rt:24:9
 in-range-requires : tie.Need-in-range-requires
 in-range-requires c κs = search needs
 
--- src/check.rt:25:9
 returns : tie.Need-returns
 unfolding replaySizesOk
 returns c = search tests
 
--- src/check.rt:27:9
 in-range-requires-2 : tie.Need-in-range-requires-2
 in-range-requires-2 c κs = search needs
 
--- src/check.rt:28:9
 returns-2 : tie.Need-returns-2
 unfolding replaySizesOk
 returns-2 c = search tests
 
--- src/check.rt:30:14
 mul-in-range : tie.Need-mul-in-range
 mul-in-range c = omega (arith, in-range 1 1024 _ (sym (told-yes-not _ _ (c .before .before .before .before .in-range .ensures) (c .before .before .before .if1 .left))) .1)
 
--- src/check.rt:30:5
 in-range-requires-3 : tie.Need-in-range-requires-3
 in-range-requires-3 c κs = search needs
 
--- src/check.rt:21:1
 returns-3 : tie.Need-returns-3
 unfolding replaySizesOk
 returns-3 c = search tests

@@ -10,11 +10,6 @@ use Rattle.rules.specs.Segment.{runEdges}
 use Rattle.replay.proofs.Entries.{firstEntries, replayed-none, replayed-more, replayed-end, entry-runs, runnable-same}
 use Rattle.replay.proofs.run.run_record.Statement.{statement}
 use Rattle.replay.proofs.run.run_record.Tie as tie
-use Rattle.replay.proofs.run.run_record.Reads as reads
-use Rattle.replay.proofs.run.run_record.Lts as lts
-use Rattle.replay.proofs.check.count.Reads as count-reads
-use Rattle.replay.proofs.check.entry.Reads as entry-reads
-use Rattle.segment.proofs.filter_edge.Reads as filter-edge-reads
 
 abbrev Inv-loop : tie.InvT-loop
 Inv-loop plane₀ bytes s top n k₀ plane k = (k ≤ n) × (plane ≡ runEdges (topOf (s .depth)) (s .stride) (firstEntries bytes k) plane₀) × (length plane ≡ length plane₀)
@@ -22,47 +17,36 @@ Inv-loop plane₀ bytes s top n k₀ plane k = (k ≤ n) × (plane ≡ runEdges 
 abbrev μ-loop : tie.MeasureT-loop
 μ-loop plane₀ bytes s top n k₀ plane k = n - k
 
--- src/run.rt:19:9
 count-requires : tie.Need-count-requires Inv-loop μ-loop
 count-requires c κs = c .before .before .pre .ranged .header-there
 
--- src/run.rt:20:5
 loop-holds : tie.Need-loop-holds Inv-loop μ-loop
-loop-holds c = (omega arith, replayed-none _ _ _, refl)
+loop-holds c = (omega arith, replayed-none (c .before .before .before .args .s) _ _, refl)
 
--- src/run.rt:24:13
 mul-filter-edge : tie.Need-mul-filter-edge Inv-loop μ-loop
 mul-filter-edge c = omega (arith, c .before .before .before .before .before .before .before .pre .sized .cols-most)
 
--- src/run.rt:25:13
 mul-filter-edge-2 : tie.Need-mul-filter-edge-2 Inv-loop μ-loop
 mul-filter-edge-2 c = omega (arith, c .before .before .before .before .before .before .before .before .pre .sized .rows-most)
 
--- src/run.rt:26:13
 entry-requires : tie.Need-entry-requires Inv-loop μ-loop
 entry-requires c κs = let e = c .before .before .before .before .before .count .ensures in omega arith
 
--- src/run.rt:21:9
 filter-edge-requires : tie.Need-filter-edge-requires Inv-loop μ-loop
 filter-edge-requires c κs = entry-runs _ _ (let e = c .before .before .before .before .before .before .count .ensures in omega arith) (c .entry .ensures .0) (runnable-same (c .before .before .before .before .before .loop .inv .2) (c .before .before .before .before .before .before .before .before .before .pre))
 
--- src/run.rt:20:9
 add-k : tie.Need-add-k Inv-loop μ-loop
 add-k c = omega arith
 
--- src/run.rt:20:5
 loop-less : tie.Need-loop-less Inv-loop μ-loop
 loop-less c = omega arith
 
--- src/run.rt:20:5
 loop-again : tie.Need-loop-again Inv-loop μ-loop
-loop-again c = (omega arith, replayed-more _ _ _ _ (c .before .before .before .before .before .before .before .before .loop .inv .1) (c .before .before .before .entry .ensures .0) (c .before .before .before .before .before .before .before .before .before .before .before .before .pre .top-is) (c .before .before .filter-edge .ensures), search needs)
+loop-again c = (omega arith, replayed-more (c .before .before .before .before .before .before .before .before .before .before .before .before .args .s) _ _ _ (c .before .before .before .before .before .before .before .before .loop .inv .1) (c .before .before .before .entry .ensures .0) (c .before .before .before .before .before .before .before .before .before .before .before .before .pre .top-is) (c .before .before .filter-edge .ensures), search needs)
 
--- src/run.rt:15:1
 same-length : tie.Need-same-length Inv-loop μ-loop
 same-length c = search needs
 
--- src/run.rt:15:1
 returns : tie.Need-returns Inv-loop μ-loop
 returns c = replayed-end _ _ _ _ _ (c .before .loop .inv .1) (c .before .before .count .ensures) (c .before .loop .inv .0) (omega arith)
 
