@@ -3,5 +3,10 @@
 // One entry: put at a place, and read there.
 mod entry;
 
+// A record while it is written.
+mod writing;
+
 pub use entry::edge_at;
 pub use entry::put_edge;
+pub use writing::note;
+pub use writing::put_header;

@@ -2,10 +2,21 @@
 -- Assumes nothing.
 use mathlib.Core.List.{List, [], _∷_, _++_}
 use Prim.Native.Nat.{ℕ, _+_, _*_, _-_, _/_}
+use lib.Dec.{leb}
 use lib.ListN.{length, getD, drop}
 use Rattle.laws.specs.Loops.{each}
+use Rattle.laws.specs.Sums.{sum}
+use Rattle.laws.specs.Tests.{bit}
 use Rattle.low_first.specs.Bytes.{lowFirst, numberIn}
 use Rattle.rules.specs.declared.edge.Edge.{Edge}
+use Rattle.rules.specs.declared.settings.Plane.{Plane}
+use Rattle.rules.specs.declared.refusals.Refusal.the-variants.{Buffer}
+use Rattle.rules.specs.declared.refusals.Answer.{Answer}
+use Rattle.rules.specs.declared.refusals.Answer.the-variants.{Accepted, Refused}
+use Rattle.rules.specs.declared.refusals.Recorded.{Recorded}
+use Rattle.rules.specs.declared.refusals.Recorded.the-variants.{Bytes, Refused as «NoRecord»}
+use Rattle.rules.specs.Refusals.{orElse, unless, settle}
+use Rattle.rules.specs.Plane.{Grid, isEdge, edgesOf, runPlane, planeCheck}
 
 -- ---- ticket 1: the bytes
 
@@ -28,6 +39,32 @@ recordOf es = header ++ entriesOf es
 -- "Bytes of the buffer after the record stay."
 unfoldable pub bufferAfter : List Edge → List ℕ → List ℕ
 bufferAfter es buffer = recordOf es ++ drop (length (recordOf es)) buffer
+
+-- ---- ticket 1: a plane's run that writes its record into a lent buffer
+
+-- "the marked edges (column 0 and row 0 left out)"
+unfoldable pub edgeCount : Plane → Grid → ℕ
+edgeCount s g = sum (s .rows) (λ r. sum (s .cols) (λ c. bit (isEdge s g 0 r c) + bit (isEdge s g 1 r c)))
+
+-- "10, room less than 5 + 10 times the marked edges, tested after 8"; n is the buffer's length, which no other check looks at
+unfoldable pub recordedCheck : Plane → List ℕ → Grid → List ℕ → ℕ → Answer
+recordedCheck s steps g l n = orElse (planeCheck s steps g l) (unless (leb (5 + 10 * edgeCount s g) n) Buffer)
+
+-- "and answer its length"
+unfoldable pub answerBytes : Answer → ℕ → Recorded
+answerBytes Accepted n = Bytes n
+answerBytes (Refused r) n = «NoRecord» r
+
+unfoldable pub recordedAnswer : Plane → List ℕ → Grid → List ℕ → ℕ → Recorded
+recordedAnswer s steps g l n = answerBytes (recordedCheck s steps g l n) (length (recordOf (edgesOf s steps g)))
+
+-- "the plane ends as without it"; refused, "the plane and buffer stay unchanged"
+unfoldable pub recordedPlane : Plane → List ℕ → Grid → List ℕ → ℕ → List ℕ
+recordedPlane s steps g l n = settle (recordedCheck s steps g l n) l (runPlane s steps g l)
+
+-- "one entry for each visited edge in 01's order"
+unfoldable pub recordedBuffer : Plane → List ℕ → Grid → List ℕ → List ℕ → List ℕ
+recordedBuffer s steps g l buffer = settle (recordedCheck s steps g l (length buffer)) buffer (bufferAfter (edgesOf s steps g) buffer)
 
 -- ---- ticket 2: the edges that bytes stand for
 

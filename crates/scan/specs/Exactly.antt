@@ -71,17 +71,13 @@ chain [] = Accepted
 chain (c ∷ []) = answerOf (refusalOf (c .number)) (c .test)
 chain (c ∷ d ∷ cs) = orElse (answerOf (refusalOf (c .number)) (c .test)) (chain (d ∷ cs))
 
--- "Order of checks: 1,2,3,4,5,9,6,7,8"; ticket 1: 10 "after 8"; ticket 2: 11, 12, 13 "after 5", before 7. The turn of each number; 0 is no number
+-- "Order of checks: 1,2,3,4,5,9,6,7,8"; ticket 1: 10, "tested after 8"; ticket 2: 11, 12, 13 "after 5; then 7". The turn of each number, in tens; 0 is no number
 abbrev pub turnOf : ℕ → ℕ
-turnOf k = getD (0 ∷ 1 ∷ 2 ∷ 3 ∷ 4 ∷ 5 ∷ 10 ∷ 11 ∷ 12 ∷ 6 ∷ 13 ∷ 7 ∷ 8 ∷ 9 ∷ []) k 0
+turnOf k = getD (0 ∷ 10 ∷ 20 ∷ 30 ∷ 40 ∷ 50 ∷ 70 ∷ 80 ∷ 90 ∷ 60 ∷ 100 ∷ 61 ∷ 62 ∷ 63 ∷ []) k 0
 
 -- the numbers that report a place: 4, 6, 7, 8, 9, 12 and 13
 abbrev pub hasPlace : ℕ → Bool
-hasPlace k =
-    getD
-    (false ∷ false ∷ false ∷ false ∷ true ∷ false ∷ true ∷ true ∷ true ∷ true ∷ false ∷ false ∷ true ∷ true ∷ [])
-    k
-    false
+hasPlace k = getD (false ∷ false ∷ false ∷ false ∷ true ∷ false ∷ true ∷ true ∷ true ∷ true ∷ false ∷ false ∷ true ∷ true ∷ []) k false
 
 abbrev pub placed : ℕ → Test → Bool
 placed k (ask b) = true
