@@ -71,7 +71,7 @@ chain [] = Accepted
 chain (c ∷ []) = answerOf (refusalOf (c .number)) (c .test)
 chain (c ∷ d ∷ cs) = orElse (answerOf (refusalOf (c .number)) (c .test)) (chain (d ∷ cs))
 
--- "Order of checks: 1,2,3,4,5,9,6,7,8"; ticket 1: 10, "tested after 8"; ticket 2: 11, 12, 13 "after 5; then 7". The turn of each number, in tens; 0 is no number
+-- "Order of checks: 1,2,3,4,5,9,6,7,8"; ticket 1: 10, "tested after 8"; ticket 2: 11, 12, 13 "after 5", "then 7". The turn of each number, in tens; 0 is no number
 abbrev pub turnOf : ℕ → ℕ
 turnOf k = getD (0 ∷ 10 ∷ 20 ∷ 30 ∷ 40 ∷ 50 ∷ 70 ∷ 80 ∷ 90 ∷ 60 ∷ 100 ∷ 61 ∷ 62 ∷ 63 ∷ []) k 0
 
