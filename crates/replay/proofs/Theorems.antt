@@ -28,7 +28,7 @@ use Rattle.records.proofs.RoundTrip.{record-length, read-record, write-record}
 use Rattle.segment.specs.Fit.{InPlane}
 use Rattle.replay.specs.Fit.{Replayed}
 use Rattle.replay.proofs.Entries.{entry-runs}
-use Rattle.replay.proofs.Checking.{passed}
+use Rattle.replay.proofs.Checking.{own, passed}
 
 module _ (s : Replay) (bytes l : List ℕ) {a : Answer} {m : List ℕ} (done : Replayed s bytes l a m) where
   -- any two results that the statement allows are equal
@@ -84,11 +84,15 @@ whole-entries : (bytes : List ℕ) → 5 ≤ length bytes → cutEntry bytes ≡
 unfolding cutEntry entryCount
 whole-entries bytes h w = let e : (length bytes - 5) % 10 ≡ 0 = eqb-true _ _ (unless-nothing _ _ w) in omega arith
 
--- an accepted record, whose bytes are bytes
+-- a record that its own checks accept, whose bytes are bytes
+pub write-checked : (bytes : List ℕ) → ((k : ℕ) → getD bytes k 0 < 256) → recordCheck bytes ≡ Accepted → recordOf (edgesIn bytes) ≡ bytes
+write-checked bytes small ok =
+    let p = own bytes ok in
+    write-record bytes (record { header-is = header-bytes bytes (p .header) small; entries-whole = whole-entries bytes (p .ranged .header-there) (p .whole); small = small })
+
+-- and so one that the entry accepts
 pub write-accepted : (s : Replay) (bytes l : List ℕ) → ((k : ℕ) → getD bytes k 0 < 256) → replayCheck s bytes l ≡ Accepted → recordOf (edgesIn bytes) ≡ bytes
-write-accepted s bytes l small ok =
-    let p = passed s bytes l ok in
-    write-record bytes (record { header-is = header-bytes bytes (p .header) small; entries-whole = whole-entries bytes (p .runs .ranged .header-there) (p .whole); small = small })
+write-accepted s bytes l small ok = write-checked bytes small (passed s bytes l ok .record-ok)
 
 -- ---- which records are accepted
 
@@ -130,12 +134,12 @@ module _ (s : Replay) (es : List Edge) (w : Written s es) where
       let whole : (length (recordOf es) - 5) % 10 ≡ 0 = omega (arith, record-length es) in
       rw (eq-eqb _ _ whole)
 
-  written-accepted : recordCheck s (recordOf es) ≡ Accepted
+  written-accepted : recordCheck (recordOf es) ≡ Accepted
   unfolding recordCheck orElse unless found
-  written-accepted = rw (header-good, no-cut, entries-pass rangesOk (w .ranges), entries-pass (hasRoom (4 * s .cols) (4 * s .rows)) (w .room))
+  written-accepted = rw (header-good, no-cut, entries-pass rangesOk (w .ranges))
 
   -- a good plane takes every written list of edges in range and with room
   pub record-accepted : (l : List ℕ) → depthOk (s .depth) ≡ true → replaySizesOk s ≡ true → 4 * s .rows * s .stride ≤ length l → overReplay s l ≡ Nothing
       → replayCheck s (recordOf es) l ≡ Accepted
   unfolding replayCheck orElse unless found
-  record-accepted l d z p o = rw (d, z, le-leb _ _ p, written-accepted, o)
+  record-accepted l d z p o = rw (d, z, le-leb _ _ p, written-accepted, entries-pass (hasRoom (4 * s .cols) (4 * s .rows)) (w .room), o)

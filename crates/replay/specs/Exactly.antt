@@ -9,13 +9,12 @@ use Rattle.rules.specs.Numbers.{depthOk}
 use Rattle.rules.specs.Replay.{replaySizesOk, headerOk, cutEntry, badEntry, noRoomIn, overReplay}
 use Rattle.scan.specs.Exactly.{ask, seek, Check, check}
 
--- those of the record's entries
-abbrev pub entryTests : Replay → List ℕ → List Check
-entryTests s bytes =
-    check 12 (seek (cutEntry bytes))
-    ∷ check 13 (seek (badEntry bytes))
-    ∷ check 7 (seek (noRoomIn s bytes))
-    ∷ []
+
+abbrev pub entryTests : List ℕ → List Check
+entryTests bytes = check 12 (seek (cutEntry bytes)) ∷ check 13 (seek (badEntry bytes)) ∷ []
+
+abbrev pub roomTests : Replay → List ℕ → List ℕ → List Check
+roomTests s bytes l = check 7 (seek (noRoomIn s bytes)) ∷ check 8 (seek (overReplay s l)) ∷ []
 
 abbrev pub replayTests : Replay → List ℕ → List ℕ → List Check
 replayTests s bytes l =
@@ -23,4 +22,4 @@ replayTests s bytes l =
     ∷ check 2 (ask (replaySizesOk s))
     ∷ check 3 (ask (leb (4 * s .rows * s .stride) (length l)))
     ∷ check 11 (ask (headerOk bytes))
-    ∷ (entryTests s bytes ++ (check 8 (seek (overReplay s l)) ∷ []))
+    ∷ (entryTests bytes ++ roomTests s bytes l)

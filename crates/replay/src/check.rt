@@ -16,7 +16,7 @@ ghost use Prim.Native.Nat.{_≤_, _<_};
 ghost use lib.ListN.{length};
 ghost use Rattle.rules.specs.Record.{edgeIn, entryAt, entryCount};
 ghost use Rattle.rules.specs.Replay.{replaySizesOk, headerOk, badEntry, noRoomIn, recordCheck, replayCheck};
-ghost use Rattle.replay.specs.Fit.{Sized, Ranged};
+ghost use Rattle.replay.specs.Fit.{Sized, Ranged, Roomy, roomCheck};
 
 // A plane's ranges.
 fn sizes_ok(s: Replay) -> bool
@@ -92,10 +92,9 @@ fn no_room(bytes: &[u8], n: usize, s: Replay) -> Found
     Found::Nothing
 }
 
-// The record's own checks: 11, 12, 13, 7.
-fn record_check(bytes: &[u8], s: Replay) -> Answer
-    requires { ⌜ Sized s ⌝ }
-    ensures { λ r. ⌜ r ≡ recordCheck s (now (bytes .entry)) ⌝ }
+// A record's own checks: 11, 12, 13.
+pub fn record_check(bytes: &[u8]) -> Answer
+    ensures { λ r. ⌜ r ≡ recordCheck (now (bytes .entry)) ⌝ }
 {
     if !header_ok(bytes) {
         return Answer::Refused(Refusal::Header);
@@ -108,9 +107,22 @@ fn record_check(bytes: &[u8], s: Replay) -> Answer
     if let Found::At(k) = bad {
         return Answer::Refused(Refusal::Entry(k));
     }
-    let narrow = no_room(bytes, n, s);
+    Answer::Accepted
+}
+
+// What a record and its plane are to each other: 7 and 8.
+fn room_check(plane: &[u16], bytes: &[u8], s: Replay) -> Answer
+    requires { ⌜ Roomy s (now bytes) (length (now plane)) ⌝ }
+    ensures { λ r. ⌜ r ≡ roomCheck s (now (bytes .entry)) (now (plane .entry)) ⌝ }
+{
+    let narrow = no_room(bytes, count(bytes), s);
     if let Found::At(k) = narrow {
         return Answer::Refused(Refusal::Room(k));
+    }
+    let depth = Depth { bits: s.depth };
+    let over = samples(plane, 0, s.stride, 4 * s.cols, 4 * s.rows, depth.top());
+    if let Found::At(k) = over {
+        return Answer::Refused(Refusal::Sample(k));
     }
     Answer::Accepted
 }
@@ -128,14 +140,9 @@ pub fn replay_check(plane: &[u16], bytes: &[u8], s: Replay) -> Answer
     if plane.len() < 4 * s.rows * s.stride {
         return Answer::Refused(Refusal::Length);
     }
-    let a = record_check(bytes, s);
+    let a = record_check(bytes);
     if let Answer::Refused(r) = a {
         return Answer::Refused(r);
     }
-    let depth = Depth { bits: s.depth };
-    let over = samples(plane, 0, s.stride, 4 * s.cols, 4 * s.rows, depth.top());
-    if let Found::At(k) = over {
-        return Answer::Refused(Refusal::Sample(k));
-    }
-    Answer::Accepted
+    room_check(plane, bytes, s)
 }

@@ -54,13 +54,12 @@ noRoomIn s bytes = firstEntry (hasRoom (4 * s .cols) (4 * s .rows)) bytes
 abbrev pub overReplay : Replay → List ℕ → Found
 overReplay s l = overBox (topOf (s .depth)) l 0 (s .stride) (4 * s .cols) (4 * s .rows)
 
--- the checks on the record: "11 .., 12 .. and 13 .., each with its number; then 7 with its number"
-unfoldable pub recordCheck : Replay → List ℕ → Answer
-recordCheck s bytes =
+-- a record's own checks: "11 .., 12 .. and 13 .., each with its number"
+unfoldable pub recordCheck : List ℕ → Answer
+recordCheck bytes =
     orElse (unless (headerOk bytes) Header)
     (orElse (found (cutEntry bytes) Cut)
-    (orElse (found (badEntry bytes) Entry)
-    (found (noRoomIn s bytes) Room)))
+    (found (badEntry bytes) Entry))
 
 -- "in this order after 5", of which 1, 2 and 3 have an input here
 unfoldable pub replayCheck : Replay → List ℕ → List ℕ → Answer
@@ -68,8 +67,9 @@ replayCheck s bytes l =
     orElse (unless (depthOk (s .depth)) Depth)
     (orElse (unless (replaySizesOk s) Size)
     (orElse (unless (leb (4 * s .rows * s .stride) (length l)) Length)
-    (orElse (recordCheck s bytes)
-    (found (overReplay s l) Sample))))
+    (orElse (recordCheck bytes)
+    (orElse (found (noRoomIn s bytes) Room)
+    (found (overReplay s l) Sample)))))
 
 -- ---- the run
 

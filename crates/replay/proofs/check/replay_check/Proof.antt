@@ -1,12 +1,10 @@
 -- `replay_check` meets its contract: each check in its order; what the later ones need is what the earlier ones tested. Assumes nothing.
-use Rattle.replay.proofs.Checking.{record-refused, sample-refused, replay-passed}
+use Rattle.replay.proofs.Checking.{record-refused, roomy-by, replay-passed}
 use Rattle.replay.proofs.Entries.{sized-of, samples-most}
-use Rattle.scan.proofs.Rows.{box-whole}
 use Rattle.scan.proofs.Checks.{checks, stop, go-on, unless-bad, unless-good}
 use Rattle.rules.specs.Replay.{replayCheck}
 use Rattle.laws.specs.Choose.{not-le, told-yes-not}
 use native.Mathlib.Omega.{arith}
-use mathlib.Core.Path.{sym}
 use borrow.Author.Needs.{needs}
 use Rattle.replay.proofs.check.replay_check.Statement.{statement}
 use Rattle.replay.proofs.check.replay_check.Tie as tie
@@ -36,7 +34,7 @@ unfolding replayCheck
 returns-3 c = go-on _ _ _ (unless-good _ _ (told-yes-not _ _ (c .before .before .before .before .before .before .is .ensures) (c .before .before .before .before .before .if1 .left))) (go-on _ _ _ (unless-good _ _ (told-yes-not _ _ (c .before .before .before .before .sizes-ok .ensures) (c .before .before .before .if2 .left))) (stop _ _ (unless-bad _ _ (not-le _ _ (c .if3 .taken)))))
 
 record-check-requires : tie.Need-record-check-requires
-record-check-requires c κs = (sized-of _ (told-yes-not _ _ (c .before .before .before .before .sizes-ok .ensures) (c .before .before .before .if2 .left)))
+record-check-requires c κs = search needs
 
 enum-known-a : tie.Need-enum-known-a
 enum-known-a c = search needs
@@ -47,29 +45,11 @@ returns-4 c = record-refused _ _ _ (told-yes-not _ _ (c .before .before .before 
 enum-told : tie.Need-enum-told
 enum-told c = search needs
 
-mul-samples : tie.Need-mul-samples
-mul-samples c = let z = (sized-of _ (told-yes-not _ _ (c .before .before .before .before .before .before .before .before .sizes-ok .ensures) (c .before .before .before .before .before .before .before .if2 .left))) in omega arith
-
-mul-samples-2 : tie.Need-mul-samples-2
-mul-samples-2 c = let z = (sized-of _ (told-yes-not _ _ (c .before .before .before .before .before .before .before .before .before .sizes-ok .ensures) (c .before .before .before .before .before .before .before .before .if2 .left))) in omega arith
-
-top-requires : tie.Need-top-requires
-top-requires c κs = sym (told-yes-not _ _ (c .before .before .before .before .before .before .before .before .before .before .before .is .ensures) (c .before .before .before .before .before .before .before .before .before .before .if1 .left))
-
-samples-requires : tie.Need-samples-requires
-samples-requires c κs = box-whole ((sized-of _ (told-yes-not _ _ (c .before .before .before .before .before .before .before .before .before .before .sizes-ok .ensures) (c .before .before .before .before .before .before .before .before .before .if2 .left))) .row) (c .before .before .before .before .before .before .if3 .left)
-
-enum-known-over : tie.Need-enum-known-over
-enum-known-over c = search needs
+room-check-requires : tie.Need-room-check-requires
+room-check-requires c κs = roomy-by _ _ (c .before .before .before .before .before .before .before .before .before .before .before .before .args .plane .now) (told-yes-not _ _ (c .before .before .before .before .before .before .before .before .before .is .ensures) (c .before .before .before .before .before .before .before .before .if1 .left)) (told-yes-not _ _ (c .before .before .before .before .before .before .before .sizes-ok .ensures) (c .before .before .before .before .before .before .if2 .left)) (c .before .before .before .if3 .left) (c .before .before .record-check .ensures) (search needs)
 
 returns-5 : tie.Need-returns-5
-returns-5 c = sample-refused _ _ _ (told-yes-not _ _ (c .before .before .before .before .before .before .before .before .before .before .before .before .before .before .before .before .is .ensures) (c .before .before .before .before .before .before .before .before .before .before .before .before .before .before .before .if1 .left)) (told-yes-not _ _ (c .before .before .before .before .before .before .before .before .before .before .before .before .before .before .sizes-ok .ensures) (c .before .before .before .before .before .before .before .before .before .before .before .before .before .if2 .left)) (c .before .before .before .before .before .before .before .before .before .before .if3 .left) (c .before .before .before .before .before .before .before .before .before .record-check .ensures) (search needs) (c .before .before .before .before .top .ensures) (c .before .before .before .samples .ensures) (search needs)
-
-enum-told-2 : tie.Need-enum-told-2
-enum-told-2 c = search needs
-
-returns-6 : tie.Need-returns-6
-returns-6 c = replay-passed _ _ _ (told-yes-not _ _ (c .before .before .before .before .before .before .before .before .before .before .before .before .before .before .before .is .ensures) (c .before .before .before .before .before .before .before .before .before .before .before .before .before .before .if1 .left)) (told-yes-not _ _ (c .before .before .before .before .before .before .before .before .before .before .before .before .before .sizes-ok .ensures) (c .before .before .before .before .before .before .before .before .before .before .before .before .if2 .left)) (c .before .before .before .before .before .before .before .before .before .if3 .left) (c .before .before .before .before .before .before .before .before .record-check .ensures) (search needs) (c .before .before .before .top .ensures) (c .before .before .samples .ensures) (search needs)
+returns-5 c = replay-passed _ _ _ (told-yes-not _ _ (c .before .before .before .before .before .before .before .before .before .before .is .ensures) (c .before .before .before .before .before .before .before .before .before .if1 .left)) (told-yes-not _ _ (c .before .before .before .before .before .before .before .before .sizes-ok .ensures) (c .before .before .before .before .before .before .before .if2 .left)) (c .before .before .before .before .if3 .left) (c .before .before .before .record-check .ensures) (search needs) (c .room-check .ensures)
 
 pub replay-check-spec : {M : Type 1} → statement M
 replay-check-spec =
@@ -86,11 +66,5 @@ replay-check-spec =
     enum-known-a
     returns-4
     enum-told
-    mul-samples
-    mul-samples-2
-    top-requires
-    samples-requires
-    enum-known-over
-    returns-5
-    enum-told-2
-    returns-6)
+    room-check-requires
+    returns-5)
