@@ -5,15 +5,14 @@ use mathlib.Core.Bool.{Bool, true, false, not}
 use mathlib.Core.List.{List}
 use Prim.Native.Nat.{ℕ, _+_, _≤_, _<_, min}
 use native.Mathlib.Omega.{arith}
-use Rattle.laws.specs.Choose.{pick, pick-yes, pick-no, is-lt, not-lt, told-yes-not, told-no-not}
+use Rattle.laws.specs.Choose.{pick-yes, pick-no, is-lt, not-lt, told-yes-not, told-no-not}
 use Rattle.rules.specs.declared.edge.Edge.{Edge}
 use Rattle.rules.specs.declared.refusals.Found.{Found}
 use Rattle.rules.specs.declared.refusals.Found.the-variants.{At, Nothing}
 use Rattle.rules.specs.Refusals.{first, foundUnless}
 use Rattle.rules.specs.Record.{entryCount}
 use Rattle.scan.proofs.First.{first-more, first-found, first-end, found-unless, found-unless-not, at-first, at-not-nothing}
-use Rattle.compared.specs.declared.compare.Difference.{Difference}
-use Rattle.compared.specs.declared.compare.Difference.the-variants.{Equal, Edges, FirstGoesOn, SecondGoesOn}
+use Rattle.compared.specs.declared.beside.Difference.the-variants.{Equal, Edges, FirstGoesOn, SecondGoesOn}
 use Rattle.compared.specs.Compare.{sameNumbers, edgeOf, firstDifference, saidOf, differenceOf}
 
 -- ---- the search
@@ -46,13 +45,19 @@ unless-at false j e = cc
 
 module _ (a b : List ℕ) {r : Found} (sought : r ≡ firstDifference a b) where
   -- both records have the entry that was found
-  pub found-inside : {k : ℕ} → r ≡ At k → (k < entryCount a) × (k < entryCount b)
+  inside : {k : ℕ} → r ≡ At k → (k < entryCount a) × (k < entryCount b)
   unfolding firstDifference
-  found-inside {k} e =
+  inside {k} e =
       let f = at-first (apart a b) (min (entryCount a) (entryCount b)) k (sym sought ∙ e) in
       let here : f .0 ≡ k = unless-at _ (f .0) (f .2) in
       let below = f .1 in
       (omega arith, omega arith)
+
+  pub first-has : {k : ℕ} → r ≡ At k → k < entryCount a
+  first-has e = inside e .0
+
+  pub second-has : {k : ℕ} → r ≡ At k → k < entryCount b
+  second-has e = inside e .1
 
   pub edges-said : {k : ℕ} {e f : Edge} → r ≡ At k → e ≡ edgeOf a k → f ≡ edgeOf b k → Edges k e f ≡ differenceOf a b
   unfolding differenceOf saidOf

@@ -20,8 +20,7 @@ use Rattle.rules.specs.Record.{recordOf, edgesIn, entryCount}
 use Rattle.rules.specs.Replay.{recordCheck}
 use Rattle.scan.proofs.First.{nothing-all, all-nothing, unless-nothing}
 use Rattle.replay.proofs.Theorems.{write-checked}
-use Rattle.compared.specs.declared.compare.Difference.{Difference}
-use Rattle.compared.specs.declared.compare.Difference.the-variants.{Equal, Edges, FirstGoesOn, SecondGoesOn}
+use Rattle.compared.specs.declared.beside.Difference.the-variants.{Equal, FirstGoesOn, SecondGoesOn}
 use Rattle.compared.specs.Compare.{sameNumbers, edgeOf, firstDifference, saidOf, differenceOf}
 use Rattle.compared.proofs.Apart.{apart}
 
@@ -62,19 +61,20 @@ record Alike (a b : List ℕ) : Type 0 where
 
 -- what "equal" says
 equal-says : (a b : List ℕ) {n : ℕ} → differenceOf a b ≡ Equal n → Alike a b
-unfolding differenceOf
+unfolding differenceOf saidOf pick
 equal-says a b {n} h = go (firstDifference a b) refl h
   where
     counts : (s t : Bool) → ltb (entryCount b) (entryCount a) ≡ s → ltb (entryCount a) (entryCount b) ≡ t
         → pick s (FirstGoesOn (entryCount b) (edgeOf a (entryCount b))) (pick t (SecondGoesOn (entryCount a) (edgeOf b (entryCount a))) (Equal (entryCount a))) ≡ Equal n
         → entryCount a ≡ entryCount b
-    unfolding pick
     counts true t p q e = absurd (let z : _≡_ {A = ℕ} 0 1 = cc in omega arith)
     counts false true p q e = absurd (let z : _≡_ {A = ℕ} 0 1 = cc in omega arith)
-    counts false false p q e = let x = ltb-false _ _ p in let y = ltb-false _ _ q in omega arith
+    counts false false p q e =
+        let x : entryCount a ≤ entryCount b = ltb-false (entryCount b) (entryCount a) p in
+        let y : entryCount b ≤ entryCount a = ltb-false (entryCount a) (entryCount b) q in
+        omega arith
 
     go : (r : Found) → firstDifference a b ≡ r → saidOf a b r ≡ Equal n → Alike a b
-    unfolding saidOf
     go (At k) f e = absurd (let z : _≡_ {A = ℕ} 0 1 = cc in omega arith)
     go Nothing f e = record { counts = counts _ _ refl refl e; none = f }
 
@@ -93,16 +93,15 @@ module _ (a b : List ℕ) (good : recordCheck a ≡ Accepted) (other : recordChe
 
 -- and a record is called equal to itself
 pub equal-self : (a : List ℕ) → differenceOf a a ≡ Equal (entryCount a)
-unfolding differenceOf firstDifference saidOf pick
+unfolding differenceOf firstDifference saidOf pick foundUnless
 equal-self a =
     let none : first (min (entryCount a) (entryCount a)) (apart a a) ≡ Nothing = all-nothing (apart a a) _ (λ k h. same k) in
     rw none (go (ltb (entryCount a) (entryCount a)) refl)
   where
     same : (k : ℕ) → apart a a k ≡ Nothing
-    unfolding foundUnless
     same k = rw (same-self (edgeOf a k))
 
     go : (t : Bool) → ltb (entryCount a) (entryCount a) ≡ t
         → pick t (FirstGoesOn (entryCount a) (edgeOf a (entryCount a))) (pick t (SecondGoesOn (entryCount a) (edgeOf a (entryCount a))) (Equal (entryCount a))) ≡ Equal (entryCount a)
-    go true e = absurd (let h = ltb-true _ _ e in omega arith)
+    go true e = absurd (let h : entryCount a < entryCount a = ltb-true (entryCount a) (entryCount a) e in omega arith)
     go false e = refl

@@ -10,8 +10,8 @@ use Rattle.rules.specs.declared.refusals.Found.{Found}
 use Rattle.rules.specs.declared.refusals.Found.the-variants.{At, Nothing}
 use Rattle.rules.specs.Refusals.{first, foundUnless}
 use Rattle.rules.specs.Record.{edgeIn, entryAt, entryCount}
-use Rattle.compared.specs.declared.compare.Difference.{Difference}
-use Rattle.compared.specs.declared.compare.Difference.the-variants.{Equal, Edges, FirstGoesOn, SecondGoesOn}
+use Rattle.compared.specs.declared.beside.Difference.{Difference}
+use Rattle.compared.specs.declared.beside.Difference.the-variants.{Equal, Edges, FirstGoesOn, SecondGoesOn}
 
 unfoldable pub sameNumbers : Edge → Edge → Bool
 sameNumbers e f =

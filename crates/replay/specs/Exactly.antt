@@ -9,7 +9,6 @@ use Rattle.rules.specs.Numbers.{depthOk}
 use Rattle.rules.specs.Replay.{replaySizesOk, headerOk, cutEntry, badEntry, noRoomIn, overReplay}
 use Rattle.scan.specs.Exactly.{ask, seek, Check, check}
 
-
 abbrev pub entryTests : List ℕ → List Check
 entryTests bytes = check 12 (seek (cutEntry bytes)) ∷ check 13 (seek (badEntry bytes)) ∷ []
 
