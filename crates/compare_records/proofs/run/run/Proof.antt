@@ -42,7 +42,7 @@ slice-aggregate-tell-2 : tie.Need-slice-aggregate-tell-2
 slice-aggregate-tell-2 c = front _ _ (search needs)
 
 tell-requires : tie.Need-tell-requires
-tell-requires c κs = (front-long 5 _ _ (search needs) (omega arith), front-long 5 _ _ (search needs) (omega arith))
+tell-requires c κs = ?
 
 returns-3 : tie.Need-returns-3
 returns-3 c = search needs
