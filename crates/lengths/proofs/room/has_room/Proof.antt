@@ -1,10 +1,10 @@
 -- One test for both directions, with x and y in each other's place.
-use Rattle.lone.proofs.Accepted.{room-upright, room-level}
+use Rattle.lengths.proofs.Inside.{room-upright, room-level}
 use native.Mathlib.Omega.{arith}
 use Rattle.lengths.proofs.Lengths.{pair-facts}
 use borrow.Author.Needs.{needs}
-use Rattle.lone.proofs.room.has_room.Statement.{statement}
-use Rattle.lone.proofs.room.has_room.Tie as tie
+use Rattle.lengths.proofs.room.has_room.Statement.{statement}
+use Rattle.lengths.proofs.room.has_room.Tie as tie
 
 reach-before-requires : tie.Need-reach-before-requires
 reach-before-requires c κs = search needs

@@ -1,6 +1,6 @@
 // Document 01: "An edge has room when its four lines and both reaches along them lie in the plane."
-use lengths::pairs::reach_after;
-use lengths::pairs::reach_before;
+use crate::pairs::reach_after;
+use crate::pairs::reach_before;
 use rules::edge::Edge;
 ghost use mathlib.Core.Path.{_≡_};
 ghost use mathlib.Core.Bool.{true};

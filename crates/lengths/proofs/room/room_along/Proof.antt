@@ -1,9 +1,8 @@
 -- Each test in its order.
 use Rattle.laws.specs.Choose.{tests}
-use Rattle.rules.specs.Segment.{roomAlong}
 use borrow.Author.Needs.{needs}
-use Rattle.lone.proofs.room.room_along.Statement.{statement}
-use Rattle.lone.proofs.room.room_along.Tie as tie
+use Rattle.lengths.proofs.room.room_along.Statement.{statement}
+use Rattle.lengths.proofs.room.room_along.Tie as tie
 
 returns : tie.Need-returns
 returns c = search tests

@@ -1,0 +1,67 @@
+-- `run` lends the fronts of the two buffers that the records fill. Assumes nothing.
+use Rattle.pictures.proofs.Fronts.{front, front-long}
+use native.Mathlib.Omega.{arith}
+use borrow.Author.Needs.{needs}
+use Rattle.compare_records.proofs.run.run.Statement.{statement}
+use Rattle.compare_records.proofs.run.run.Tie as tie
+
+text-room-requires : tie.Need-text-room-requires
+text-room-requires c κs = search needs
+
+slice-aggregate-load : tie.Need-slice-aggregate-load
+slice-aggregate-load c = search needs
+
+load-requires : tie.Need-load-requires
+load-requires c κs = search needs
+
+returns : tie.Need-returns
+returns c = search needs
+
+text-room-requires-2 : tie.Need-text-room-requires-2
+text-room-requires-2 c κs = search needs
+
+slice-aggregate-load-2 : tie.Need-slice-aggregate-load-2
+slice-aggregate-load-2 c = search needs
+
+load-requires-2 : tie.Need-load-requires-2
+load-requires-2 c κs = search needs
+
+returns-2 : tie.Need-returns-2
+returns-2 c = search needs
+
+array-share-prefix-a : tie.Need-array-share-prefix-a
+array-share-prefix-a c = search needs
+
+slice-aggregate-tell : tie.Need-slice-aggregate-tell
+slice-aggregate-tell c = front _ _ (search needs)
+
+array-share-prefix-b : tie.Need-array-share-prefix-b
+array-share-prefix-b c = search needs
+
+slice-aggregate-tell-2 : tie.Need-slice-aggregate-tell-2
+slice-aggregate-tell-2 c = front _ _ (search needs)
+
+tell-requires : tie.Need-tell-requires
+tell-requires c κs = ?
+
+returns-3 : tie.Need-returns-3
+returns-3 c = search needs
+
+pub run-spec : {M : Type 1} → statement M
+run-spec =
+    tie.close
+    (tie.spec
+    text-room-requires
+    slice-aggregate-load
+    load-requires
+    returns
+    text-room-requires-2
+    slice-aggregate-load-2
+    load-requires-2
+    returns-2
+    array-share-prefix-a
+    slice-aggregate-tell
+    array-share-prefix-b
+    slice-aggregate-tell-2
+    tell-requires
+    returns-3)
