@@ -12,6 +12,7 @@ mod plane;
 mod random;
 mod record;
 mod refusals;
+mod replay;
 mod rust;
 mod segment;
 mod summary;
@@ -27,7 +28,7 @@ use std::io::{self, BufWriter, Write};
 use std::process::exit;
 use summary::Summary;
 
-const USAGE: &str = "oracle thresholds|segment|segment-limits|segment-window|plane|plane-bins|plane-record|grid|frame|frame-bins|ccso N SEED [--only accepted|refused], or: oracle differences";
+const USAGE: &str = "oracle thresholds|segment|segment-limits|segment-window|plane|plane-bins|plane-record|plane-replay|grid|frame|frame-bins|ccso N SEED [--only accepted|refused], or: oracle differences";
 
 fn part(name: &str) -> Option<Make> {
     match name {
@@ -38,6 +39,7 @@ fn part(name: &str) -> Option<Make> {
         "plane" => Some(plane::make),
         "plane-bins" => Some(plane::make_bins),
         "plane-record" => Some(record::make),
+        "plane-replay" => Some(replay::make),
         "grid" => Some(grid::make),
         "frame" => Some(frame::make),
         "frame-bins" => Some(frame::make_bins),

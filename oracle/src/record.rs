@@ -26,7 +26,7 @@ impl Entry {
 }
 
 /// The header and the entries.
-fn record(entries: &[Entry]) -> Vec<u8> {
+pub fn record(entries: &[Entry]) -> Vec<u8> {
     let mut bytes = b"EDG\x01\x00".to_vec();
     entries.iter().for_each(|e| bytes.extend(e.bytes()));
     bytes

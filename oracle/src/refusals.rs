@@ -198,12 +198,19 @@ impl Layout<'_> {
 }
 
 /// 8 over all of a plane's cells.
-fn plane_sample(plane: &[u16], cells: (u64, u64), stride: u64, depth: u64) -> Option<Refusal> {
+pub fn plane_sample(plane: &[u16], cells: (u64, u64), stride: u64, depth: u64) -> Option<Refusal> {
     refuse_at(8, too_large(plane, top(depth), rectangle(stride, 0..4 * cells.0, 0..4 * cells.1)))
 }
 
 fn bad_stride(stride: u64, mi_cols: u64) -> bool {
     outside(stride, 4 * mi_cols, 8192)
+}
+
+/// 1, 2 and 3 of a plane on which a record is run.
+pub fn replay_plane(cells: (u64, u64), stride: u64, bits: u64, plane: &[u16]) -> Option<Refusal> {
+    depth(bits)
+        .or_else(|| refuse(2, bad_cells(cells) || bad_stride(stride, cells.0)))
+        .or_else(|| refuse(3, short(plane, stride * 4 * cells.1)))
 }
 
 pub fn of_plane(c: &plane::Case) -> Option<Refusal> {

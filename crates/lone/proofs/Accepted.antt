@@ -1,32 +1,30 @@
 -- A lone segment's checks: what each that passed says, and the answer and plane at each way out.
 -- Assumes nothing.
-use mathlib.Core.Path.{_≡_, refl, sym, ap, _∙_}
+use mathlib.Core.Path.{_≡_, sym, ap, _∙_}
 use mathlib.Core.Bool.{Bool, true, false, not}
-use mathlib.Core.List.{List, [], _∷_}
+use mathlib.Core.List.{List}
 use Prim.Native.Nat.{ℕ, _+_, _-_, _*_, _≤_, _<_}
 use native.Mathlib.Nat.{mul-le-mul, mul-le-mul-right, add-mul}
 use native.Mathlib.Omega.{arith}
-use borrow.Author.Needs.{needs}
 use borrow.Author.Tests.{eq-eqb, ne-eqb, leb-true}
-use lib.Dec.{eqb, leb}
 use lib.ListN.{length}
-use Rattle.laws.specs.Choose.{all, all-parts, both-parts, is-le, told-yes-not}
+use Rattle.laws.specs.Choose.{all-parts, is-le, told-yes-not}
 use Rattle.rules.specs.declared.edge.Edge.{Edge}
 use Rattle.rules.specs.declared.settings.Lone.{Lone}
 use Rattle.rules.specs.declared.refusals.Refusal.{Refusal}
 use Rattle.rules.specs.declared.refusals.Answer.{Answer}
 use Rattle.rules.specs.declared.refusals.Answer.the-variants.{Accepted, Refused}
-use Rattle.rules.specs.declared.refusals.Width.{Width}
 use Rattle.rules.specs.declared.refusals.Width.the-variants.{Samples, Refused as «NoWidth»}
 use Rattle.rules.specs.declared.refusals.Found.{Found}
 use Rattle.rules.specs.declared.refusals.Found.the-variants.{Nothing}
-use Rattle.rules.specs.declared.refusals.Refusal.the-variants.{Depth, Size, Length, Setting, Room, Sample}
-use Rattle.rules.specs.Numbers.{depthOk, topOf, inRange}
-use Rattle.rules.specs.Refusals.{orElse, unless, found, settle, overBox}
+use Rattle.rules.specs.declared.refusals.Refusal.the-variants.{Setting, Room, Sample}
+use Rattle.rules.specs.Numbers.{depthOk, topOf}
+use Rattle.rules.specs.Refusals.{orElse, unless, found, overBox}
 use Rattle.rules.specs.Lengths.{reachBefore, reachAfter}
-use Rattle.rules.specs.Segment.{roomAlong, hasRoom, widthAt, segmentOf}
+use Rattle.rules.specs.Segment.{rangesOk, hasRoom, widthAt, segmentOf}
 use Rattle.rules.specs.Lone.{edgeOf, sizesOk, settingsOk, overEdge, loneCheck, lonePlane, answerWidth, loneWidth}
-use Rattle.lengths.proofs.Lengths.{PairFacts, pair-facts}
+use Rattle.lengths.proofs.Lengths.{pair-facts}
+use Rattle.lengths.proofs.Inside.{ranges-are}
 use Rattle.scan.specs.Rows.{Box}
 use Rattle.scan.proofs.Rows.{box-inner}
 use Rattle.scan.proofs.Ranges.{in-range}
@@ -55,40 +53,18 @@ sizes-are s h =
     let z = in-range (s .columns) 8192 (s .stride) (r .0) in
     record { columns-some = x .0; columns-most = x .1; rows-some = y .0; rows-most = y .1; row = z .0; stride-most = z .1 }
 
+pub pair-below : (e : Edge) → true ≡ rangesOk e → e .pair < 8
+pair-below e h = let y = ranges-are e (sym h) in omega arith
+
 pub product-most : (s : Lone) → true ≡ sizesOk s → s .rows * s .stride ≤ 33554432
 product-most s h = let z = sizes-are s h in mul-le-mul (z .rows-most) (z .stride-most)
 
-pub record Settings (s : Lone) : Type 0 where
-  pub q-most : s .q ≤ 2048
-  pub side-most : s .side ≤ 839
-  pub pair-most : s .pair ≤ 7
-  pub dir-most : s .dir ≤ 1
-
-pub settings-are : (s : Lone) → true ≡ settingsOk s → Settings s
-unfolding settingsOk
-settings-are s h =
-    let p = all-parts _ _ (sym h) in
-    let q = all-parts _ _ (p .1) in
-    let r = all-parts _ _ (q .1) in
-    let t = all-parts _ _ (r .1) in
-    record { q-most = leb-true (s .q) 2048 (p .0); side-most = leb-true (s .side) 839 (q .0); pair-most = leb-true (s .pair) 7 (r .0); dir-most = leb-true (s .dir) 1 (t .0) }
-
-pub in-plane : (s : Lone) {e : Edge} {size : ℕ} → true ≡ sizesOk s → s .rows * s .stride ≤ size → true ≡ settingsOk s → e ≡ edgeOf s → true ≡ hasRoom (s .columns) (s .rows) e
+pub in-plane : (s : Lone) {e : Edge} {size : ℕ} → true ≡ sizesOk s → s .rows * s .stride ≤ size → true ≡ rangesOk e → true ≡ hasRoom (s .columns) (s .rows) e
     → InPlane (s .stride) (s .columns) (s .rows) e size
-unfolding edgeOf
-in-plane s h k l q r =
+in-plane s {e} h k l r =
     let x = sizes-are s h in
-    let y = settings-are s l in
-    record { pair-is = rw q (omega arith); q-most = rw q (y .q-most); side-most = rw q (y .side-most); row = x .row; plane = k; room = sym r }
-
--- ---- room
-pub room-upright : (columns rows b a : ℕ) (e : Edge) {r : Bool} → e .dir ≡ 0 → b ≡ reachBefore (e .pair) → a ≡ reachAfter (e .pair) → r ≡ roomAlong true columns rows (e .x) (e .y) b a → r ≡ hasRoom columns rows e
-unfolding hasRoom
-room-upright columns rows b a e d p q h = rw (eq-eqb _ _ d, ← p, ← q) h
-
-pub room-level : (columns rows b a : ℕ) (e : Edge) {r : Bool} → (e .dir ≡ 0 → ⊥) → b ≡ reachBefore (e .pair) → a ≡ reachAfter (e .pair) → r ≡ roomAlong true rows columns (e .y) (e .x) b a → r ≡ hasRoom columns rows e
-unfolding hasRoom
-room-level columns rows b a e d p q h = rw (ne-eqb _ _ d, ← p, ← q) h
+    let y = ranges-are e (sym l) in
+    record { pair-is = pair-below e l; q-most = y .q-most; side-most = y .side-most; row = x .row; plane = k; room = sym r }
 
 -- ---- the samples within the reach
 module _ {stride columns rows size : ℕ} {e : Edge} (h : InPlane stride columns rows e size) (b a : ℕ) (hb : b ≡ reachBefore (e .pair)) (ha : a ≡ reachAfter (e .pair)) where
@@ -136,6 +112,14 @@ pub record Passed (s : Lone) (l : List ℕ) : Type 0 where
   pub inside : InPlane (s .stride) (s .columns) (s .rows) (edgeOf s) (length l)
   pub clean : overEdge (topOf (s .depth)) (s .stride) (edgeOf s) l ≡ Nothing
 
+ranges-of : (s : Lone) → settingsOk s ≡ true → rangesOk (edgeOf s) ≡ true
+unfolding settingsOk
+ranges-of s h = h
+
+dir-of : (s : Lone) → settingsOk s ≡ true → s .dir ≤ 1
+unfolding edgeOf
+dir-of s h = ranges-are (edgeOf s) (ranges-of s h) .dir-most
+
 pub passed : (s : Lone) (l : List ℕ) → loneCheck s l ≡ Accepted → Passed s l
 unfolding loneCheck
 passed s l h =
@@ -150,8 +134,8 @@ passed s l h =
     let room = unless-true _ _ (e .0) in
     record {
       depth-ok = unless-true _ _ (a .0);
-      dir-most = settings-are s (sym settings) .dir-most;
-      inside = in-plane s (sym sizes) long (sym settings) refl (sym room);
+      dir-most = dir-of s settings;
+      inside = in-plane s (sym sizes) long (sym (ranges-of s settings)) (sym room);
       clean = found-nothing _ _ (e .1);
     }
 
@@ -176,20 +160,21 @@ module _ (s : Lone) (l : List ℕ) (a : Answer) (h : a ≡ loneCheck s l) where
 pub sure : (t u : Bool) → u ≡ t → not u ≡ false → t ≡ true
 sure t u e f = sym (told-yes-not t u e f)
 
-pub pair-below : (s : Lone) {e : Edge} → true ≡ settingsOk s → e ≡ edgeOf s → e .pair < 8
-unfolding edgeOf
-pair-below s h q = let y = settings-are s h in rw q (omega arith)
+-- the last three checks, after those that passed
+module _ (s : Lone) (l : List ℕ) {e : Edge} (d : true ≡ depthOk (s .depth)) (z : true ≡ sizesOk s) (p : s .rows * s .stride ≤ length l) (q : e ≡ edgeOf s) where
+  later : {b : Answer}
+      → b ≡ orElse (unless (rangesOk e) Setting) (orElse (unless (hasRoom (s .columns) (s .rows) e) (Room 0)) (found (overEdge (topOf (s .depth)) (s .stride) e l) Sample))
+      → b ≡ loneCheck s l
+  unfolding loneCheck settingsOk
+  later h = go-on _ _ _ (unless-good _ _ d) (go-on _ _ _ (unless-good _ _ z) (go-on _ _ _ (unless-good _ _ (is-le _ _ p)) (rw q at h)))
 
--- the last two checks, after those that passed
-module _ (s : Lone) (l : List ℕ) {e : Edge} (d : true ≡ depthOk (s .depth)) (z : true ≡ sizesOk s) (p : s .rows * s .stride ≤ length l) (t : true ≡ settingsOk s) (q : e ≡ edgeOf s) where
-  later : {b : Answer} → b ≡ orElse (unless (hasRoom (s .columns) (s .rows) (edgeOf s)) (Room 0)) (found (overEdge (topOf (s .depth)) (s .stride) (edgeOf s) l) Sample) → b ≡ loneCheck s l
-  unfolding loneCheck
-  later h = go-on _ _ _ (unless-good _ _ d) (go-on _ _ _ (unless-good _ _ z) (go-on _ _ _ (unless-good _ _ (is-le _ _ p)) (go-on _ _ _ (unless-good _ _ t) h)))
+  pub ranges-refused : false ≡ rangesOk e → Refused Setting ≡ loneCheck s l
+  ranges-refused h = later (stop _ _ (unless-bad _ _ h))
 
-  pub room-refused : false ≡ hasRoom (s .columns) (s .rows) e → Refused (Room 0) ≡ loneCheck s l
-  room-refused h = later (stop _ _ (unless-bad _ _ (rw q at h)))
+  pub room-refused : true ≡ rangesOk e → false ≡ hasRoom (s .columns) (s .rows) e → Refused (Room 0) ≡ loneCheck s l
+  room-refused t h = later (go-on _ _ _ (unless-good _ _ t) (stop _ _ (unless-bad _ _ h)))
 
-  pub room-passed : {top : ℕ} {a : Answer} → true ≡ hasRoom (s .columns) (s .rows) e → top ≡ topOf (s .depth) → a ≡ found (overEdge top (s .stride) e l) Sample → a ≡ loneCheck s l
-  room-passed {top} {a} h k r =
-      let x : a ≡ found (overEdge (topOf (s .depth)) (s .stride) (edgeOf s) l) Sample = cc in
-      later (go-on _ _ _ (unless-good _ _ (rw q at h)) x)
+  pub room-passed : {top : ℕ} {a : Answer} → true ≡ rangesOk e → true ≡ hasRoom (s .columns) (s .rows) e → top ≡ topOf (s .depth) → a ≡ found (overEdge top (s .stride) e l) Sample → a ≡ loneCheck s l
+  room-passed {top} {a} t h k r =
+      let x : a ≡ found (overEdge (topOf (s .depth)) (s .stride) e l) Sample = cc in
+      later (go-on _ _ _ (unless-good _ _ t) (go-on _ _ _ (unless-good _ _ h) x))

@@ -1,7 +1,8 @@
 // A segment alone: any numbers and any plane, the checks of document 01 in their order, and the edge where they all pass.
-use super::room::has_room;
 use lengths::pairs::reach_after;
 use lengths::pairs::reach_before;
+use lengths::ranges::ranges_ok;
+use lengths::room::has_room;
 use rules::depth::Depth;
 use rules::edge::Edge;
 use rules::refusals::Answer;
@@ -15,10 +16,9 @@ use segment::filter_edge;
 ghost use mathlib.Core.Path.{_≡_};
 ghost use Prim.Native.Nat.{_≤_};
 ghost use lib.ListN.{length};
-ghost use Rattle.rules.specs.Numbers.{topOf};
 ghost use Rattle.rules.specs.Refusals.{found};
 ghost use Rattle.rules.specs.declared.refusals.Refusal.the-variants.{Sample};
-ghost use Rattle.rules.specs.Lone.{edgeOf, sizesOk, settingsOk, overEdge, loneCheck, lonePlane, loneWidth};
+ghost use Rattle.rules.specs.Lone.{edgeOf, sizesOk, overEdge, loneCheck, lonePlane, loneWidth};
 ghost use Rattle.segment.specs.Fit.{InPlane};
 
 fn sizes_ok(s: Lone) -> bool
@@ -31,21 +31,6 @@ fn sizes_ok(s: Lone) -> bool
         return false;
     }
     in_range(s.columns, 8192, s.stride)
-}
-
-fn settings_ok(s: Lone) -> bool
-    ensures { λ r. ⌜ r ≡ settingsOk s ⌝ }
-{
-    if 2048 < s.q {
-        return false;
-    }
-    if 839 < s.side {
-        return false;
-    }
-    if 7 < s.pair {
-        return false;
-    }
-    s.dir <= 1
 }
 
 fn edge_of(s: Lone) -> Edge
@@ -105,10 +90,10 @@ fn lone_check(plane: &[u16], s: Lone) -> Answer
     if plane.len() < s.rows * s.stride {
         return Answer::Refused(Refusal::Length);
     }
-    if !settings_ok(s) {
+    let e = edge_of(s);
+    if !ranges_ok(e) {
         return Answer::Refused(Refusal::Setting);
     }
-    let e = edge_of(s);
     if !has_room(s.columns, s.rows, e) {
         return Answer::Refused(Refusal::Room(0));
     }

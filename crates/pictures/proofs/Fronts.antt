@@ -8,3 +8,7 @@ use lib.ListN.{length, take, length-take}
 
 pub front : {A : Type 0} (n : ℕ) (xs : List A) → n ≤ length xs → n ≡ length (take n xs)
 front n xs h = omega (arith, length-take n xs)
+
+-- a front as long as asked
+pub front-long : {A : Type 0} (k n : ℕ) (xs : List A) → n ≤ length xs → k ≤ n → k ≤ length (take n xs)
+front-long k n xs h m = omega (arith, length-take n xs)

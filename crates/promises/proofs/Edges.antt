@@ -18,51 +18,50 @@ use Rattle.segment.specs.Fit.{InPlane}
 use Rattle.segment.proofs.Demand.{demand-3, edge-kept}
 use Rattle.segment.proofs.Local.{Untouched, run-frame}
 use Rattle.plane.specs.Checked.{Stated}
-use Rattle.plane.proofs.Runs.{stepOf}
 use Rattle.plane.proofs.Samples.{run-length}
 use Rattle.plane.proofs.Everywhere.{every-edge}
-use Rattle.promises.specs.Edges.{leftBy, Promised, EachPromised, Spared}
+use Rattle.promises.specs.Edges.{Promised, EachEdge, SparedBy, leftBy, EachPromised, Spared}
 
 -- ---- any list of edges
 
-module _ (s : Plane) where
+module _ (top stride : ℕ) where
   -- one more edge
-  left-more : (before : List Edge) (e : Edge) (l : List ℕ) → leftBy s (before ++ (e ∷ [])) l ≡ segmentOf (topOf (s .depth)) (s .stride) e (leftBy s before l)
+  left-more : (before : List Edge) (e : Edge) (l : List ℕ) → runEdges top stride (before ++ (e ∷ [])) l ≡ segmentOf top stride e (runEdges top stride before l)
   unfolding runEdges
-  left-more before e l = run-append (stepOf s) before (e ∷ []) l
+  left-more before e l = run-append (segmentOf top stride) before (e ∷ []) l
 
   -- an edge that has room, on whatever plane it finds
-  edge-promised : (columns rows : ℕ) (e : Edge) (found : List ℕ) → InPlane (s .stride) columns rows e (length found) → Promised s e found (segmentOf (topOf (s .depth)) (s .stride) e found)
+  edge-promised : (columns rows : ℕ) (e : Edge) (found : List ℕ) → InPlane stride columns rows e (length found) → Promised top stride e found (segmentOf top stride e found)
   edge-promised columns rows e found h = record {
-    near = demand-3 (topOf (s .depth)) (s .stride) e found h;
-    kept = edge-kept (topOf (s .depth)) (s .stride) e found;
+    near = demand-3 top stride e found h;
+    kept = edge-kept top stride e found;
   }
 
-  pub edges-promised : (columns rows : ℕ) (es : List Edge) (l : List ℕ) → Each (λ e. InPlane (s .stride) columns rows e (length l)) es → EachPromised s es l
+  pub edges-promised : (columns rows : ℕ) (es : List Edge) (l : List ℕ) → Each (λ e. InPlane stride columns rows e (length l)) es → EachEdge top stride es l
   edges-promised columns rows es l h = record {
     each-edge = λ before after e q.
-        let here : InPlane (s .stride) columns rows e (length l) = each-right (λ e. InPlane (s .stride) columns rows e (length l)) before (e ∷ after) (rw q at h) .0 in
-        rw (left-more before e l) (edge-promised columns rows e (leftBy s before l) (rw (run-length (topOf (s .depth)) (s .stride) before l) here));
+        let here : InPlane stride columns rows e (length l) = each-right (λ e. InPlane stride columns rows e (length l)) before (e ∷ after) (rw q at h) .0 in
+        rw (left-more before e l) (edge-promised columns rows e (runEdges top stride before l) (rw (run-length top stride before l) here));
   }
 
   -- an edge less at the front
-  spared-rest : (e : Edge) (es : List Edge) (l : List ℕ) (i : ℕ) → Spared s (e ∷ es) l i → Spared s es (segmentOf (topOf (s .depth)) (s .stride) e l) i
+  spared-rest : (e : Edge) (es : List Edge) (l : List ℕ) (i : ℕ) → SparedBy top stride (e ∷ es) l i → SparedBy top stride es (segmentOf top stride e l) i
   unfolding runEdges
   spared-rest e es l i h = record { outside = λ before after f q. h .outside (e ∷ before) after f (ap (λ (xs : List Edge). e ∷ xs) q) }
 
-  pub spared-kept : (es : List Edge) (l : List ℕ) (i : ℕ) → Spared s es l i → getD (leftBy s es l) i 0 ≡ getD l i 0
+  pub spared-kept : (es : List Edge) (l : List ℕ) (i : ℕ) → SparedBy top stride es l i → getD (runEdges top stride es l) i 0 ≡ getD l i 0
   unfolding runEdges
   spared-kept [] l i h = refl
   spared-kept (e ∷ es) l i h =
-      spared-kept es (segmentOf (topOf (s .depth)) (s .stride) e l) i (spared-rest e es l i h)
-      ∙ edge-kept (topOf (s .depth)) (s .stride) e l i (h .outside [] es e refl)
+      spared-kept es (segmentOf top stride e l) i (spared-rest e es l i h)
+      ∙ edge-kept top stride e l i (h .outside [] es e refl)
 
 -- ---- a plane
 
 module _ (s : Plane) (steps : List ℕ) (g : Grid) (l : List ℕ) where
   -- every edge of an accepted plane
   pub plane-demand-3 : planeCheck s steps g l ≡ Accepted → EachPromised s (edgesOf s steps g) l
-  plane-demand-3 ok = edges-promised s (4 * s .cols) (4 * s .rows) (edgesOf s steps g) l (every-edge s steps g l ok)
+  plane-demand-3 ok = edges-promised (topOf (s .depth)) (s .stride) (4 * s .cols) (4 * s .rows) (edgesOf s steps g) l (every-edge s steps g l ok)
 
   -- the plane afterwards, accepted or refused
   pub plane-kept : (i : ℕ) → Spared s (edgesOf s steps g) l i → getD (planeAfter s steps g l) i 0 ≡ getD l i 0
@@ -70,7 +69,7 @@ module _ (s : Plane) (steps : List ℕ) (g : Grid) (l : List ℕ) where
   plane-kept i h = go (planeCheck s steps g l)
     where
       go : (a : Answer) → getD (settle a l (runPlane s steps g l)) i 0 ≡ getD l i 0
-      go Accepted = spared-kept s (edgesOf s steps g) l i h
+      go Accepted = spared-kept (topOf (s .depth)) (s .stride) (edgesOf s steps g) l i h
       go (Refused r) = refl
 
   -- by the boxes alone: N samples before and P after each marked edge, whatever its samples

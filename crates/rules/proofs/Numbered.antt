@@ -3,7 +3,7 @@
 use Prim.Native.Nat.{_≤_}
 use native.Mathlib.Omega.{arith}
 use Rattle.rules.specs.declared.refusals.Refusal.{Refusal}
-use Rattle.rules.specs.declared.refusals.Refusal.the-variants.{Depth, Size, Length, Steps, Setting, Cell, Room, Sample, Leaf, Buffer}
+use Rattle.rules.specs.declared.refusals.Refusal.the-variants.{Depth, Size, Length, Steps, Setting, Cell, Room, Sample, Leaf, Buffer, Header, Cut, Entry}
 use Rattle.rules.specs.Refusals.{numberOf}
 
 pub number-most : (r : Refusal) → numberOf r ≤ 255
@@ -17,3 +17,6 @@ number-most (Room k) = omega arith
 number-most (Sample k) = omega arith
 number-most (Leaf k) = omega arith
 number-most Buffer = omega arith
+number-most Header = omega arith
+number-most (Cut k) = omega arith
+number-most (Entry k) = omega arith

@@ -10,6 +10,7 @@ pub mod Segment
 pub mod Lone
 pub mod Plane
 pub mod Record
+pub mod Replay
 pub mod TuGrid
 pub mod QindexGrid
 pub mod Frame

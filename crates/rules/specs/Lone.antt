@@ -5,7 +5,7 @@ use mathlib.Core.List.{List, [], _∷_}
 use Prim.Native.Nat.{ℕ, _+_, _*_, _-_}
 use lib.Dec.{eqb, leb}
 use lib.ListN.{length}
-use Rattle.laws.specs.Choose.{pick, all}
+use Rattle.laws.specs.Choose.{all}
 use Rattle.rules.specs.declared.edge.Edge.{Edge}
 use Rattle.rules.specs.declared.settings.Lone.{Lone}
 use Rattle.rules.specs.declared.refusals.Refusal.the-variants.{Depth, Size, Length, Setting, Room, Sample}
@@ -17,7 +17,7 @@ use Rattle.rules.specs.declared.refusals.Found.{Found}
 use Rattle.rules.specs.Numbers.{depthOk, topOf, inRange}
 use Rattle.rules.specs.Refusals.{orElse, unless, found, settle, overBox}
 use Rattle.rules.specs.Lengths.{reachBefore, reachAfter}
-use Rattle.rules.specs.Segment.{hasRoom, widthAt, segmentOf}
+use Rattle.rules.specs.Segment.{rangesOk, hasRoom, widthAt, segmentOf}
 
 unfoldable pub edgeOf : Lone → Edge
 edgeOf s = record { x = s .x; y = s .y; dir = s .dir; pair = s .pair; q = s .q; side = s .side }
@@ -26,9 +26,9 @@ edgeOf s = record { x = s .x; y = s .y; dir = s .dir; pair = s .pair; q = s .q; 
 unfoldable pub sizesOk : Lone → Bool
 sizesOk s = all (inRange 1 4096 (s .columns) ∷ inRange 1 4096 (s .rows) ∷ inRange (s .columns) 8192 (s .stride) ∷ [])
 
--- "q 0..2048, side 0..839, pair number 0..7, direction 0 (vertical edge) or 1 (horizontal)"
+-- the segment's own numbers are within document 01's ranges
 unfoldable pub settingsOk : Lone → Bool
-settingsOk s = all (leb (s .q) 2048 ∷ leb (s .side) 839 ∷ leb (s .pair) 7 ∷ leb (s .dir) 1 ∷ [])
+settingsOk s = rangesOk (edgeOf s)
 
 -- "for a segment, at its reach on four lines", row by row over the plane
 abbrev pub overReach : Bool → ℕ → ℕ → List ℕ → ℕ → ℕ → ℕ → ℕ → Found

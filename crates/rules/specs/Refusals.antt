@@ -6,7 +6,7 @@ use mathlib.Core.List.{List}
 use lib.ListN.{getD}
 use lib.Dec.{ltb}
 use Rattle.rules.specs.declared.refusals.Refusal.{Refusal}
-use Rattle.rules.specs.declared.refusals.Refusal.the-variants.{Depth, Size, Length, Steps, Setting, Cell, Room, Sample, Leaf, Buffer}
+use Rattle.rules.specs.declared.refusals.Refusal.the-variants.{Depth, Size, Length, Steps, Setting, Cell, Room, Sample, Leaf, Buffer, Header, Cut, Entry}
 use Rattle.rules.specs.declared.refusals.Answer.{Answer}
 use Rattle.rules.specs.declared.refusals.Answer.the-variants.{Accepted, Refused}
 use Rattle.rules.specs.declared.refusals.Found.{Found}
@@ -25,6 +25,10 @@ numberOf (Sample k) = 8
 numberOf (Leaf k) = 9
 -- ticket 1: "10, room less than 5 + 10 times the marked edges"
 numberOf Buffer = 10
+-- ticket 2: "11 mark, version or fewer than 5 bytes, 12 a cut entry and 13 an entry outside 01's ranges"
+numberOf Header = 11
+numberOf (Cut k) = 12
+numberOf (Entry k) = 13
 
 -- the table's last column
 abbrev pub placeOf : Refusal → ℕ
@@ -39,6 +43,10 @@ placeOf (Sample k) = k
 placeOf (Leaf k) = k
 -- "any place that a ticket leaves unnamed, is 0"
 placeOf Buffer = 0
+placeOf Header = 0
+-- "each with its number"
+placeOf (Cut k) = k
+placeOf (Entry k) = k
 
 -- ---- checks, one after the other
 

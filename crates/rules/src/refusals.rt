@@ -14,6 +14,9 @@ pub enum Refusal {
     Sample(usize),
     Leaf(usize),
     Buffer,
+    Header,
+    Cut(usize),
+    Entry(usize),
 }
 
 // What a check, or an entry that gives back nothing but the lent lists, answers.
@@ -61,6 +64,9 @@ pub fn number(r: Refusal) -> u32
         Refusal::Sample(_) => 8,
         Refusal::Leaf(_) => 9,
         Refusal::Buffer => 10,
+        Refusal::Header => 11,
+        Refusal::Cut(_) => 12,
+        Refusal::Entry(_) => 13,
     }
 }
 
@@ -74,10 +80,13 @@ pub fn place(r: Refusal) -> usize
         Refusal::Room(k) => k,
         Refusal::Sample(k) => k,
         Refusal::Leaf(k) => k,
+        Refusal::Cut(k) => k,
+        Refusal::Entry(k) => k,
         Refusal::Depth => 0,
         Refusal::Size => 0,
         Refusal::Length => 0,
         Refusal::Setting => 0,
         Refusal::Buffer => 0,
+        Refusal::Header => 0,
     }
 }

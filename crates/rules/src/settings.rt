@@ -29,6 +29,14 @@ pub struct Plane {
     pub deltaside: i32,
 }
 
+// A record to be run again: the plane's cells each way, its stride and its depth.
+pub struct Replay {
+    pub cols: usize,
+    pub rows: usize,
+    pub stride: usize,
+    pub depth: u32,
+}
+
 // A TU grid: cells each way, subsampling, and the largest TU in cells.
 pub struct TuGrid {
     pub cols: usize,

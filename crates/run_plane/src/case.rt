@@ -48,7 +48,7 @@ fn settings(text: &[u8], c: Cursor) -> Asked {
 }
 
 // Whether the plane is the stream's: the new one of an accepted case, the lent one of a refused case.
-fn held(text: &[u8], lent: Cursor, told: Told, plane: &[u16]) -> bool {
+pub fn held(text: &[u8], lent: Cursor, told: Told, plane: &[u16]) -> bool {
     if told.number == 0 {
         let new = cases::hold_u16s(text, told.rest, plane);
         return new.same && cases::ended(new.rest);

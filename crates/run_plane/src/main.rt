@@ -1,7 +1,10 @@
-// Replays a stream of planes and recorded planes, and prints one line: how many there were, how they came out, and how many differ.
+// Replays a stream of planes, recorded planes and records, and prints one line: how many there were, how they came out, and how many differ.
 
 // one plane of the stream, recorded or not
 mod case;
+
+// one record that is run again
+mod again;
 
 ghost use mathlib.Core.Path.{_≡_};
 ghost use lib.ListN.{length};
@@ -19,19 +22,25 @@ fn room() -> [u8; 1048576] {
     [0; 1048576]
 }
 
-// A line: 1 sets the step table, 2 is a plane, 3 a recorded plane.
+// A line: 1 sets the step table, 2 is a plane, 3 a recorded plane, 4 a record that is run again.
 fn replay(text: &[u8], c: Cursor, steps: &mut [u32], before: Run) -> Run
     ensures { λ r. ⌜ length (now (steps .exit)) ≡ length (now (steps .entry)) ⌝ }
 {
     let t = before.tally;
     let n = before.steps;
-    let kind = cases::read_unsigned(text, c, 3);
+    let kind = cases::read_unsigned(text, c, 4);
     let rest = kind.rest;
     if kind.value == 1 {
         let table = cases::set_steps(text, rest, steps);
         return Run {
             tally: tally::no_case(t, table.whole),
             steps: table.length,
+        };
+    }
+    if kind.value == 4 {
+        return Run {
+            tally: again::replay(text, rest, t),
+            steps: n,
         };
     }
     if kind.value == 0 || steps.len() < n {

@@ -1,6 +1,6 @@
 -- The table that stands is the front of the lent list. Assumes nothing.
-use borrow.Author.Needs.{needs}
 use Rattle.laws.specs.Lists.{front}
+use borrow.Author.Needs.{needs}
 use Rattle.run_plane.proofs.replay.Statement.{statement}
 use Rattle.run_plane.proofs.replay.Tie as tie
 
@@ -19,11 +19,17 @@ same-length c = search needs
 returns : tie.Need-returns
 returns c = search needs
 
-unread-requires : tie.Need-unread-requires
-unread-requires c κs = search needs
+replay-requires : tie.Need-replay-requires
+replay-requires c κs = search needs
 
 returns-2 : tie.Need-returns-2
 returns-2 c = search needs
+
+unread-requires : tie.Need-unread-requires
+unread-requires c κs = search needs
+
+returns-3 : tie.Need-returns-3
+returns-3 c = search needs
 
 slice-reshare-prefix-replay : tie.Need-slice-reshare-prefix-replay
 slice-reshare-prefix-replay c = search needs
@@ -31,14 +37,14 @@ slice-reshare-prefix-replay c = search needs
 slice-aggregate-replay : tie.Need-slice-aggregate-replay
 slice-aggregate-replay c = front _ _ (search needs)
 
-replay-requires : tie.Need-replay-requires
-replay-requires c κs = search needs
+replay-requires-2 : tie.Need-replay-requires-2
+replay-requires-2 c κs = search needs
 
 same-length-2 : tie.Need-same-length-2
 same-length-2 c = search needs
 
-returns-3 : tie.Need-returns-3
-returns-3 c = search needs
+returns-4 : tie.Need-returns-4
+returns-4 c = search needs
 
 pub replay-spec : {M : Type 1} → statement M
 replay-spec =
@@ -49,10 +55,12 @@ replay-spec =
     no-case-requires
     same-length
     returns
-    unread-requires
+    replay-requires
     returns-2
+    unread-requires
+    returns-3
     slice-reshare-prefix-replay
     slice-aggregate-replay
-    replay-requires
+    replay-requires-2
     same-length-2
-    returns-3)
+    returns-4)

@@ -1,0 +1,145 @@
+-- The checks of a record and its plane: the answer at each way out of the code, and what the entry states of it.
+-- Assumes nothing.
+use mathlib.Core.Path.{_≡_, refl, sym, ap, _∙_}
+use mathlib.Core.Bool.{true, false}
+use mathlib.Core.List.{List}
+use Prim.Native.Nat.{ℕ, _*_, _≤_}
+use borrow.Author.Tests.{leb-true}
+use lib.ListN.{length}
+use Rattle.laws.specs.Choose.{is-le}
+use Rattle.rules.specs.declared.settings.Replay.{Replay}
+use Rattle.rules.specs.declared.refusals.Refusal.{Refusal}
+use Rattle.rules.specs.declared.refusals.Refusal.the-variants.{Header, Cut, Entry, Room, Sample}
+use Rattle.rules.specs.declared.refusals.Answer.{Answer}
+use Rattle.rules.specs.declared.refusals.Answer.the-variants.{Accepted, Refused}
+use Rattle.rules.specs.declared.refusals.Found.{Found}
+use Rattle.rules.specs.declared.refusals.Found.the-variants.{At, Nothing}
+use Rattle.rules.specs.Numbers.{depthOk, topOf}
+use Rattle.rules.specs.Refusals.{orElse, found, overBox}
+use Rattle.rules.specs.Replay.{replaySizesOk, headerOk, cutEntry, badEntry, noRoomIn, overReplay, recordCheck, replayCheck, replayOf, replayAfter}
+use Rattle.scan.proofs.Checks.{stop, stop-by, go-on, go-on-by, unless-bad, unless-good, found-bad, found-good, found-bad-by, found-good-by, settle-refused, settle-accepted, else-parts, unless-true, found-nothing}
+use Rattle.replay.specs.Fit.{Ranged, Roomy, roomCheck, Runnable, Replayed}
+use Rattle.replay.proofs.Entries.{sized-of, header-there}
+
+-- ---- the record's own checks
+
+module _ (bytes : List ℕ) where
+  pub header-refused : false ≡ headerOk bytes → Refused Header ≡ recordCheck bytes
+  unfolding recordCheck
+  header-refused h = stop _ _ (unless-bad _ _ h)
+
+  module _ (h : true ≡ headerOk bytes) where
+    pub cut-refused : {n : ℕ} → At n ≡ cutEntry bytes → Refused (Cut n) ≡ recordCheck bytes
+    unfolding recordCheck
+    cut-refused c = go-on _ _ _ (unless-good _ _ h) (stop _ _ (found-bad _ _ _ c refl))
+
+    module _ (w : Nothing ≡ cutEntry bytes) {f : Found} (asked : f ≡ badEntry bytes) where
+      last : {a : Answer} → a ≡ found (badEntry bytes) Entry → a ≡ recordCheck bytes
+      unfolding recordCheck
+      last e = go-on _ _ _ (unless-good _ _ h) (go-on _ _ _ (found-good _ _ w) e)
+
+      pub entry-refused : {k : ℕ} → f ≡ At k → Refused (Entry k) ≡ recordCheck bytes
+      entry-refused e = last (found-bad-by _ _ _ _ asked e refl)
+
+      pub record-passed : f ≡ Nothing → Accepted ≡ recordCheck bytes
+      record-passed e = last (found-good-by _ _ _ asked e)
+
+-- what they say
+pub record Own (bytes : List ℕ) : Type 0 where
+  pub header : headerOk bytes ≡ true
+  pub whole : cutEntry bytes ≡ Nothing
+  pub ranged : Ranged bytes
+
+pub own : (bytes : List ℕ) → recordCheck bytes ≡ Accepted → Own bytes
+unfolding recordCheck
+own bytes h =
+    let a = else-parts _ _ h in
+    let b = else-parts _ _ (a .1) in
+    let there = unless-true _ _ (a .0) in
+    record {
+      header = there;
+      whole = found-nothing _ _ (b .0);
+      ranged = record { header-there = header-there bytes (sym there); entries-ok = found-nothing _ _ (b .1) };
+    }
+
+-- ---- 7 and 8
+
+module _ (s : Replay) (bytes l : List ℕ) {f : Found} (sought : f ≡ noRoomIn s bytes) where
+  pub room-refused : {k : ℕ} → f ≡ At k → Refused (Room k) ≡ roomCheck s bytes l
+  unfolding roomCheck
+  room-refused e = stop _ _ (found-bad-by _ _ _ _ sought e refl)
+
+  module _ (room : f ≡ Nothing) {top : ℕ} (deep : top ≡ topOf (s .depth)) {g : Found} (over : g ≡ overBox top l 0 (s .stride) (4 * s .cols) (4 * s .rows)) where
+    over-is : g ≡ overReplay s l
+    over-is = over ∙ ap (λ (t : ℕ). overBox t l 0 (s .stride) (4 * s .cols) (4 * s .rows)) deep
+
+    pub sample-refused : {k : ℕ} → g ≡ At k → Refused (Sample k) ≡ roomCheck s bytes l
+    unfolding roomCheck
+    sample-refused e = go-on _ _ _ (found-good-by _ _ _ sought room) (found-bad-by _ _ _ _ over-is e refl)
+
+    pub room-passed : g ≡ Nothing → Accepted ≡ roomCheck s bytes l
+    unfolding roomCheck
+    room-passed e = go-on _ _ _ (found-good-by _ _ _ sought room) (found-good-by _ _ _ over-is e)
+
+-- ---- the record's checks after 1, 2 and 3, and then 7 and 8
+
+module _ (s : Replay) (bytes l : List ℕ) (d : true ≡ depthOk (s .depth)) (z : true ≡ replaySizesOk s) (p : 4 * s .rows * s .stride ≤ length l) {a : Answer} (asked : a ≡ recordCheck bytes) where
+  later : {b : Answer} → b ≡ orElse (recordCheck bytes) (roomCheck s bytes l) → b ≡ replayCheck s bytes l
+  unfolding replayCheck roomCheck
+  later h = go-on _ _ _ (unless-good _ _ d) (go-on _ _ _ (unless-good _ _ z) (go-on _ _ _ (unless-good _ _ (is-le _ _ p)) h))
+
+  pub record-refused : {r : Refusal} → a ≡ Refused r → Refused r ≡ replayCheck s bytes l
+  record-refused e = later (stop-by _ _ _ asked e)
+
+  pub roomy-by : a ≡ Accepted → Roomy s bytes (length l)
+  roomy-by e = record { depth = sym d; sized = sized-of s z; ranged = own bytes (sym asked ∙ e) .ranged; plane-long = p }
+
+  pub replay-passed : {b : Answer} → a ≡ Accepted → b ≡ roomCheck s bytes l → b ≡ replayCheck s bytes l
+  replay-passed e h = later (go-on-by _ _ _ _ asked e h)
+
+-- ---- what an accepted record says
+
+pub record Passed (s : Replay) (bytes l : List ℕ) : Type 0 where
+  pub depth-ok : depthOk (s .depth) ≡ true
+  pub runs : Runnable s bytes (length l) (topOf (s .depth))
+  pub record-ok : recordCheck bytes ≡ Accepted
+  pub clean : overReplay s l ≡ Nothing
+
+pub passed : (s : Replay) (bytes l : List ℕ) → replayCheck s bytes l ≡ Accepted → Passed s bytes l
+unfolding replayCheck
+passed s bytes l h =
+    let a = else-parts _ _ h in
+    let b = else-parts _ _ (a .1) in
+    let c = else-parts _ _ (b .1) in
+    let d = else-parts _ _ (c .1) in
+    let e = else-parts _ _ (d .1) in
+    let good = own bytes (d .0) in
+    record {
+      depth-ok = unless-true _ _ (a .0);
+      runs = record {
+        sized = sized-of s (sym (unless-true _ _ (b .0)));
+        ranged = good .ranged;
+        room = found-nothing _ _ (e .0);
+        plane-long = leb-true _ _ (unless-true _ _ (c .0));
+        top-is = refl;
+      };
+      record-ok = d .0;
+      clean = found-nothing _ _ (e .1);
+    }
+
+-- ---- the entry, by the answer of its checks
+
+module _ (s : Replay) (bytes l : List ℕ) {a : Answer} (is : a ≡ replayCheck s bytes l) where
+  pub replayed-refused : {r : Refusal} → a ≡ Refused r → Replayed s bytes l (Refused r) l
+  unfolding replayAfter
+  replayed-refused e = record { answer = sym e ∙ is; plane = settle-refused _ _ _ (sym e ∙ is) }
+
+  pub replayed-run : {m : List ℕ} → a ≡ Accepted → m ≡ replayOf s bytes l → Replayed s bytes l Accepted m
+  unfolding replayAfter
+  replayed-run e run = record { answer = sym e ∙ is; plane = settle-accepted _ _ _ _ (sym e ∙ is) run }
+
+  pub depth-by : a ≡ Accepted → depthOk (s .depth) ≡ true
+  depth-by e = passed s bytes l (sym is ∙ e) .depth-ok
+
+  pub runnable-by : {top : ℕ} → a ≡ Accepted → top ≡ topOf (s .depth) → Runnable s bytes (length l) top
+  runnable-by e deep = rw deep (passed s bytes l (sym is ∙ e) .runs)

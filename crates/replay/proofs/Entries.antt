@@ -1,0 +1,138 @@
+-- The entries of a record: where each lies, what a check that passed says of each, and the run of them one after the other.
+-- Assumes nothing.
+use mathlib.Core.Path.{_≡_, sym, ap, _∙_}
+use mathlib.Core.Bool.{Bool, true, false, not}
+use mathlib.Core.List.{List, [], _∷_}
+use Prim.Native.Nat.{ℕ, _+_, _*_, _-_, _%_, _≤_, _<_}
+use native.Mathlib.Nat.{mul-le-mul}
+use native.Mathlib.Omega.{arith}
+use borrow.Author.Tests.{leb-true}
+use lib.ListN.{length}
+use Rattle.laws.specs.Choose.{all-parts, is-eq, not-eq, told-yes-not, told-no-not}
+use Rattle.laws.specs.Loops.{each}
+use Rattle.laws.specs.Trace.{run-none, run-more, run-end}
+use Rattle.rules.specs.declared.edge.Edge.{Edge}
+use Rattle.rules.specs.declared.settings.Replay.{Replay}
+use Rattle.rules.specs.declared.refusals.Found.{Found}
+use Rattle.rules.specs.declared.refusals.Found.the-variants.{At, Nothing}
+use Rattle.rules.specs.Numbers.{topOf}
+use Rattle.rules.specs.Refusals.{first, foundUnless}
+use Rattle.rules.specs.Segment.{rangesOk, hasRoom, segmentOf, runEdges}
+use Rattle.rules.specs.Record.{edgeIn, entryAt, entryCount, edgesIn}
+use Rattle.rules.specs.Replay.{replaySizesOk, headerOk, cutEntry, firstEntry, replayOf}
+use Rattle.scan.proofs.First.{first-more, first-found, first-end, found-unless, found-unless-not, nothing-all, unless-nothing}
+use Rattle.scan.proofs.Ranges.{in-range}
+use Rattle.lengths.proofs.Inside.{Ranges, ranges-are}
+use Rattle.segment.specs.declared.outcome.Outcome.{Outcome}
+use Rattle.segment.specs.Fit.{InPlane, EdgeFiltered}
+use Rattle.replay.specs.Fit.{Sized, Ranged, Runnable}
+
+-- ---- where an entry lies
+
+pub entry-inside : (bytes : List ℕ) (k : ℕ) → k < entryCount bytes → 5 + 10 * k + 10 ≤ length bytes
+unfolding entryCount
+entry-inside bytes k h = omega arith
+
+-- ---- what a check that passed says
+
+pub sized-of : (s : Replay) → true ≡ replaySizesOk s → Sized s
+unfolding replaySizesOk
+sized-of s h =
+    let p = all-parts _ _ (sym h) in
+    let q = all-parts _ _ (p .1) in
+    let r = all-parts _ _ (q .1) in
+    let x = in-range 1 1024 (s .cols) (p .0) in
+    let y = in-range 1 1024 (s .rows) (q .0) in
+    let z = in-range (4 * s .cols) 8192 (s .stride) (r .0) in
+    record { cols-most = x .1; rows-most = y .1; row = z .0; stride-most = z .1 }
+
+pub header-there : (bytes : List ℕ) → true ≡ headerOk bytes → 5 ≤ length bytes
+unfolding headerOk
+header-there bytes h = leb-true 5 (length bytes) (all-parts _ _ (sym h) .0)
+
+-- the bytes after the header are whole entries, or not
+pub cut-at : (bytes : List ℕ) (n : ℕ) → n ≡ entryCount bytes → ((length bytes - 5) % 10 ≡ 0 → ⊥) → At n ≡ cutEntry bytes
+unfolding cutEntry
+cut-at bytes n e h = ap At e ∙ found-unless _ _ (not-eq _ _ h)
+
+pub cut-none : (bytes : List ℕ) → (length bytes - 5) % 10 ≡ 0 → Nothing ≡ cutEntry bytes
+unfolding cutEntry
+cut-none bytes h = found-unless-not _ _ (is-eq _ _ h)
+
+-- the samples of a plane are few
+pub samples-most : {s : Replay} → Sized s → 4 * s .rows * s .stride ≤ 33554432
+samples-most {s} z =
+    let r = z .rows-most in
+    mul-le-mul (let e : 4 * s .rows ≤ 4096 = omega arith in e) (z .stride-most)
+
+module _ (bytes : List ℕ) (k : ℕ) (h : k < entryCount bytes) {e : Edge} (is : e ≡ edgeIn bytes (entryAt k)) where
+  -- an entry that passed a test of every entry
+  pub entry-good : (good : Edge → Bool) → firstEntry good bytes ≡ Nothing → good e ≡ true
+  unfolding firstEntry
+  entry-good good n = rw is (unless-nothing _ k (nothing-all _ _ n k h))
+
+  entry-ranges : Ranged bytes → Ranges e
+  entry-ranges r = ranges-are e (entry-good rangesOk (r .entries-ok))
+
+  pub pair-below : Ranged bytes → e .pair < 8
+  pair-below r = let p = entry-ranges r in omega arith
+
+  -- an entry of a record that was checked may be run
+  pub entry-runs : {s : Replay} {size top : ℕ} → Runnable s bytes size top → InPlane (s .stride) (4 * s .cols) (4 * s .rows) e size
+  entry-runs {s} r =
+      let p = entry-ranges (r .ranged) in
+      record {
+        pair-is = pair-below (r .ranged);
+        q-most = p .q-most;
+        side-most = p .side-most;
+        row = r .sized .row;
+        plane = r .plane-long;
+        room = entry-good (hasRoom (4 * s .cols) (4 * s .rows)) (r .room);
+      }
+
+-- ---- the search for the first bad entry, by any test of an edge
+
+abbrev pub goodAt : List ℕ → (Edge → Bool) → ℕ → Found
+goodAt bytes good j = foundUnless (good (edgeIn bytes (entryAt j))) j
+
+module _ (bytes : List ℕ) (good : Edge → Bool) (k : ℕ) (before : first k (goodAt bytes good) ≡ Nothing) where
+  pub entry-more : {e : Edge} {u : Bool} → e ≡ edgeIn bytes (entryAt k) → u ≡ good e → not u ≡ false → first (k + 1) (goodAt bytes good) ≡ Nothing
+  entry-more is says ok = first-more (goodAt bytes good) k before (found-unless-not _ k (told-yes-not _ _ (says ∙ ap good is) ok))
+
+  pub entry-found : (n : ℕ) {e : Edge} {u : Bool} → n ≡ entryCount bytes → e ≡ edgeIn bytes (entryAt k) → u ≡ good e → not u ≡ true → k < n
+      → At k ≡ firstEntry good bytes
+  unfolding firstEntry
+  entry-found n all is says no-good h =
+      first-found (goodAt bytes good) k (entryCount bytes) before (found-unless _ k (told-no-not _ _ (says ∙ ap good is) no-good)) (omega arith)
+
+  pub entry-end : (n : ℕ) → n ≡ entryCount bytes → k ≤ n → n ≤ k → Nothing ≡ firstEntry good bytes
+  unfolding firstEntry
+  entry-end n all a b = first-end (goodAt bytes good) k (entryCount bytes) before (omega arith) (omega arith)
+
+-- ---- the run
+
+-- the entries before entry k
+abbrev pub firstEntries : List ℕ → ℕ → List Edge
+firstEntries bytes k = each k (λ j. edgeIn bytes (entryAt j) ∷ [])
+
+module _ (s : Replay) (bytes l : List ℕ) where
+  pub replayed-none : l ≡ runEdges (topOf (s .depth)) (s .stride) (firstEntries bytes 0) l
+  unfolding runEdges
+  replayed-none = run-none (segmentOf (topOf (s .depth)) (s .stride)) (λ j. edgeIn bytes (entryAt j) ∷ []) l
+
+  pub replayed-more : (k : ℕ) {m n : List ℕ} {e : Edge} {top : ℕ} {o : Outcome} → m ≡ runEdges (topOf (s .depth)) (s .stride) (firstEntries bytes k) l
+      → e ≡ edgeIn bytes (entryAt k) → top ≡ topOf (s .depth) → EdgeFiltered top (s .stride) e m o n
+      → n ≡ runEdges (topOf (s .depth)) (s .stride) (firstEntries bytes (k + 1)) l
+  unfolding runEdges
+  replayed-more k {m} {e = e} so-far is deep done =
+      run-more (segmentOf (topOf (s .depth)) (s .stride)) (λ j. edgeIn bytes (entryAt j) ∷ []) k l so-far
+      (done .plane ∙ ap (λ (t : ℕ). segmentOf t (s .stride) e m) deep ∙ ap (λ (x : Edge). segmentOf (topOf (s .depth)) (s .stride) x m) is)
+
+  pub replayed-end : (k n : ℕ) {m : List ℕ} → m ≡ runEdges (topOf (s .depth)) (s .stride) (firstEntries bytes k) l → n ≡ entryCount bytes → k ≤ n → n ≤ k → m ≡ replayOf s bytes l
+  unfolding runEdges replayOf edgesIn
+  replayed-end k n e c a b =
+      run-end (segmentOf (topOf (s .depth)) (s .stride)) (λ j. edgeIn bytes (entryAt j) ∷ []) k (entryCount bytes) l e (omega arith) (omega arith)
+
+-- a plane of the same length serves as well
+pub runnable-same : {s : Replay} {bytes : List ℕ} {n k top : ℕ} → k ≡ n → Runnable s bytes n top → Runnable s bytes k top
+runnable-same e r = rw e r

@@ -1,0 +1,4 @@
+pub mod Entries
+pub mod Checking
+pub mod Exactly
+pub mod Theorems

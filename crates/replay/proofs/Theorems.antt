@@ -1,0 +1,145 @@
+-- What the entry's statement says further: one result, a refused plane as lent, any list of edges run as written, and a good record's bytes read and written again.
+-- Assumes nothing.
+use mathlib.Core.Path.{_≡_, refl, sym, ap, _∙_}
+use mathlib.Core.Bool.{Bool, true}
+use mathlib.Core.List.{List, [], _∷_}
+use Prim.Native.Nat.{ℕ, zero, suc, _+_, _*_, _-_, _%_, _≤_, _<_}
+use native.Mathlib.Omega.{arith}
+use borrow.Author.Tests.{le-leb, leb-true, eqb-true, eq-eqb}
+use lib.ListN.{length, getD, take}
+use Rattle.laws.specs.Choose.{all, all-parts}
+use Rattle.laws.specs.Lists.{Each, each-left, each-right, each-loop}
+use Rattle.laws.specs.Loops.{each}
+use Rattle.low_first.specs.Bytes.{numberIn}
+use Rattle.rules.specs.declared.edge.Edge.{Edge}
+use Rattle.rules.specs.declared.settings.Replay.{Replay}
+use Rattle.rules.specs.declared.refusals.Refusal.{Refusal}
+use Rattle.rules.specs.declared.refusals.Answer.{Answer}
+use Rattle.rules.specs.declared.refusals.Answer.the-variants.{Accepted, Refused}
+use Rattle.rules.specs.declared.refusals.Found.the-variants.{Nothing}
+use Rattle.rules.specs.Numbers.{depthOk, topOf}
+use Rattle.rules.specs.Refusals.{settle, first, sooner, foundUnless, found, unless, orElse}
+use Rattle.rules.specs.Segment.{rangesOk, hasRoom, segmentOf, runEdges}
+use Rattle.rules.specs.Record.{header, recordOf, edgeIn, entryAt, entryCount, edgesIn}
+use Rattle.rules.specs.Replay.{replaySizesOk, headerOk, cutEntry, firstEntry, overReplay, recordCheck, replayCheck, replayOf, replayAfter}
+use Rattle.scan.proofs.First.{unless-nothing}
+use Rattle.records.specs.Fit.{InBytes}
+use Rattle.records.proofs.RoundTrip.{record-length, read-record, write-record}
+use Rattle.segment.specs.Fit.{InPlane}
+use Rattle.replay.specs.Fit.{Replayed}
+use Rattle.replay.proofs.Entries.{entry-runs}
+use Rattle.replay.proofs.Checking.{own, passed}
+
+module _ (s : Replay) (bytes l : List ℕ) {a : Answer} {m : List ℕ} (done : Replayed s bytes l a m) where
+  -- any two results that the statement allows are equal
+  pub one-result : {b : Answer} {n : List ℕ} → Replayed s bytes l b n → (a ≡ b) × (m ≡ n)
+  one-result other = (done .answer ∙ sym (other .answer), done .plane ∙ sym (other .plane))
+
+  -- "Refusals, all before writing"
+  pub refused-kept : {r : Refusal} → a ≡ Refused r → m ≡ l
+  unfolding replayAfter settle
+  refused-kept e = done .plane ∙ ap (λ (x : Answer). settle x l (replayOf s bytes l)) (sym (done .answer) ∙ e)
+
+  -- "Any well-formed list is run": the entries' edges one after the other, on the cells or off them, once or twice
+  pub runs-entries : a ≡ Accepted → m ≡ runEdges (topOf (s .depth)) (s .stride) (edgesIn bytes) l
+  unfolding replayAfter replayOf settle
+  runs-entries e = done .plane ∙ ap (λ (x : Answer). settle x l (replayOf s bytes l)) (sym (done .answer) ∙ e)
+
+  -- and so a written list of edges
+  pub runs-list : (es : List Edge) → Each InBytes es → bytes ≡ recordOf es → a ≡ Accepted → m ≡ runEdges (topOf (s .depth)) (s .stride) es l
+  runs-list es fit is e =
+      runs-entries e ∙ ap (λ (xs : List Edge). runEdges (topOf (s .depth)) (s .stride) xs l) (ap edgesIn is ∙ read-record es fit)
+
+  -- "also one with an edge twice: the segments are applied one after the other"
+  pub runs-twice : (e : Edge) → InBytes e → bytes ≡ recordOf (e ∷ e ∷ []) → a ≡ Accepted
+      → m ≡ segmentOf (topOf (s .depth)) (s .stride) e (segmentOf (topOf (s .depth)) (s .stride) e l)
+  unfolding runEdges
+  runs-twice e fit is ok = runs-list (e ∷ e ∷ []) (fit, (fit, tt)) is ok
+
+-- ---- "reading then writing a good record returns its bytes"
+
+-- mark and version, byte by byte
+header-bytes : (bytes : List ℕ) → headerOk bytes ≡ true → ((k : ℕ) → getD bytes k 0 < 256) → take 5 bytes ≡ header
+unfolding headerOk numberIn
+header-bytes bytes h small =
+    let p = all-parts _ _ h in
+    let q = all-parts _ _ (p .1) in
+    let r = all-parts _ _ (q .1) in
+    let t = all-parts _ _ (r .1) in
+    let u = all-parts _ _ (t .1) in
+    go bytes (leb-true 5 (length bytes) (p .0)) (eqb-true _ _ (q .0)) (eqb-true _ _ (r .0)) (eqb-true _ _ (t .0)) (eqb-true _ _ (u .0)) (small 3)
+  where
+    go : (b : List ℕ) → 5 ≤ length b → getD b 0 0 ≡ 69 → getD b 1 0 ≡ 68 → getD b 2 0 ≡ 71 → getD b 3 0 + 256 * (getD b 4 0 + 256 * 0) ≡ 1 → getD b 3 0 < 256 → take 5 b ≡ header
+    go [] h e d g v k = absurd (omega arith)
+    go (a ∷ []) h e d g v k = absurd (omega arith)
+    go (a ∷ b ∷ []) h e d g v k = absurd (omega arith)
+    go (a ∷ b ∷ c ∷ []) h e d g v k = absurd (omega arith)
+    go (a ∷ b ∷ c ∷ x ∷ []) h e d g v k = absurd (omega arith)
+    go (a ∷ b ∷ c ∷ x ∷ y ∷ rest) h e d g v k =
+        let low : x ≡ 1 = omega arith in
+        let high : y ≡ 0 = omega arith in
+        rw (e, d, g, low, high)
+
+whole-entries : (bytes : List ℕ) → 5 ≤ length bytes → cutEntry bytes ≡ Nothing → length bytes ≡ 5 + 10 * entryCount bytes
+unfolding cutEntry entryCount
+whole-entries bytes h w = let e : (length bytes - 5) % 10 ≡ 0 = eqb-true _ _ (unless-nothing _ _ w) in omega arith
+
+-- a record that its own checks accept, whose bytes are bytes
+pub write-checked : (bytes : List ℕ) → ((k : ℕ) → getD bytes k 0 < 256) → recordCheck bytes ≡ Accepted → recordOf (edgesIn bytes) ≡ bytes
+write-checked bytes small ok =
+    let p = own bytes ok in
+    write-record bytes (record { header-is = header-bytes bytes (p .header) small; entries-whole = whole-entries bytes (p .ranged .header-there) (p .whole); small = small })
+
+-- and so one that the entry accepts
+pub write-accepted : (s : Replay) (bytes l : List ℕ) → ((k : ℕ) → getD bytes k 0 < 256) → replayCheck s bytes l ≡ Accepted → recordOf (edgesIn bytes) ≡ bytes
+write-accepted s bytes l small ok = write-checked bytes small (passed s bytes l ok .record-ok)
+
+-- ---- which records are accepted
+
+-- every edge of an accepted record is in range and has room
+pub accepted-inside : (s : Replay) (bytes l : List ℕ) → replayCheck s bytes l ≡ Accepted → Each (λ e. InPlane (s .stride) (4 * s .cols) (4 * s .rows) e (length l)) (edgesIn bytes)
+unfolding edgesIn
+accepted-inside s bytes l ok =
+    each-loop (λ e. InPlane (s .stride) (4 * s .cols) (4 * s .rows) e (length l)) (entryCount bytes) (λ k. edgeIn bytes (entryAt k) ∷ [])
+    (λ k h. (entry-runs bytes k h refl (passed s bytes l ok .runs), tt))
+
+-- a test that every edge passes finds no entry
+none-first : (good : Edge → Bool) (f : ℕ → Edge) (n : ℕ) → Each (λ e. good e ≡ true) (each n (λ k. f k ∷ [])) → first n (λ k. foundUnless (good (f k)) k) ≡ Nothing
+unfolding first sooner foundUnless each
+none-first good f zero h = refl
+none-first good f (suc n) h =
+    let before = none-first good f n (each-left (λ e. good e ≡ true) (each n (λ k. f k ∷ [])) (f n ∷ []) h) in
+    let here = each-right (λ e. good e ≡ true) (each n (λ k. f k ∷ [])) (f n ∷ []) h .0 in
+    rw (before, here)
+
+-- what is asked of a written list of edges
+pub record Written (s : Replay) (es : List Edge) : Type 0 where
+  pub fits : Each InBytes es
+  pub ranges : Each (λ e. rangesOk e ≡ true) es
+  pub room : Each (λ e. hasRoom (4 * s .cols) (4 * s .rows) e ≡ true) es
+
+module _ (s : Replay) (es : List Edge) (w : Written s es) where
+  entries-pass : (good : Edge → Bool) → Each (λ e. good e ≡ true) es → firstEntry good (recordOf es) ≡ Nothing
+  unfolding firstEntry edgesIn
+  entries-pass good h =
+      none-first good (λ k. edgeIn (recordOf es) (entryAt k)) (entryCount (recordOf es)) (rw (read-record es (w .fits)) h)
+
+  header-good : headerOk (recordOf es) ≡ true
+  unfolding all headerOk recordOf numberIn
+  header-good = rw (le-leb 5 (length (recordOf es)) (omega (arith, record-length es)))
+
+  no-cut : cutEntry (recordOf es) ≡ Nothing
+  unfolding cutEntry foundUnless
+  no-cut =
+      let whole : (length (recordOf es) - 5) % 10 ≡ 0 = omega (arith, record-length es) in
+      rw (eq-eqb _ _ whole)
+
+  written-accepted : recordCheck (recordOf es) ≡ Accepted
+  unfolding recordCheck orElse unless found
+  written-accepted = rw (header-good, no-cut, entries-pass rangesOk (w .ranges))
+
+  -- a good plane takes every written list of edges in range and with room
+  pub record-accepted : (l : List ℕ) → depthOk (s .depth) ≡ true → replaySizesOk s ≡ true → 4 * s .rows * s .stride ≤ length l → overReplay s l ≡ Nothing
+      → replayCheck s (recordOf es) l ≡ Accepted
+  unfolding replayCheck orElse unless found
+  record-accepted l d z p o = rw (d, z, le-leb _ _ p, written-accepted, entries-pass (hasRoom (4 * s .cols) (4 * s .rows)) (w .room), o)

@@ -1,0 +1,46 @@
+-- `replay_plane` meets its contract: refused as it was lent, or the edges run. Assumes nothing.
+use Rattle.replay.proofs.Checking.{replayed-refused, replayed-run, depth-by, runnable-by}
+use borrow.Author.Needs.{needs}
+use Rattle.replay.proofs.run.replay_plane.Statement.{statement}
+use Rattle.replay.proofs.run.replay_plane.Tie as tie
+
+replay-check-requires : tie.Need-replay-check-requires
+replay-check-requires c κs = search needs
+
+enum-known-a : tie.Need-enum-known-a
+enum-known-a c = search needs
+
+same-length : tie.Need-same-length
+same-length c = search needs
+
+returns : tie.Need-returns
+returns c = replayed-refused _ _ _ (c .before .before .before .replay-check .ensures) (search needs)
+
+enum-told : tie.Need-enum-told
+enum-told c = search needs
+
+top-requires : tie.Need-top-requires
+top-requires c κs = depth-by _ _ _ (c .before .before .before .replay-check .ensures) (search needs)
+
+run-record-requires : tie.Need-run-record-requires
+run-record-requires c κs = runnable-by _ _ _ (c .before .before .before .before .replay-check .ensures) (search needs) (c .top .ensures)
+
+same-length-2 : tie.Need-same-length-2
+same-length-2 c = search needs
+
+returns-2 : tie.Need-returns-2
+returns-2 c = replayed-run _ _ _ (c .before .before .before .before .before .before .before .replay-check .ensures) (search needs) (c .before .before .run-record .ensures)
+
+pub replay-plane-spec : {M : Type 1} → statement M
+replay-plane-spec =
+    tie.close
+    (tie.spec
+    replay-check-requires
+    enum-known-a
+    same-length
+    returns
+    enum-told
+    top-requires
+    run-record-requires
+    same-length-2
+    returns-2)

@@ -1,0 +1,50 @@
+-- What is known of a record and its plane at each stage of their checks, and the entry's statement.
+-- Assumes nothing.
+use mathlib.Core.Path.{_≡_}
+use mathlib.Core.Bool.{true}
+use mathlib.Core.List.{List}
+use Prim.Native.Nat.{ℕ, _*_, _≤_}
+use lib.ListN.{length}
+use Rattle.rules.specs.declared.settings.Replay.{Replay}
+use Rattle.rules.specs.declared.refusals.Refusal.the-variants.{Room, Sample}
+use Rattle.rules.specs.declared.refusals.Answer.{Answer}
+use Rattle.rules.specs.declared.refusals.Found.the-variants.{Nothing}
+use Rattle.rules.specs.Numbers.{depthOk, topOf}
+use Rattle.rules.specs.Refusals.{orElse, found}
+use Rattle.rules.specs.Replay.{badEntry, noRoomIn, overReplay, replayCheck, replayAfter}
+
+-- the sizes are in range
+pub record Sized (s : Replay) : Type 0 where
+  pub cols-most : s .cols ≤ 1024
+  pub rows-most : s .rows ≤ 1024
+  pub row : 4 * s .cols ≤ s .stride
+  pub stride-most : s .stride ≤ 8192
+
+-- there is a header, and every entry is in range
+pub record Ranged (bytes : List ℕ) : Type 0 where
+  pub header-there : 5 ≤ length bytes
+  pub entries-ok : badEntry bytes ≡ Nothing
+
+-- a good record and a plane of so many samples, before 7 and 8 are asked
+pub record Roomy (s : Replay) (bytes : List ℕ) (size : ℕ) : Type 0 where
+  pub depth : depthOk (s .depth) ≡ true
+  pub sized : Sized s
+  pub ranged : Ranged bytes
+  pub plane-long : 4 * s .rows * s .stride ≤ size
+
+-- checks 7 and 8
+unfoldable pub roomCheck : Replay → List ℕ → List ℕ → Answer
+roomCheck s bytes l = orElse (found (noRoomIn s bytes) Room) (found (overReplay s l) Sample)
+
+-- a record whose edges all have room in a plane of so many samples
+pub record Runnable (s : Replay) (bytes : List ℕ) (size top : ℕ) : Type 0 where
+  pub sized : Sized s
+  pub ranged : Ranged bytes
+  pub room : noRoomIn s bytes ≡ Nothing
+  pub plane-long : 4 * s .rows * s .stride ≤ size
+  pub top-is : top ≡ topOf (s .depth)
+
+-- all that the entry states: its answer a, and the plane afterwards m, of a plane l
+pub record Replayed (s : Replay) (bytes l : List ℕ) (a : Answer) (m : List ℕ) : Type 0 where
+  pub answer : a ≡ replayCheck s bytes l
+  pub plane : m ≡ replayAfter s bytes l
