@@ -12,6 +12,7 @@ use rules::edge::Place;
 use taps::tables::limit_of;
 use taps::tables::weight;
 use width::choice::filt_choice;
+use width::choice::off;
 ghost use mathlib.Core.Path.{_≡_};
 ghost use Prim.Native.Nat.{_+_, _*_, _<_};
 ghost use lib.ListN.{length};
@@ -23,10 +24,7 @@ fn chosen_width(plane: &[u16], e: Place) -> usize
     requires { ⌜ Fit e (length (now plane)) ⌝ }
     ensures { λ r. ⌜ r ≡ chosenOf e (windowOf e (now (plane .entry))) ⌝ }
 {
-    if e.q == 0 {
-        return 0;
-    }
-    if e.side == 0 {
+    if off(e.q, e.side) {
         return 0;
     }
     let lines = read_lines(
