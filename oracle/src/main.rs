@@ -26,7 +26,7 @@ use std::io::{self, BufWriter, Write};
 use std::process::exit;
 use summary::Summary;
 
-const USAGE: &str = "oracle thresholds|segment|segment-limits|segment-window|plane|plane-bins|grid|frame|frame-bins|ccso N SEED [--only accepted|refused], or: oracle differences";
+const USAGE: &str = "oracle thresholds|segment|segment-limits|segment-window|plane|plane-bins|plane-dark|grid|frame|frame-bins|ccso N SEED [--only accepted|refused], or: oracle differences";
 
 fn part(name: &str) -> Option<Make> {
     match name {
@@ -36,6 +36,7 @@ fn part(name: &str) -> Option<Make> {
         "segment-window" => Some(segment::make_window),
         "plane" => Some(plane::make),
         "plane-bins" => Some(plane::make_bins),
+        "plane-dark" => Some(plane::make_dark),
         "grid" => Some(grid::make),
         "frame" => Some(frame::make),
         "frame-bins" => Some(frame::make_bins),
