@@ -52,8 +52,8 @@ module _ (e : Place) {size : ℕ} (fit : Fit e size) where
       let fa = f .after in
       (omega arith, omega arith, rw (p, q) (fit .room))
 
-  pub choice-fits : {p : ℕ} → p ≡ mostAfter (e .pair) → {r : Bool} → r ≡ offOf (e .q) (e .side) → r ≡ false → (p ≤ 8) × (e .q ≤ 2048) × (e .side ≤ 839) × (offOf (e .q) (e .side) ≡ false)
-  choice-fits h says no-zero = let f = pair-facts (e .pair) (fit .pair-is) .after in (omega arith, fit .q-most, fit .side-most, sym says ∙ no-zero)
+  pub choice-fits : {p : ℕ} → p ≡ mostAfter (e .pair) → offOf (e .q) (e .side) ≡ false → (p ≤ 8) × (e .q ≤ 2048) × (e .side ≤ 839) × (offOf (e .q) (e .side) ≡ false)
+  choice-fits h lit = let f = pair-facts (e .pair) (fit .pair-is) .after in (omega arith, fit .q-most, fit .side-most, lit)
 
 -- ---- the widths of an edge that filters
 module _ (e : Place) (l : List ℕ) {size : ℕ} (fit : Fit e size) {n w k : ℕ} (hw : w ≡ chosenOf e (windowOf e l)) (some : w ≡ 0 → ⊥) (hn : n ≡ mostBefore (e .pair)) (hk : k ≡ min w n) where
