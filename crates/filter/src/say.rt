@@ -122,6 +122,9 @@ fn meaning(r: Refusal) {
         Refusal::Sample(_) => words(b"a sample is above the depth's top"),
         Refusal::Leaf(_) => words(b"a leaf is bad"),
         Refusal::Buffer => words(b"the record's buffer is too short"),
+        Refusal::Header => words(b"this is no record of edges, or one of another version"),
+        Refusal::Cut(_) => words(b"the record's last entry is cut"),
+        Refusal::Entry(_) => words(b"an entry of the record is outside its ranges"),
     }
 }
 

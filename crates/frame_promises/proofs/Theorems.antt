@@ -9,7 +9,7 @@ use Rattle.laws.specs.Choose.{pick}
 use Rattle.rules.specs.declared.settings.Frame.{Frame}
 use Rattle.rules.specs.declared.lent.FrameLengths.{FrameLengths}
 use Rattle.rules.specs.declared.refusals.Refusal.{Refusal}
-use Rattle.rules.specs.declared.refusals.Refusal.the-variants.{Depth, Size, Length, Steps, Setting, Cell, Room, Sample, Leaf, Buffer}
+use Rattle.rules.specs.declared.refusals.Refusal.the-variants.{Depth, Size, Length, Steps, Setting, Cell, Room, Sample, Leaf, Buffer, Header, Cut, Entry}
 use Rattle.rules.specs.declared.refusals.Answer.{Answer}
 use Rattle.rules.specs.declared.refusals.Answer.the-variants.{Accepted, Refused}
 use Rattle.rules.specs.declared.refusals.Found.{Found}
@@ -35,6 +35,9 @@ before7 (Room k) = false
 before7 (Sample k) = false
 before7 (Leaf k) = true
 before7 Buffer = false
+before7 Header = false
+before7 (Cut k) = false
+before7 (Entry k) = false
 
 abbrev early : Answer → Bool
 early Accepted = true

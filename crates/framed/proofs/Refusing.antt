@@ -6,7 +6,7 @@ use borrow.Author.Needs.{needs}
 use lib.ListN.{length, getD}
 use Rattle.rules.specs.declared.settings.Frame.{Frame}
 use Rattle.rules.specs.declared.refusals.Refusal.{Refusal}
-use Rattle.rules.specs.declared.refusals.Refusal.the-variants.{Depth, Size, Length, Steps, Setting, Cell, Room, Sample, Leaf, Buffer}
+use Rattle.rules.specs.declared.refusals.Refusal.the-variants.{Depth, Size, Length, Steps, Setting, Cell, Room, Sample, Leaf, Buffer, Header, Cut, Entry}
 use Rattle.rules.specs.declared.refusals.Answer.{Answer}
 use Rattle.rules.specs.declared.refusals.Answer.the-variants.{Accepted, Refused}
 use Rattle.rules.specs.Frame.{Planes, Given, lent, grids}
@@ -61,7 +61,19 @@ module _ (f : Frame) (n : Given) (p : Planes) (r : Refusal) {x : Place} where
   unfolding refusalPlace
   of-buffer e g = rw e g
 
-pub ruleset refusing = (needs, at-sample, at-room, at-leaf, at-step, of-depth, of-size, of-length, of-setting, of-cell, of-buffer)
+  pub of-header : r ≡ Header → x ≡ placeIn 8 0 0 → x ≡ refusalPlace f n p r
+  unfolding refusalPlace
+  of-header e g = rw e g
+
+  pub of-cut : {k : ℕ} → r ≡ Cut k → x ≡ placeIn 8 0 0 → x ≡ refusalPlace f n p r
+  unfolding refusalPlace
+  of-cut e g = rw e g
+
+  pub of-entry : {k : ℕ} → r ≡ Entry k → x ≡ placeIn 8 0 0 → x ≡ refusalPlace f n p r
+  unfolding refusalPlace
+  of-entry e g = rw e g
+
+pub ruleset refusing = (needs, at-sample, at-room, at-leaf, at-step, of-depth, of-size, of-length, of-setting, of-cell, of-buffer, of-header, of-cut, of-entry)
 
 -- ---- what a deblocked frame tells
 

@@ -6,7 +6,7 @@ use Prim.Native.Nat.{ℕ, _-_, _≤_}
 use lib.ListN.{getD, take, drop}
 use Rattle.rules.specs.declared.settings.Frame.{Frame}
 use Rattle.rules.specs.declared.refusals.Refusal.{Refusal}
-use Rattle.rules.specs.declared.refusals.Refusal.the-variants.{Depth, Size, Length, Steps, Setting, Cell, Room, Sample, Leaf, Buffer}
+use Rattle.rules.specs.declared.refusals.Refusal.the-variants.{Depth, Size, Length, Steps, Setting, Cell, Room, Sample, Leaf, Buffer, Header, Cut, Entry}
 use Rattle.rules.specs.declared.refusals.Answer.{Answer}
 use Rattle.rules.specs.declared.refusals.Answer.the-variants.{Accepted, Refused}
 use Rattle.rules.specs.Frame.{Planes, Given, given}
@@ -50,6 +50,9 @@ refusalPlace f n p (Room k) = roomPlace f (n .leaves) (n .skips) (n .sbq) k
 refusalPlace f n p (Sample k) = samplePlace f (p .y) (p .u) k
 refusalPlace f n p (Leaf k) = leavesPlace (n .leaves) (n .chromaLeaves) (n .skips) k
 refusalPlace f n p Buffer = placeIn 8 0 0
+refusalPlace f n p Header = placeIn 8 0 0
+refusalPlace f n p (Cut k) = placeIn 8 0 0
+refusalPlace f n p (Entry k) = placeIn 8 0 0
 
 -- an accepted frame has no place but itself
 unfoldable pub answerPlace : Frame → Given → Planes → Answer → Place

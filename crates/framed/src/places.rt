@@ -83,5 +83,8 @@ pub fn place_of(
         Refusal::Setting => at(8, 0, 0),
         Refusal::Cell(_) => at(8, 0, 0),
         Refusal::Buffer => at(8, 0, 0),
+        Refusal::Header => at(8, 0, 0),
+        Refusal::Cut(_) => at(8, 0, 0),
+        Refusal::Entry(_) => at(8, 0, 0),
     }
 }

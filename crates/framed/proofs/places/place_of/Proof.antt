@@ -66,6 +66,24 @@ enum-told-6 c = search needs
 at-requires-7 : tie.Need-at-requires-7
 at-requires-7 c κs = tt
 
+enum-told-7 : tie.Need-enum-told-7
+enum-told-7 c = search needs
+
+at-requires-8 : tie.Need-at-requires-8
+at-requires-8 c κs = tt
+
+enum-told-8 : tie.Need-enum-told-8
+enum-told-8 c = search needs
+
+at-requires-9 : tie.Need-at-requires-9
+at-requires-9 c κs = tt
+
+enum-told-9 : tie.Need-enum-told-9
+enum-told-9 c = search needs
+
+at-requires-10 : tie.Need-at-requires-10
+at-requires-10 c κs = tt
+
 returns : tie.Need-returns
 returns c = λ s v. at-sample _ _ _ _ (c .before .before .r .given .1) (c .sample-place .ensures)
 
@@ -96,6 +114,15 @@ returns-9 c = λ s v. search refusing
 returns-10 : tie.Need-returns-10
 returns-10 c = λ s v. search refusing
 
+returns-11 : tie.Need-returns-11
+returns-11 c = λ s v. search refusing
+
+returns-12 : tie.Need-returns-12
+returns-12 c = λ s v. search refusing
+
+returns-13 : tie.Need-returns-13
+returns-13 c = λ s v. search refusing
+
 pub place-of-spec : {M : Type 1} → statement M
 place-of-spec =
     tie.close
@@ -120,6 +147,12 @@ place-of-spec =
     at-requires-6
     enum-told-6
     at-requires-7
+    enum-told-7
+    at-requires-8
+    enum-told-8
+    at-requires-9
+    enum-told-9
+    at-requires-10
     returns
     returns-2
     returns-3
@@ -129,4 +162,7 @@ place-of-spec =
     returns-7
     returns-8
     returns-9
-    returns-10)
+    returns-10
+    returns-11
+    returns-12
+    returns-13)
