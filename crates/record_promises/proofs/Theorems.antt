@@ -23,6 +23,7 @@ use Rattle.segment.specs.Fit.{InPlane}
 use Rattle.records.specs.Fit.{InBytes}
 use Rattle.records.proofs.RoundTrip.{record-length, read-record}
 use Rattle.plane.specs.Checked.{Stated as «PlaneStated»}
+use Rattle.plane.proofs.Accepting.{checked}
 use Rattle.plane.proofs.Everywhere.{every-edge}
 use Rattle.orders.specs.Walks.{sameEdge}
 use Rattle.orders.proofs.Once.{Marked, only-marked, marked-once, other-never, edges-length}
@@ -43,14 +44,14 @@ refused-refused (Refused q) k e = cc
 
 -- ---- the numbers of every edge fit an entry's bytes
 
-module _ (s : Plane) (steps : List ℕ) (g : Grid) (l : List ℕ) (n : ℕ) (ok : Passed s steps g l n) where
+module _ (s : Plane) (steps : List ℕ) (g : Grid) (l : List ℕ) (ok : planeCheck s steps g l ≡ Accepted) where
   abbrev Inside : Edge → Type 0
   Inside e = InPlane (s .stride) (4 * s .cols) (4 * s .rows) e (length l)
 
   in-bytes : (e : Edge) → Marked s steps g e → Inside e → InBytes e
   unfolding edgeAt
   in-bytes e m k =
-      let z = ok .checks .sizes-ok in
+      let z = checked s steps g l ok .sizes-ok in
       record {
         x-fits = omega (arith, ap (λ (f : Edge). f .x) (m .is), m .cell .in-cols, z .cols-most);
         y-fits = omega (arith, ap (λ (f : Edge). f .y) (m .is), m .cell .in-rows, z .rows-most);
@@ -60,10 +61,10 @@ module _ (s : Plane) (steps : List ℕ) (g : Grid) (l : List ℕ) (n : ℕ) (ok 
         side-fits = omega (arith, k .side-most);
       }
 
-  edges-in-bytes : Each InBytes (edgesOf s steps g)
+  pub edges-in-bytes : Each InBytes (edgesOf s steps g)
   edges-in-bytes =
       each-both (Marked s steps g) Inside InBytes in-bytes (edgesOf s steps g)
-      (only-marked s steps g (ok .checks .sizes-ok)) (every-edge s steps g l (ok .plane))
+      (only-marked s steps g (checked s steps g l ok .sizes-ok)) (every-edge s steps g l ok)
 
 -- ---- where the answer is a number of bytes
 
@@ -79,7 +80,10 @@ module _ (s : Plane) (steps : List ℕ) (g : Grid) (l b : List ℕ) {n : ℕ} {m
   pub record-long : n ≡ 5 + 10 * edgeCount s g
   record-long = omega (arith, accepted .1, record-length (edgesOf s steps g), edges-length s steps g (ok .checks .sizes-ok))
 
-  plane-ran : m ≡ runPlane s steps g l
+  pub plane-passed : planeCheck s steps g l ≡ Accepted
+  plane-passed = ok .plane
+
+  pub plane-ran : m ≡ runPlane s steps g l
   unfolding recordedPlane settle
   plane-ran = done .plane ∙ ap (λ (a : Answer). settle a l (runPlane s steps g l)) (accepted .0)
 
@@ -106,7 +110,7 @@ module _ (s : Plane) (steps : List ℕ) (g : Grid) (l b : List ℕ) {n : ℕ} {m
 
   -- read again, they are those edges: "Edges of width 0 are included", since no sample decides what is listed
   pub record-edges : edgesIn (take n c) ≡ edgesOf s steps g
-  record-edges = ap edgesIn record-is ∙ read-record (edgesOf s steps g) (edges-in-bytes s steps g l (length b) ok)
+  record-edges = ap edgesIn record-is ∙ read-record (edgesOf s steps g) (edges-in-bytes s steps g l (ok .plane))
 
   -- "The record lists each marked edge once and no others"
   pub listed-once : (e : Edge) → Marked s steps g e → count sameEdge e (edgesIn (take n c)) ≡ 1

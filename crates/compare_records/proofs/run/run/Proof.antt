@@ -1,6 +1,5 @@
 -- `run` lends the fronts of the two buffers that the records fill. Assumes nothing.
 use Rattle.pictures.proofs.Fronts.{front, front-long}
-use native.Mathlib.Omega.{arith}
 use borrow.Author.Needs.{needs}
 use Rattle.compare_records.proofs.run.run.Statement.{statement}
 use Rattle.compare_records.proofs.run.run.Tie as tie
@@ -42,7 +41,7 @@ slice-aggregate-tell-2 : tie.Need-slice-aggregate-tell-2
 slice-aggregate-tell-2 c = front _ _ (search needs)
 
 tell-requires : tie.Need-tell-requires
-tell-requires c κs = (front-long 5 _ _ (search needs) (omega arith), front-long 5 _ _ (search needs) (omega arith))
+tell-requires c κs = (front-long 5 (c .before .before .before .before .before .before .before .before .before .load .result) (c .before .before .before .before .before .before .before .before .before .load .last .1 .0) (c .before .before .before .before .before .before .before .before .before .load .ensures) (c .before .before .before .before .before .before .before .if1 .left), front-long 5 (c .before .before .before .before .load2 .result) (c .before .before .before .before .load2 .last .1 .0) (c .before .before .before .before .load2 .ensures) (c .before .before .if2 .left))
 
 returns-3 : tie.Need-returns-3
 returns-3 c = search needs
