@@ -21,11 +21,14 @@ ghost use Rattle.rules.specs.Segment.{placeOf, windowOf, chosenOf};
 ghost use Rattle.width.specs.Tests.{offOf};
 ghost use Rattle.segment.specs.Fit.{Fit, Filtered, InPlane, EdgeFiltered};
 
-// How many samples after an edge are to be filtered, by its window and thresholds that are not 0.
+// How many samples after an edge are to be filtered, by its window and thresholds that are not 0. What else the choice takes is looked up
+// first, so that the compiler reads each sample only where a test wants it.
 fn chosen_width(plane: &[u16], e: Place) -> usize
     requires { ⌜ Fit e (length (now plane)) × (offOf (e .q) (e .side) ≡ false) ⌝ }
     ensures { λ r. ⌜ r ≡ chosenOf e (windowOf e (now (plane .entry))) ⌝ }
 {
+    let n = most_before(e.pair);
+    let p = most_after(e.pair);
     let lines = read_lines(
         plane,
         e.at,
@@ -34,7 +37,7 @@ fn chosen_width(plane: &[u16], e: Place) -> usize
         reach_before(e.pair),
         reach_after(e.pair),
     );
-    filt_choice(lines, most_before(e.pair), most_after(e.pair), e.q, e.side)
+    filt_choice(lines, n, p, e.q, e.side)
 }
 
 // Filters an edge that is given by offsets and has no threshold of 0, and answers what it came to.
