@@ -13,9 +13,11 @@ trap '[ -z "$answer" ] || rm -f -- "$answer"' EXIT
 trap 'exit 130' INT
 trap 'exit 143' TERM
 
-# A file that is to be read.
+# A file that is to be read: standard input, or one that is there.
 readable() { # NAME WHAT
-  if [ -d "$1" ]; then bad "$1: a directory, and not $2"
+  if [ "$1" = - ]; then
+    [ ! -t 0 ] || bad "-: standard input is a terminal, and not $2"
+  elif [ -d "$1" ]; then bad "$1: a directory, and not $2"
   elif [ ! -e "$1" ]; then bad "$1: there is no such file"
   elif [ ! -r "$1" ]; then bad "$1: may not be read"
   fi

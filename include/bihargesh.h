@@ -4,10 +4,10 @@
  * to that many, a list that is not const overlaps no other, and an empty list may be NULL.
  * A function does its work, or answers minus the number of a refusal and leaves all lent memory as it was, but for one list: `place` is
  * where the place of the refusal goes, and the one list that a refusal writes (a frame refused by 7 or 8 has built its grids too).
- * Where several refusals hold, the answer is the first in the order 1, 2, 3, 4, 5, 9, 6, 7, 8, 10; enum bihargesh_refusal names them.
+ * Where several refusals hold, the answer is the first in the order 1, 2, 3, 4, 5, 9, 11, 12, 13, 6, 7, 8, 10; enum bihargesh_refusal names them.
  *
- * The functions with a list `place` put the place of a refusal into its first entry, if it has one: the first bad step, cell, leaf
- * or sample, counted from 0, and 0 for a refusal that has no place. `place` is left as lent where the answer is no refusal.
+ * The functions with a list `place` put the place of a refusal into its first entry, if it has one: the first bad step, cell, leaf,
+ * entry of a record or sample, counted from 0, and 0 for a refusal that has no place. `place` is left as lent where the answer is no refusal.
  * The functions with a list `settings` take their settings as numbers in a fixed order, named by an enum with each; numbers beyond those
  * are not looked at, and a list with fewer is refused by 3 before all else, since nothing else can be read. A number below 0 where a count
  * stands is out of its range.
@@ -35,7 +35,10 @@ enum bihargesh_refusal {
   BIHARGESH_NO_ROOM = 7,     /* an edge lacks room */
   BIHARGESH_BAD_SAMPLE = 8,  /* a used sample exceeds 2^depth - 1 */
   BIHARGESH_BAD_LEAF = 9,    /* a leaf is bad */
-  BIHARGESH_SHORT_BUFFER = 10 /* the buffer has less room than the record of a plane's marked edges takes */
+  BIHARGESH_SHORT_BUFFER = 10, /* the buffer has less room than the record of a plane's marked edges takes */
+  BIHARGESH_BAD_HEADER = 11, /* a record has fewer than five bytes, or another mark or version */
+  BIHARGESH_CUT_ENTRY = 12,  /* a record ends within an entry */
+  BIHARGESH_BAD_ENTRY = 13   /* an entry's direction, length pair, q or side is out of range */
 };
 
 /* Fills a list with the 352 AC steps of the published encoder, for `steps` below, and answers 0: 64, then 24 steps an octave, and from
@@ -92,6 +95,23 @@ int32_t bihargesh_record_plane(uint16_t *plane, size_t plane_len, uint8_t *recor
                                const uint8_t *sqw, size_t sqw_len, const uint8_t *sqh, size_t sqh_len, const uint16_t *qindex, size_t qindex_len,
                                const uint32_t *steps, size_t steps_len, const int32_t *settings, size_t settings_len,
                                size_t *place, size_t place_len);
+
+/* Where the settings of a plane stand on which a record is run. */
+enum bihargesh_replay_setting {
+  BIHARGESH_REPLAY_COLS,
+  BIHARGESH_REPLAY_ROWS,
+  BIHARGESH_REPLAY_STRIDE,
+  BIHARGESH_REPLAY_DEPTH,
+  BIHARGESH_REPLAY_SETTINGS
+};
+
+/* Runs the edges of a record on a plane, one after the other as they stand, and answers 0. The record of bihargesh_record_plane and the plane that was
+ * lent to it give the plane that it left. Any whole record is run: an edge may stand in it twice, and x and y need not be multiples of 4.
+ * plane has rows of stride samples; direction is 0 or 1, the length pair 0..7, q 0..2048, side 0..839, and x and y are anything with room in the plane.
+ * settings, four numbers: cols and rows (cells each way, 1..1024), stride (4*cols..8192), depth. Refusals 1, 2, 3, 11, 12, 13, 7, 8, in this order: 12 with
+ * the number of the cut entry, 13 and 7 with that of the first bad one; 8 over 4*cols by 4*rows samples. A short record is refused by 11 or 12, never by 3. */
+int32_t bihargesh_replay(uint16_t *plane, size_t plane_len, const uint8_t *record, size_t record_len,
+                         const int32_t *settings, size_t settings_len, size_t *place, size_t place_len);
 
 /* Where a TU grid's settings stand. */
 enum bihargesh_tx_grid_setting {

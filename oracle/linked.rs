@@ -30,6 +30,8 @@ mod raw;
 mod record;
 #[path = "src/refusals.rs"]
 mod refusals;
+#[path = "src/replay.rs"]
+mod replay;
 #[path = "src/rust.rs"]
 mod rust;
 #[path = "src/segment.rs"]
@@ -285,6 +287,63 @@ fn of_record_plane(random: &Random, made: &Made) -> Compared {
     Ok(due.no)
 }
 
+/// A record that is run again, beside segments of the Rust one after the other.
+fn of_replay(random: &Random, made: &Made) -> Compared {
+    let mut n = Numbers::of(made);
+    let all = n.some(4);
+    let (record, mut plane): (Vec<u8>, Vec<u16>) = (n.list(), n.list());
+    let due = n.due();
+    let (settings, due) = settings(random, all, due, &[]);
+    let after = if due.no == 0 { n.some(plane.len()) } else { plane.clone() };
+    let (mut place, place_after) = places(random, due);
+    let lent = (record.clone(), settings.clone());
+    let answer = replay(&mut plane, &record, &settings, &mut place);
+    same("the answer", answer, -due.no)?;
+    same("the place", place, place_after)?;
+    same("the plane", plane, after)?;
+    same("a list for reading", (record, settings), lent)?;
+    Ok(due.no)
+}
+
+fn replay(plane: &mut [u16], record: &[u8], settings: &[i32], place: &mut [usize]) -> i32 {
+    unsafe {
+        raw::bihargesh_replay(
+            plane.as_mut_ptr(), plane.len(), record.as_ptr(), record.len(), settings.as_ptr(), settings.len(), place.as_mut_ptr(), place.len(),
+        )
+    }
+}
+
+/// A recorded plane that is accepted.
+fn recorded(random: &Random, _: bool, steps: Option<&[u32]>) -> Made {
+    record::make(random, false, steps)
+}
+
+/// Our own record of a plane, run again on the plane as it was lent: the Rust's plane both times.
+fn of_round_trip(_: &Random, made: &Made) -> Compared {
+    let mut n = Numbers::of(made);
+    let PlaneCase { all, grid, qindex, plane: lent, steps } = PlaneCase::of(made, &mut n);
+    let mut bytes: Vec<u8> = n.list();
+    let due = n.due();
+    let after: Vec<u16> = n.some(lent.len());
+    let (mut plane, mut place) = (lent.clone(), [77]);
+    let [v, h, w, t] = &grid;
+    let length = unsafe {
+        raw::bihargesh_record_plane(
+            plane.as_mut_ptr(), plane.len(), bytes.as_mut_ptr(), bytes.len(), v.as_ptr(), v.len(), h.as_ptr(), h.len(),
+            w.as_ptr(), w.len(), t.as_ptr(), t.len(), qindex.as_ptr(), qindex.len(), steps.as_ptr(), steps.len(),
+            all.as_ptr(), all.len(), place.as_mut_ptr(), place.len(),
+        )
+    };
+    same("the length", length, due.place as i32)?;
+    same("the recorded plane", &plane, &after)?;
+    let mut again = lent;
+    let answer = replay(&mut again, &bytes[..length as usize], &[all[0], all[1], all[2], all[8]], &mut place);
+    same("the answer", answer, 0)?;
+    same("the plane", again, plane)?;
+    same("the place", place, [77])?;
+    Ok(due.no)
+}
+
 /// The numbers of a TU grid's case.
 struct Tiles {
     all: Vec<i32>,
@@ -489,11 +548,13 @@ struct Part {
     compare: fn(&Random, &Made) -> Compared,
 }
 
-const PARTS: [Part; 8] = [
+const PARTS: [Part; 11] = [
     Part { name: "bihargesh_thresholds", makes: &[thresholds::make], kind: None, compare: of_thresholds },
     Part { name: "bihargesh_segment", makes: &[segment::make_window], kind: None, compare: of_segment },
     Part { name: "bihargesh_plane", makes: &[plane::make, plane::make_bins], kind: None, compare: of_plane },
     Part { name: "bihargesh_record_plane", makes: &[record::make], kind: None, compare: of_record_plane },
+    Part { name: "bihargesh_replay", makes: &[replay::make], kind: None, compare: of_replay },
+    Part { name: "bihargesh_replay of bihargesh_record_plane", makes: &[recorded], kind: None, compare: of_round_trip },
     Part { name: "bihargesh_tx_grid", makes: &[grid::make], kind: Some(1), compare: of_tx_grid },
     Part { name: "bihargesh_tx_grid_leaves", makes: &[whole_leaves], kind: Some(1), compare: of_tx_grid_leaves },
     Part { name: "bihargesh_qindex_grid", makes: &[grid::make], kind: Some(2), compare: of_qindex_grid },
@@ -506,7 +567,7 @@ const PARTS: [Part; 8] = [
 struct Counts {
     accepted: u64,
     changed: u64,
-    refused: [u64; 11],
+    refused: [u64; 14],
 }
 
 impl Counts {

@@ -261,6 +261,80 @@ static void records(void) {
   same("no list for the record", record_plane(NULL, 0, 11), -10);
 }
 
+/* ---- that record, run again */
+
+static uint8_t again[35];
+static int32_t replay_settings[4];
+
+/* the record of three edges, the first of them twice */
+static void again_anew(void) {
+  static const uint8_t bytes[35] = {'E', 'D', 'G', 1, 0, 8, 0, 0, 0, 0, 3, 8, 0, 40, 0, 12, 0, 0, 0, 0, 1, 8, 0, 40, 0, 8, 0, 0, 0, 0, 3, 8, 0, 40, 0};
+  static const int32_t numbers[4] = {6, 1, 24, 8};
+  plane_anew();
+  memcpy(again, bytes, sizeof again);
+  memcpy(replay_settings, numbers, sizeof numbers);
+}
+
+static int32_t run_again(size_t length, size_t settings_len) {
+  return bihargesh_replay(plane, LEN(plane), again, length, replay_settings, settings_len, place, 1);
+}
+
+static void refused_again(const char *what, size_t length, size_t settings_len, int32_t want, size_t at) {
+  memcpy(lent, plane, sizeof plane);
+  same(what, run_again(length, settings_len), want);
+  same(what, (long long)place[0], (long long)at);
+  same("the plane as lent", memcmp(plane, lent, sizeof plane), 0);
+  again_anew();
+}
+
+static void replays(void) {
+  again_anew();
+  same("the record of one edge", run_again(15, 4), 0);
+  same("place as lent", (long long)place[0], 77);
+  memcpy(lent, plane, sizeof plane);
+  again_anew();
+  same("plane", run_plane(11), 0);
+  same("the plane of the run that wrote it", memcmp(plane, lent, sizeof plane), 0);
+  again_anew();
+  memcpy(lent, plane, sizeof plane);
+  same("a header alone", run_again(5, 4), 0);
+  same("the plane as lent", memcmp(plane, lent, sizeof plane), 0);
+  same("an edge twice", run_again(35, 4), 0);
+  again_anew();
+  for (size_t n = 0; n <= 25; n++) {
+    if (n < 5) refused_again("no header", n, 4, -BIHARGESH_BAD_HEADER, 0);
+    else if ((n - 5) % 10 != 0) refused_again("a cut entry", n, 4, -BIHARGESH_CUT_ENTRY, (n - 5) / 10);
+    else same("a whole record", run_again(n, 4), 0), again_anew();
+  }
+  for (int k = 0; k < 5; k++) {
+    again[k]++;
+    refused_again("another mark or version", 15, 4, -11, 0);
+  }
+  again[19] = 2;
+  refused_again("direction 2", 35, 4, -BIHARGESH_BAD_ENTRY, 1);
+  again[20] = 8;
+  refused_again("pair 8", 35, 4, -13, 1);
+  again[22] = 9;
+  refused_again("q 2312", 35, 4, -13, 1);
+  again[24] = 4;
+  refused_again("side 1064", 35, 4, -13, 1);
+  again[10] = 8;
+  refused_again("a cut entry before a bad one", 24, 4, -12, 1);
+  again[15] = 2;
+  refused_again("no room", 35, 4, -BIHARGESH_NO_ROOM, 1);
+  again[17] = 1;
+  refused_again("no room for four lines", 35, 4, -7, 1);
+  plane[90] = 256;
+  refused_again("sample 256", 5, 4, -8, 90);
+  replay_settings[BIHARGESH_REPLAY_DEPTH] = 9;
+  refused_again("depth 9", 0, 4, -1, 0);
+  replay_settings[BIHARGESH_REPLAY_STRIDE] = 23;
+  refused_again("stride 23", 0, 4, -2, 0);
+  replay_settings[BIHARGESH_REPLAY_ROWS] = 2;
+  refused_again("a row too few", 0, 4, -3, 0);
+  refused_again("three numbers", 0, 3, -BIHARGESH_BAD_LENGTH, 0);
+}
+
 /* ---- grids of 16 by 16 cells, with one entry more that stays */
 
 static uint8_t marks[4][257];
@@ -440,7 +514,8 @@ static void settings_counted(void) {
   same("a qindex grid's settings", BIHARGESH_QINDEX_GRID_SETTINGS, 5);
   same("a frame's settings", BIHARGESH_FRAME_SETTINGS, 15);
   same("CCSO's settings", BIHARGESH_CCSO_SETTINGS, 16);
-  same("the last refusal", BIHARGESH_SHORT_BUFFER, 10);
+  same("a replay's settings", BIHARGESH_REPLAY_SETTINGS, 4);
+  same("the last refusal", BIHARGESH_BAD_ENTRY, 13);
 }
 
 int main(void) {
@@ -449,6 +524,7 @@ int main(void) {
   refusals();
   planes();
   records();
+  replays();
   grids();
   records();
   frames();

@@ -55,9 +55,15 @@ pub enum Reason {
     Leaf,
     /// The buffer is too short for the record of a plane's edges.
     Buffer,
+    /// A record has no header: fewer than five bytes, or another mark or version.
+    Header,
+    /// A record ends within an entry.
+    Cut,
+    /// An entry's direction, length pair, q or side is out of range.
+    Entry,
 }
 
-const REASONS: [Reason; 10] = [
+const REASONS: [Reason; 13] = [
     Reason::Depth,
     Reason::Size,
     Reason::Length,
@@ -68,6 +74,9 @@ const REASONS: [Reason; 10] = [
     Reason::Sample,
     Reason::Leaf,
     Reason::Buffer,
+    Reason::Header,
+    Reason::Cut,
+    Reason::Entry,
 ];
 
 impl Reason {
@@ -95,13 +104,16 @@ impl fmt::Display for Reason {
             Reason::Sample => "a sample exceeds the depth's largest",
             Reason::Leaf => "a leaf is bad",
             Reason::Buffer => "the buffer is too short for the record of a plane's edges",
+            Reason::Header => "the record has fewer than five bytes, or another mark or version",
+            Reason::Cut => "the record ends within an entry",
+            Reason::Entry => "an entry of the record is out of range",
         })
     }
 }
 
 impl Error for Reason {}
 
-/// Why an entry did nothing, and at which step, cell, leaf or sample: 0 where a refusal has no place.
+/// Why an entry did nothing, and at which step, cell, leaf, entry of a record or sample: 0 where a refusal has no place.
 #[derive(Clone, Copy, Debug, PartialEq, Eq)]
 pub struct Refusal {
     pub reason: Reason,
@@ -111,7 +123,7 @@ pub struct Refusal {
 impl fmt::Display for Refusal {
     fn fmt(&self, f: &mut fmt::Formatter) -> fmt::Result {
         match self.reason {
-            Reason::Steps | Reason::Cell | Reason::Room | Reason::Sample | Reason::Leaf => write!(f, "{}, at place {}", self.reason, self.place),
+            Reason::Steps | Reason::Cell | Reason::Room | Reason::Sample | Reason::Leaf | Reason::Cut | Reason::Entry => write!(f, "{}, at place {}", self.reason, self.place),
             _ => self.reason.fmt(f),
         }
     }
@@ -140,6 +152,15 @@ pub struct Plane {
     pub depth: i32,
     pub delta_q: i32,
     pub delta_side: i32,
+}
+
+/// Settings of a plane on which a record is run.
+#[derive(Clone, Copy, Debug, Default)]
+pub struct Replay {
+    pub cols: i32,
+    pub rows: i32,
+    pub stride: i32,
+    pub depth: i32,
 }
 
 /// A plane's grid: a number for each cell, row by row.
@@ -345,6 +366,35 @@ pub fn record_plane(plane: &mut [u16], record: &mut [u8], grid: Grid, steps: &[u
         )
     };
     counted(answer, place)
+}
+
+/// Runs the edges of a record on a plane, one after the other; `record_plane`'s record, on the plane as it was lent there, gives the plane that it left.
+///
+/// ```
+/// use bihargesh::{replay, Reason, Refusal, Replay};
+///
+/// // an edge at x 8, pair 1, q 20, side 40, on a step from 100 to 108
+/// let record = [b'E', b'D', b'G', 1, 0, 8, 0, 0, 0, 0, 1, 20, 0, 40, 0];
+/// let settings = Replay { cols: 4, rows: 1, stride: 16, depth: 8 };
+/// let mut plane: Vec<u16> = [[100; 8], [108; 8]].concat().repeat(4);
+/// replay(&mut plane, &record, settings)?;
+/// assert_eq!(plane[4..12], [100, 101, 102, 103, 105, 106, 107, 108]);
+///
+/// let refusal = replay(&mut plane, &record[..14], settings).unwrap_err();
+/// assert_eq!(refusal, Refusal { reason: Reason::Cut, place: 0 });
+/// assert_eq!(refusal.to_string(), "the record ends within an entry, at place 0");
+/// # Ok::<(), Refusal>(())
+/// ```
+pub fn replay(plane: &mut [u16], record: &[u8], s: Replay) -> Result<(), Refusal> {
+    let settings = [s.cols, s.rows, s.stride, s.depth];
+    let mut place = [0];
+    // SAFETY: as above.
+    let answer = unsafe {
+        bihargesh_replay(
+            plane.as_mut_ptr(), plane.len(), record.as_ptr(), record.len(), settings.as_ptr(), settings.len(), place.as_mut_ptr(), place.len(),
+        )
+    };
+    told(answer, place)
 }
 
 /// Builds a plane's marks and size indices from its leaves and skip leaves, four numbers a leaf.

@@ -25,6 +25,10 @@ extern "C" {
         sqw: *const u8, sqw_len: usize, sqh: *const u8, sqh_len: usize, qindex: *const u16, qindex_len: usize,
         steps: *const u32, steps_len: usize, settings: *const i32, settings_len: usize, place: *mut usize, place_len: usize,
     ) -> i32;
+    pub fn bihargesh_replay(
+        plane: *mut u16, plane_len: usize, record: *const u8, record_len: usize,
+        settings: *const i32, settings_len: usize, place: *mut usize, place_len: usize,
+    ) -> i32;
     pub fn bihargesh_tx_grid(
         leaves: *const u16, leaves_len: usize, skips: *const u16, skips_len: usize, vedge: *mut u8, vedge_len: usize,
         hedge: *mut u8, hedge_len: usize, sqw: *mut u8, sqw_len: usize, sqh: *mut u8, sqh_len: usize,

@@ -32,8 +32,8 @@ fn load(name: &[u8], bytes: &mut [u8]) -> usize
     n
 }
 
-// What two records are to each other, in words.
-fn tell(first: &[u8], second: &[u8], a: &[u8], b: &[u8])
+// What two records are to each other, in words; whether they differ.
+fn tell(a: &[u8], b: &[u8]) -> bool
     requires { ⌜ (5 ≤ length (now a)) × (5 ≤ length (now b)) ⌝ }
 {
     let d = compare(a, b);
@@ -42,7 +42,7 @@ fn tell(first: &[u8], second: &[u8], a: &[u8], b: &[u8])
             say::words(b"0equal: ");
             say::number(n);
             say::words(b" edges\n");
-            return;
+            return false;
         }
         Difference::Edges(k, e, f) => {
             say::words(b"1");
@@ -60,7 +60,7 @@ fn tell(first: &[u8], second: &[u8], a: &[u8], b: &[u8])
             say::words(b"; the first record has no such edge\n");
         }
     }
-    say::longer(first, count(a), second, count(b));
+    true
 }
 
 pub fn run(first: &[u8], second: &[u8]) {
@@ -74,5 +74,7 @@ pub fn run(first: &[u8], second: &[u8]) {
     if m < 5 {
         return;
     }
-    tell(first, second, &a[..n], &b[..m]);
+    if tell(&a[..n], &b[..m]) {
+        say::longer(first, count(&a[..n]), second, count(&b[..m]));
+    }
 }

@@ -13,7 +13,7 @@ pub fn number(n: usize) {
 }
 
 pub fn usage() {
-    words(b"usage: compare_records A B\n");
+    words(b"usage: compare_records A [B]\n");
 }
 
 // A file that is no record.

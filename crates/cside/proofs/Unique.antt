@@ -5,6 +5,7 @@ use mathlib.Core.List.{List}
 use Prim.Native.Nat.{ℕ}
 use lib.IntN.{ℤ}
 use Rattle.rules.specs.Plane.{Grid, runPlane}
+use Rattle.rules.specs.Replay.{replayCheck, replayOf}
 use Rattle.rules.specs.TuGrid.{Marks, txGridCheck, txGridOf}
 use Rattle.rules.specs.QindexGrid.{qGridCheck, qGridOf}
 use Rattle.rules.specs.Ccso.{ccsoCheck, ccsoOf}
@@ -12,7 +13,7 @@ use Rattle.rules.specs.Frame.{Given, Lent}
 use Rattle.rules.specs.CSide.{cThresholds, cSegment, cWindow}
 use Rattle.answers.specs.Told.{listed, Reported}
 use Rattle.answers.proofs.Unique.{counted-unique, reported-unique}
-use Rattle.numbers.specs.Settings.{planeOf, tuGridOf, qindexGridOf, offsetsOf}
+use Rattle.numbers.specs.Settings.{planeOf, replaySettings, tuGridOf, qindexGridOf, offsetsOf}
 use Rattle.entries.specs.Planes.{cPlaneCheck, RecordTold}
 use Rattle.leaves.specs.declared.records.Leaf.{Leaf}
 use Rattle.leaves.specs.Records.{flat}
@@ -47,6 +48,12 @@ module _ {r s : ℤ} where
     record-plane-unique steps l b g t u =
         let e = counted-unique (t .told) (u .told) in
         (e .0, t .plane ∙ sym (u .plane), t .buffer ∙ sym (u .buffer), e .1)
+
+    pub replay-unique : (bytes l : List ℕ) {m n : List ℕ}
+        → Reported (listed 4 settings (replayCheck (replaySettings settings) bytes l)) l (replayOf (replaySettings settings) bytes l) place r m p
+        → Reported (listed 4 settings (replayCheck (replaySettings settings) bytes l)) l (replayOf (replaySettings settings) bytes l) place s n q
+        → (r ≡ s) × (m ≡ n) × (p ≡ q)
+    replay-unique bytes l = reported-unique
 
     pub tx-grid-unique : (leaves skips : List ℕ) (g : Marks) {m n : Marks}
         → Reported (listed 6 settings (txGridCheck (tuGridOf settings) leaves skips g)) g (txGridOf (tuGridOf settings) leaves skips g) place r m p

@@ -9,6 +9,7 @@ use lib.ListN.{length}
 use lib.IntN.{ℤ}
 use Rattle.laws.specs.Choose.{is-le, not-le, told-yes-not, told-no-not}
 use Rattle.rules.specs.declared.settings.Plane.{Plane}
+use Rattle.rules.specs.declared.settings.Replay.{Replay}
 use Rattle.rules.specs.declared.settings.TuGrid.{TuGrid}
 use Rattle.rules.specs.declared.settings.QindexGrid.{QindexGrid}
 use Rattle.rules.specs.declared.settings.Ccso.{Ccso}
@@ -18,14 +19,16 @@ use Rattle.rules.specs.declared.refusals.Answer.{Answer}
 use Rattle.rules.specs.declared.refusals.Answer.the-variants.{Accepted, Refused}
 use Rattle.rules.specs.Numbers.{depthOk}
 use Rattle.rules.specs.Plane.{Grid, planeAfter, runPlane}
+use Rattle.rules.specs.Replay.{replayCheck, replayOf, replayAfter}
 use Rattle.rules.specs.TuGrid.{Marks, txGridCheck, txGridOf, txGridAfter}
 use Rattle.rules.specs.QindexGrid.{qGridCheck, qGridOf, qGridAfter}
 use Rattle.rules.specs.Ccso.{ccsoCheck, ccsoOf, ccsoAfter}
 use Rattle.scan.proofs.Checks.{stop, stop-by, go-on, go-on-by, unless-bad, unless-good, unless-true, else-parts}
 use Rattle.plane.specs.Checked.{Stated as «PlaneStated»}
+use Rattle.replay.specs.Fit.{Replayed}
 use Rattle.ccso.specs.Stated.{Stated as «OffsetsStated»}
 use Rattle.answers.specs.Told.{listed, Handed}
-use Rattle.numbers.specs.Settings.{countAt, planeOf, tuGridOf, qindexGridOf, offsetsOf}
+use Rattle.numbers.specs.Settings.{countAt, planeOf, replaySettings, tuGridOf, qindexGridOf, offsetsOf}
 use Rattle.entries.specs.Planes.{listCheck, cPlaneCheck}
 use Rattle.answers.proofs.Numbers.{handed-refused, handed-on, long}
 
@@ -75,6 +78,15 @@ module _ (settings : List ℤ) (steps : List ℕ) (g : Grid) (l : List ℕ) {a :
   plane-done {s} {x} {m} e read t =
       let w : «PlaneStated» (planeOf settings) steps g l x m = rw read at t in
       handed-on l _ (go-on-by _ _ _ _ is e refl) (w .answer) (w .plane)
+
+-- ---- a record that is run again
+
+module _ (settings : List ℤ) (bytes l : List ℕ) (enough : 4 ≤ length settings) {s : Replay} (read : s ≡ replaySettings settings) where
+  pub replay-done : {a : Answer} {m : List ℕ} → Replayed s bytes l a m → Handed (listed 4 settings (replayCheck (replaySettings settings) bytes l)) l (replayOf (replaySettings settings) bytes l) a m
+  unfolding replayAfter
+  replay-done {a} {m} t =
+      let w : Replayed (replaySettings settings) bytes l a m = rw read at t in
+      long 4 settings _ l _ enough (w .answer) (w .plane)
 
 -- ---- the grids
 

@@ -7,12 +7,13 @@ use lib.IntN.{ℤ}
 use Rattle.rules.specs.declared.refusals.Answer.{Answer}
 use Rattle.rules.specs.declared.refusals.Recorded.{Recorded}
 use Rattle.rules.specs.Plane.{Grid, runPlane}
+use Rattle.rules.specs.Replay.{replayCheck, replayOf}
 use Rattle.rules.specs.TuGrid.{Marks, txGridCheck, txGridOf}
 use Rattle.rules.specs.QindexGrid.{qGridCheck, qGridOf}
 use Rattle.rules.specs.Ccso.{ccsoCheck, ccsoOf}
 use Rattle.answers.specs.Told.{listed, Handed}
 use Rattle.answers.proofs.Unique.{handed-unique}
-use Rattle.numbers.specs.Settings.{planeOf, tuGridOf, qindexGridOf, offsetsOf}
+use Rattle.numbers.specs.Settings.{planeOf, replaySettings, tuGridOf, qindexGridOf, offsetsOf}
 use Rattle.entries.specs.Planes.{cPlaneCheck, RecordHanded}
 
 module _ {a b : Answer} (settings : List ℤ) where
@@ -21,6 +22,12 @@ module _ {a b : Answer} (settings : List ℤ) where
       → Handed (cPlaneCheck settings steps g l) l (runPlane (planeOf settings) steps g l) b n
       → (a ≡ b) × (m ≡ n)
   deblock-unique steps l g = handed-unique
+
+  pub run-again-unique : (bytes l : List ℕ) {m n : List ℕ}
+      → Handed (listed 4 settings (replayCheck (replaySettings settings) bytes l)) l (replayOf (replaySettings settings) bytes l) a m
+      → Handed (listed 4 settings (replayCheck (replaySettings settings) bytes l)) l (replayOf (replaySettings settings) bytes l) b n
+      → (a ≡ b) × (m ≡ n)
+  run-again-unique bytes l = handed-unique
 
   pub build-unique : (leaves skips : List ℕ) (g : Marks) {m n : Marks}
       → Handed (listed 6 settings (txGridCheck (tuGridOf settings) leaves skips g)) g (txGridOf (tuGridOf settings) leaves skips g) a m

@@ -6,6 +6,7 @@ use lib.Dec.{eqb}
 use lib.ListN.{getD}
 use lib.IntN.{ℤ, pos, negsuc}
 use Rattle.rules.specs.declared.settings.Plane.{Plane}
+use Rattle.rules.specs.declared.settings.Replay.{Replay}
 use Rattle.rules.specs.declared.settings.TuGrid.{TuGrid}
 use Rattle.rules.specs.declared.settings.QindexGrid.{QindexGrid}
 use Rattle.rules.specs.declared.settings.Ccso.{Ccso}
@@ -36,6 +37,15 @@ planeOf l = record {
   depth = countAt l 8;
   deltaq = numberAt l 9;
   deltaside = numberAt l 10;
+}
+
+-- of a plane on which a record is run, four numbers
+unfoldable pub replaySettings : List ℤ → Replay
+replaySettings l = record {
+  cols = countAt l 0;
+  rows = countAt l 1;
+  stride = countAt l 2;
+  depth = countAt l 3;
 }
 
 -- a TU grid's, six numbers

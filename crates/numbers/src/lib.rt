@@ -3,12 +3,13 @@ use laws::split;
 use rules::settings::Ccso;
 use rules::settings::Plane;
 use rules::settings::QindexGrid;
+use rules::settings::Replay;
 use rules::settings::TuGrid;
 ghost use mathlib.Core.Path.{_≡_};
 ghost use Prim.Native.Nat.{_≤_, _<_};
 ghost use lib.Dec.{eqb};
 ghost use lib.ListN.{length};
-ghost use Rattle.numbers.specs.Settings.{numberAt, countOf, countAt, planeOf, tuGridOf, qindexGridOf, offsetsOf};
+ghost use Rattle.numbers.specs.Settings.{numberAt, countOf, countAt, planeOf, replaySettings, tuGridOf, qindexGridOf, offsetsOf};
 
 // Number k of a list.
 pub fn number(list: &[i32], k: usize) -> i32
@@ -67,6 +68,19 @@ pub fn plane_of(list: &[i32]) -> Plane
         depth: count(list, 8),
         deltaq: number(list, 9),
         deltaside: number(list, 10),
+    }
+}
+
+// Settings of a plane on which a record is run.
+pub fn replay_of(list: &[i32]) -> Replay
+    requires { ⌜ 4 ≤ length (now list) ⌝ }
+    ensures { λ s. ⌜ s ≡ replaySettings (now (list .entry)) ⌝ }
+{
+    Replay {
+        cols: size(list, 0),
+        rows: size(list, 1),
+        stride: size(list, 2),
+        depth: count(list, 3),
     }
 }
 

@@ -43,8 +43,32 @@ slice-aggregate-tell-2 c = front _ _ (search needs)
 tell-requires : tie.Need-tell-requires
 tell-requires c κs = (front-long 5 (c .before .before .before .before .before .before .before .before .before .load .result) (c .before .before .before .before .before .before .before .before .before .load .last .1 .0) (c .before .before .before .before .before .before .before .before .before .load .ensures) (c .before .before .before .before .before .before .before .if1 .left), front-long 5 (c .before .before .before .before .load2 .result) (c .before .before .before .before .load2 .last .1 .0) (c .before .before .before .before .load2 .ensures) (c .before .before .if2 .left))
 
+array-share-prefix-a-2 : tie.Need-array-share-prefix-a-2
+array-share-prefix-a-2 c = search needs
+
+slice-aggregate-count : tie.Need-slice-aggregate-count
+slice-aggregate-count c = front _ _ (c .before .before .before .before .before .before .before .before .before .before .before .before .load .ensures)
+
+count-requires : tie.Need-count-requires
+count-requires c κs = front-long 5 (c .before .before .before .before .before .before .before .before .before .before .before .before .load .result) (c .before .before .before .before .before .before .before .before .before .before .before .before .load .last .1 .0) (c .before .before .before .before .before .before .before .before .before .before .before .before .load .ensures) (c .before .before .before .before .before .before .before .before .before .before .if1 .left)
+
+array-share-prefix-b-2 : tie.Need-array-share-prefix-b-2
+array-share-prefix-b-2 c = search needs
+
+slice-aggregate-count-2 : tie.Need-slice-aggregate-count-2
+slice-aggregate-count-2 c = front _ _ (c .before .before .before .before .before .before .before .before .before .load2 .ensures)
+
+count-requires-2 : tie.Need-count-requires-2
+count-requires-2 c κs = front-long 5 (c .before .before .before .before .before .before .before .before .before .load2 .result) (c .before .before .before .before .before .before .before .before .before .load2 .last .1 .0) (c .before .before .before .before .before .before .before .before .before .load2 .ensures) (c .before .before .before .before .before .before .before .if2 .left)
+
+longer-requires : tie.Need-longer-requires
+longer-requires c κs = search needs
+
 returns-3 : tie.Need-returns-3
 returns-3 c = search needs
+
+returns-4 : tie.Need-returns-4
+returns-4 c = search needs
 
 pub run-spec : {M : Type 1} → statement M
 run-spec =
@@ -63,4 +87,12 @@ run-spec =
     array-share-prefix-b
     slice-aggregate-tell-2
     tell-requires
-    returns-3)
+    array-share-prefix-a-2
+    slice-aggregate-count
+    count-requires
+    array-share-prefix-b-2
+    slice-aggregate-count-2
+    count-requires-2
+    longer-requires
+    returns-3
+    returns-4)
