@@ -1,8 +1,10 @@
 //! One plane run, by the published Rust's `deblock_plane` or by our `bihargesh_plane`, on equal square planes of depth 8.
 //!
-//!     pace once none|rust|ours SIZE INDEX   one run, for counting instructions; `none` stops where the run would begin
-//!     pace time SIZE INDEX                  medians of 31 runs of each on fresh copies, in nanoseconds: the Rust's, then ours
-//!     pace same SIZE INDEX                  both once: how many edges and changed samples; fails where the planes differ
+//!     pace once none|rust|ours SIZE KIND   one run, for counting instructions; `none` stops where the run would begin
+//!     pace time SIZE KIND                  medians of 31 runs of each on fresh copies, in nanoseconds: the Rust's, then ours
+//!     pace same SIZE KIND                  both once: how many edges and changed samples; fails where the planes differ
+//!
+//! KIND is the size index of all blocks, or `dark`: index 1, and every qindex 0, so that every threshold is 0.
 
 #[path = "src/random.rs"]
 mod random;
@@ -60,7 +62,9 @@ fn samples(random: &Random, size: usize) -> Vec<u16> {
 }
 
 impl Scene {
-    fn new(size: usize, index: usize) -> Scene {
+    fn new(size: usize, kind: &str) -> Scene {
+        let dark = kind == "dark";
+        let index: usize = if dark { 1 } else { kind.parse().expect("an index") };
         let random = Random::new(13);
         let cells = size / 4;
         let room = |k: usize| (k > 0 && 4 * k >= REACH[index] && 4 * k + REACH[index] <= size) as u8;
@@ -70,7 +74,7 @@ impl Scene {
             vertical: (0..cells * cells).map(|i| room(i % cells)).collect(),
             horizontal: (0..cells * cells).map(|i| room(i / cells)).collect(),
             sizes: vec![index as u8; cells * cells],
-            qindex: (0..cells * cells).map(|_| random.size(120, 215) as u16).collect(),
+            qindex: (0..cells * cells).map(|_| if dark { 0 } else { random.size(120, 215) as u16 }).collect(),
             steps: rust::quant::steps(),
             samples: samples(&random, size),
         }
@@ -199,13 +203,13 @@ fn same(s: &Scene) {
 fn main() {
     let words: Vec<String> = std::env::args().skip(1).collect();
     let words: Vec<&str> = words.iter().map(String::as_str).collect();
-    let scene = |size: &str, index: &str| Scene::new(size.parse().expect("a size"), index.parse().expect("an index"));
+    let scene = |size: &str, kind: &str| Scene::new(size.parse().expect("a size"), kind);
     match words.as_slice() {
-        ["once", side, size, index] => once(&scene(size, index), side),
-        ["time", size, index] => time(&scene(size, index)),
-        ["same", size, index] => same(&scene(size, index)),
+        ["once", side, size, kind] => once(&scene(size, kind), side),
+        ["time", size, kind] => time(&scene(size, kind)),
+        ["same", size, kind] => same(&scene(size, kind)),
         _ => {
-            eprintln!("pace once none|rust|ours SIZE INDEX | pace time SIZE INDEX | pace same SIZE INDEX");
+            eprintln!("pace once none|rust|ours SIZE KIND | pace time SIZE KIND | pace same SIZE KIND");
             exit(2);
         }
     }

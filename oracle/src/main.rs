@@ -28,7 +28,7 @@ use std::io::{self, BufWriter, Write};
 use std::process::exit;
 use summary::Summary;
 
-const USAGE: &str = "oracle thresholds|segment|segment-limits|segment-window|plane|plane-bins|plane-record|plane-replay|grid|frame|frame-bins|ccso N SEED [--only accepted|refused], or: oracle differences";
+const USAGE: &str = "oracle thresholds|segment|segment-limits|segment-window|plane|plane-bins|plane-dark|plane-record|plane-replay|grid|frame|frame-bins|ccso N SEED [--only accepted|refused], or: oracle differences";
 
 fn part(name: &str) -> Option<Make> {
     match name {
@@ -38,6 +38,7 @@ fn part(name: &str) -> Option<Make> {
         "segment-window" => Some(segment::make_window),
         "plane" => Some(plane::make),
         "plane-bins" => Some(plane::make_bins),
+        "plane-dark" => Some(plane::make_dark),
         "plane-record" => Some(record::make),
         "plane-replay" => Some(replay::make),
         "grid" => Some(grid::make),

@@ -211,6 +211,22 @@ pub fn make_bins(random: &Random, refused: bool, _: Option<&[u32]>) -> Made {
     answered(finished(random, refused, c))
 }
 
+/// Dark planes: every qindex is 0 and no delta is above 0, so that every threshold is 0. What is refused has a sample above top, and nothing else.
+pub fn make_dark(random: &Random, refused: bool, _: Option<&[u32]>) -> Made {
+    let mut c = good(random);
+    c.qindex.fill(0);
+    c.delta_q = -(random.below(129) as i64);
+    c.delta_side = -(random.below(129) as i64);
+    make_room(&mut c);
+    if refused {
+        let (x, y) = (random.below(4 * c.cells.0), random.below(4 * c.cells.1));
+        c.plane[(y * c.stride + x) as usize] = random.one_of(&[refusals::top(c.depth) + 1, 65535]) as u16;
+    }
+    let made = answered(c);
+    assert!(!made.changed, "a dark plane was changed");
+    made
+}
+
 fn finished(random: &Random, refused: bool, mut c: Case) -> Case {
     // A third of the refused cases lack room alone, a third lack nothing else.
     let kind = if refused { random.below(3) } else { 2 };

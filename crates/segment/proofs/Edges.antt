@@ -21,6 +21,7 @@ use Rattle.rules.specs.Width.{blank}
 use Rattle.rules.specs.Taps.{mostOf, before, after}
 use Rattle.rules.specs.Segment.{placed, placeOf, hasRoom, pAt, qAt, differenceOf, windowOf, chosenOf, storesOf, fourStores, lineStores, widthAt, segmentOf}
 use Rattle.lengths.proofs.Lengths.{PairFacts, pair-facts}
+use Rattle.width.specs.Tests.{offOf}
 use Rattle.width.proofs.Most.{width-most}
 use Rattle.segment.specs.declared.outcome.Outcome.{Outcome}
 use Rattle.segment.specs.Fit.{Room, Spread, Fit, Filtered, InPlane, EdgeFiltered}
@@ -51,8 +52,8 @@ module _ (e : Place) {size : ℕ} (fit : Fit e size) where
       let fa = f .after in
       (omega arith, omega arith, rw (p, q) (fit .room))
 
-  pub choice-fits : {p : ℕ} → p ≡ mostAfter (e .pair) → (p ≤ 8) × (e .q ≤ 2048) × (e .side ≤ 839)
-  choice-fits h = let f = pair-facts (e .pair) (fit .pair-is) .after in (omega arith, fit .q-most, fit .side-most)
+  pub choice-fits : {p : ℕ} → p ≡ mostAfter (e .pair) → offOf (e .q) (e .side) ≡ false → (p ≤ 8) × (e .q ≤ 2048) × (e .side ≤ 839) × (offOf (e .q) (e .side) ≡ false)
+  choice-fits h lit = let f = pair-facts (e .pair) (fit .pair-is) .after in (omega arith, fit .q-most, fit .side-most, lit)
 
 -- ---- the widths of an edge that filters
 module _ (e : Place) (l : List ℕ) {size : ℕ} (fit : Fit e size) {n w k : ℕ} (hw : w ≡ chosenOf e (windowOf e l)) (some : w ≡ 0 → ⊥) (hn : n ≡ mostBefore (e .pair)) (hk : k ≡ min w n) where

@@ -1,22 +1,36 @@
--- A threshold of 0 chooses no sample, whatever the window holds.
+-- A threshold of 0 chooses no sample, whatever the window holds, so that nothing is stored.
 -- Assumes nothing.
-use mathlib.Core.Path.{_≡_, refl, _∙_}
-use mathlib.Core.Bool.{true}
+use mathlib.Core.Path.{_≡_, refl, sym, _∙_}
+use mathlib.Core.Bool.{Bool, true, false}
 use mathlib.Core.List.{List}
 use Prim.Native.Nat.{ℕ}
 use lib.Dec.{eqb}
-use Rattle.laws.specs.Choose.{is-eq, either-first, either-later}
+use Rattle.rules.specs.declared.edge.Edge.{Edge}
 use Rattle.rules.specs.declared.edge.Line.{Line}
 use Rattle.rules.specs.declared.edge.Place.{Place}
-use Rattle.rules.specs.Segment.{chosenOf}
+use Rattle.rules.specs.Segment.{placed, placeOf, chosenOf}
 use Rattle.width.specs.Tests.{offOf}
 use Rattle.width.proofs.Order.{off-none}
+use Rattle.segment.specs.Fit.{EdgeFiltered}
+use Rattle.segment.proofs.Edges.{filtered-none, edge-filtered}
 
-module _ (e : Place) (ls : List Line) where
-  pub zero-q : e .q ≡ 0 → 0 ≡ chosenOf e ls
-  unfolding chosenOf offOf
-  zero-q h = off-none ls _ _ (e .q) (e .side) (either-first _ _ (is-eq (e .q) 0 h)) refl
+-- an edge's thresholds are its own, also where it is given by offsets
+off-placed : (stride : ℕ) (e : Edge) → offOf (placeOf stride e .q) (placeOf stride e .side) ≡ offOf (e .q) (e .side)
+unfolding placeOf
+off-placed stride e = by-direction (eqb (e .dir) 0)
+  where
+    by-direction : (b : Bool) → offOf (placed b stride e .q) (placed b stride e .side) ≡ offOf (e .q) (e .side)
+    by-direction true = refl
+    by-direction false = refl
 
-  pub zero-side : e .side ≡ 0 → 0 ≡ chosenOf e ls
-  unfolding chosenOf offOf
-  zero-side h = off-none ls _ _ (e .q) (e .side) (either-later _ _ (is-eq (e .side) 0 h)) refl
+zero-none : (e : Place) (ls : List Line) → offOf (e .q) (e .side) ≡ true → 0 ≡ chosenOf e ls
+unfolding chosenOf
+zero-none e ls on = off-none ls _ _ (e .q) (e .side) refl on
+
+module _ (stride : ℕ) (e : Edge) {r : Bool} (says : r ≡ offOf (e .q) (e .side)) where
+  pub edge-none : (top : ℕ) (l : List ℕ) → r ≡ true → EdgeFiltered top stride e l record { width = 0 } l
+  edge-none top l on =
+      edge-filtered top stride e refl (filtered-none top (placeOf stride e) l (zero-none (placeOf stride e) _ (off-placed stride e ∙ sym says ∙ on)) refl)
+
+  pub edge-lit : {p : Place} → p ≡ placeOf stride e → r ≡ false → offOf (p .q) (p .side) ≡ false
+  edge-lit is lit = rw is (off-placed stride e ∙ sym says ∙ lit)

@@ -14,4 +14,3 @@ mod segment;
 
 pub use outcome::Outcome;
 pub use segment::filter_edge;
-pub use segment::filter_segment;

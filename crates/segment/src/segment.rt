@@ -12,23 +12,23 @@ use rules::edge::Place;
 use taps::tables::limit_of;
 use taps::tables::weight;
 use width::choice::filt_choice;
+use width::choice::off;
 ghost use mathlib.Core.Path.{_≡_};
+ghost use mathlib.Core.Bool.{false};
 ghost use Prim.Native.Nat.{_+_, _*_, _<_};
 ghost use lib.ListN.{length};
 ghost use Rattle.rules.specs.Segment.{placeOf, windowOf, chosenOf};
+ghost use Rattle.width.specs.Tests.{offOf};
 ghost use Rattle.segment.specs.Fit.{Fit, Filtered, InPlane, EdgeFiltered};
 
-// How many samples after an edge are to be filtered, by its window; none of it is read where a threshold is 0.
+// How many samples after an edge are to be filtered, by its window and thresholds that are not 0. What else the choice takes is looked up
+// first, so that the compiler reads each sample only where a test wants it.
 fn chosen_width(plane: &[u16], e: Place) -> usize
-    requires { ⌜ Fit e (length (now plane)) ⌝ }
+    requires { ⌜ Fit e (length (now plane)) × (offOf (e .q) (e .side) ≡ false) ⌝ }
     ensures { λ r. ⌜ r ≡ chosenOf e (windowOf e (now (plane .entry))) ⌝ }
 {
-    if e.q == 0 {
-        return 0;
-    }
-    if e.side == 0 {
-        return 0;
-    }
+    let n = most_before(e.pair);
+    let p = most_after(e.pair);
     let lines = read_lines(
         plane,
         e.at,
@@ -37,12 +37,12 @@ fn chosen_width(plane: &[u16], e: Place) -> usize
         reach_before(e.pair),
         reach_after(e.pair),
     );
-    filt_choice(lines, most_before(e.pair), most_after(e.pair), e.q, e.side)
+    filt_choice(lines, n, p, e.q, e.side)
 }
 
-// Filters an edge that is given by offsets, and answers what it came to.
-pub fn filter_segment(plane: &mut [u16], e: Place, top: u16) -> Outcome
-    requires { ⌜ Fit e (length (now plane)) ⌝ }
+// Filters an edge that is given by offsets and has no threshold of 0, and answers what it came to.
+fn filter_segment(plane: &mut [u16], e: Place, top: u16) -> Outcome
+    requires { ⌜ Fit e (length (now plane)) × (offOf (e .q) (e .side) ≡ false) ⌝ }
     ensures { λ r. ⌜ Filtered top e (now (plane .entry)) r (now (plane .exit)) ⌝ }
 {
     let w = chosen_width(plane, e);
@@ -92,7 +92,7 @@ fn locate(e: Edge, stride: usize) -> Place
     }
 }
 
-// Filters an edge of columns by rows samples that lie in rows of stride samples.
+// Filters an edge of columns by rows samples that lie in rows of stride samples; none of them is read where a threshold is 0.
 pub fn filter_edge(
     plane: &mut [u16],
     stride: usize,
@@ -104,5 +104,8 @@ pub fn filter_edge(
     requires { ⌜ InPlane stride columns rows e (length (now plane)) ⌝ }
     ensures { λ r. ⌜ EdgeFiltered top stride e (now (plane .entry)) r (now (plane .exit)) ⌝ }
 {
+    if off(e.q, e.side) {
+        return Outcome { width: 0 };
+    }
     filter_segment(plane, locate(e, stride), top)
 }

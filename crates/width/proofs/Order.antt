@@ -69,4 +69,4 @@ by-tests ls n p q side he hg ho hz = rw (he, hg) at hz ∙ sym (grouped ls n p q
 
 pub ruleset widths = (refl, pick-eq, pick-ne, pick-lt, pick-ge, said-yes, said-not, by-tests)
 
-pub ruleset choices = (needs, off-none, ends-decide)
+pub ruleset choices = (needs, ends-decide)

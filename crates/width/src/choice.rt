@@ -11,8 +11,8 @@ ghost use Rattle.rules.specs.Width.{widthOf};
 ghost use Rattle.width.specs.Tests.{offOf, oneOf, twoOf};
 ghost use Rattle.width.specs.Ends.{ends};
 
-// Whether a threshold is 0.
-fn off(q: u32, side: u32) -> bool
+// Whether a threshold is 0: then no sample is filtered, whatever the lines hold, and none of them need be read.
+pub fn off(q: u32, side: u32) -> bool
     ensures { λ r. ⌜ r ≡ offOf q side ⌝ }
 {
     if q == 0 {
@@ -46,7 +46,7 @@ fn two_wide(q: u32, side: u32, e: u32, g: u32) -> bool
     3 * q < g
 }
 
-// The width by thresholds that are not 0; a function of its own, so that what it calls is inlined.
+// The width by lines 0 and 3; a function of its own, so that what it calls is inlined.
 fn width_of(a: Line, b: Line, n: usize, p: usize, q: u32, side: u32) -> usize
     requires { ⌜ (p ≤ 8) × (q ≤ 2048) × (side ≤ 839) × (offOf q side ≡ false) ⌝ }
     ensures { λ r. ⌜ r ≡ widthOf (ends a b) n p q side ⌝ }
@@ -71,13 +71,10 @@ fn width_of(a: Line, b: Line, n: usize, p: usize, q: u32, side: u32) -> usize
     far(a, b, n, p, q, side, g)
 }
 
-// How many samples to filter after the edge, of at most n before it and p after it.
+// How many samples to filter after the edge, of at most n before it and p after it, by thresholds that are not 0.
 pub fn filt_choice(lines: [Line; 4], n: usize, p: usize, q: u32, side: u32) -> usize
-    requires { ⌜ (p ≤ 8) × (q ≤ 2048) × (side ≤ 839) ⌝ }
+    requires { ⌜ (p ≤ 8) × (q ≤ 2048) × (side ≤ 839) × (offOf q side ≡ false) ⌝ }
     ensures { λ r. ⌜ r ≡ widthOf lines n p q side ⌝ }
 {
-    if off(q, side) {
-        return 0;
-    }
     width_of(lines[0], lines[3], n, p, q, side)
 }

@@ -1,16 +1,15 @@
 -- The lines read, and the width chosen from them: each step by its law.
 use Rattle.segment.proofs.Edges.{read-room, choice-fits}
 use Rattle.segment.proofs.Near.{chosen-near}
-use Rattle.segment.proofs.Zero.{zero-q, zero-side}
 use borrow.Author.Needs.{needs}
 use Rattle.segment.proofs.segment.chosen_width.Statement.{statement}
 use Rattle.segment.proofs.segment.chosen_width.Tie as tie
 
-returns : tie.Need-returns
-returns c = zero-q _ _ (c .if1 .taken)
+most-before-requires : tie.Need-most-before-requires
+most-before-requires c κs = search needs
 
-returns-2 : tie.Need-returns-2
-returns-2 c = zero-side _ _ (c .if2 .taken)
+most-after-requires : tie.Need-most-after-requires
+most-after-requires c κs = search needs
 
 reach-before-requires : tie.Need-reach-before-requires
 reach-before-requires c κs = search needs
@@ -19,30 +18,24 @@ reach-after-requires : tie.Need-reach-after-requires
 reach-after-requires c κs = search needs
 
 read-lines-requires : tie.Need-read-lines-requires
-read-lines-requires c κs = read-room _ (c .before .before .before .before .before .before .before .pre) (c .before .reach-before .ensures) (c .reach-after .ensures)
-
-most-before-requires : tie.Need-most-before-requires
-most-before-requires c κs = search needs
-
-most-after-requires : tie.Need-most-after-requires
-most-after-requires c κs = search needs
+read-lines-requires c κs = read-room _ (c .before .before .before .before .before .pre .0) (c .before .reach-before .ensures) (c .reach-after .ensures)
 
 filt-choice-requires : tie.Need-filt-choice-requires
-filt-choice-requires c κs = choice-fits _ (c .before .before .before .before .before .before .before .before .before .before .pre) (c .most-after .ensures)
+filt-choice-requires c κs = choice-fits _ (c .before .before .before .before .before .before .pre .0) (c .before .before .before .most-after .ensures) (c .before .before .before .before .before .before .pre .1)
 
-returns-3 : tie.Need-returns-3
-returns-3 c = chosen-near (c .before .before .before .before .before .before .before .before .before .before .before .args .e) _ (c .before .before .before .before .before .before .before .before .before .before .before .pre .pair-is) (c .before .before .before .before .before .reach-before .ensures) (c .before .before .before .before .reach-after .ensures) (c .before .before .before .read-lines .ensures) (c .before .before .most-before .ensures) (c .before .most-after .ensures) (c .filt-choice .ensures)
+returns : tie.Need-returns
+returns c =
+    let start = c .before .before .before .before .before .before .before in
+    chosen-near (start .args .e) _ (start .pre .0 .pair-is) (c .before .before .before .reach-before .ensures) (c .before .before .reach-after .ensures) (c .before .read-lines .ensures) (c .before .before .before .before .before .most-before .ensures) (c .before .before .before .before .most-after .ensures) (c .filt-choice .ensures)
 
 pub chosen-width-spec : {M : Type 1} → statement M
 chosen-width-spec =
     tie.close
     (tie.spec
-    returns
-    returns-2
+    most-before-requires
+    most-after-requires
     reach-before-requires
     reach-after-requires
     read-lines-requires
-    most-before-requires
-    most-after-requires
     filt-choice-requires
-    returns-3)
+    returns)

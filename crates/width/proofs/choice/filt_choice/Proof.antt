@@ -5,12 +5,6 @@ use borrow.Author.Needs.{needs}
 use Rattle.width.proofs.choice.filt_choice.Statement.{statement}
 use Rattle.width.proofs.choice.filt_choice.Tie as tie
 
-off-requires : tie.Need-off-requires
-off-requires c κs = search needs
-
-returns : tie.Need-returns
-returns c = search choices
-
 array-copy-out-width-of : tie.Need-array-copy-out-width-of
 array-copy-out-width-of c = search needs
 
@@ -18,18 +12,10 @@ array-copy-out-width-of-2 : tie.Need-array-copy-out-width-of-2
 array-copy-out-width-of-2 c = search needs
 
 width-of-requires : tie.Need-width-of-requires
-width-of-requires c κs = (search needs, search needs, search needs, cc)
+width-of-requires c κs = search needs
 
-returns-2 : tie.Need-returns-2
-returns-2 c = search choices
+returns : tie.Need-returns
+returns c = search choices
 
 pub filt-choice-spec : {M : Type 1} → statement M
-filt-choice-spec =
-    tie.close
-    (tie.spec
-    off-requires
-    returns
-    array-copy-out-width-of
-    array-copy-out-width-of-2
-    width-of-requires
-    returns-2)
+filt-choice-spec = tie.close (tie.spec array-copy-out-width-of array-copy-out-width-of-2 width-of-requires returns)
