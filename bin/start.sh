@@ -1,4 +1,4 @@
-# Sourced by bin/compare_records and bin/replay, with $name their program's crate: messages, building, and the start under the kit's loader.
+# Sourced by bin/compare_records, with $name its program's crate: messages, building, and the start under the kit's loader.
 top=$(dirname "$(dirname "$(readlink -f -- "${BASH_SOURCE[0]}")")")
 program=$top/target/bin/$name
 # KiB of stack: a picture's planes and two records
