@@ -371,7 +371,7 @@ static void same_by_records(const char *what, const struct bihargesh_leaf *leave
   same(what, (long long)place_by_numbers[0], (long long)at);
 }
 
-static void records(void) {
+static void leaf_records(void) {
   struct bihargesh_leaf good[2] = {{0, 0, 16, 16}, {8, 8, 4096 + 8, 8}}, bad[2] = {{0, 0, 16, 16}, {0, 0, 16, 3}}, flagged[1] = {{0, 0, 4096 + 4, 4}};
   same("the size of a leaf", sizeof *good, 8);
   same_by_records("two leaves", good, 2, NULL, 0, 6, 0, 7);
@@ -526,7 +526,7 @@ int main(void) {
   records();
   replays();
   grids();
-  records();
+  leaf_records();
   frames();
   offsets();
   published_steps();
