@@ -21,11 +21,14 @@ pub fn put_header(buffer: &mut [u8])
     buffer[4] = 0;
 }
 
-// Puts the entry with number k where the buffer has room for it; an empty buffer takes none.
+// Puts the entry with number k where the buffer has room for it; an empty buffer, which every run without a record lends, is asked for first.
 pub fn note(buffer: &mut [u8], k: usize, e: Edge)
     requires { ⌜ InBytes e × (k ≤ 1099511627776) ⌝ }
     ensures { λ _. ⌜ now (buffer .exit) ≡ notedOne k e (now (buffer .entry)) ⌝ }
 {
+    if buffer.len() == 0 {
+        return;
+    }
     if buffer.len() < 15 + 10 * k {
         return;
     }
