@@ -3,15 +3,14 @@ use Prim.Native.Nat.{ℕ, _≤_}
 use Rattle.pictures.specs.Shapes.{Fit}
 use Rattle.filter.specs.declared.frame.Job.{Job}
 
--- n numbers, s short numbers, t steps, f flags, o offsets, p places, q lines
-pub record Lent (n s t f o p q : ℕ) : Type 0 where
+-- n numbers, s short numbers, t steps, f flags, o offsets, p places
+pub record Lent (n s t f o p : ℕ) : Type 0 where
   pub numbers : 64 ≤ n
   pub shorts : 4096 ≤ s
   pub steps : 352 ≤ t
   pub flags : 12288 ≤ f
   pub offsets : 384 ≤ o
   pub places : 15 ≤ p
-  pub lines : 21 ≤ q
 
 -- luma's shape and chroma's
 pub record Shaped (j : Job) : Type 0 where

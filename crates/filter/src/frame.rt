@@ -101,9 +101,9 @@ fn work(
     flags: &[u8],
     offsets: &[i8],
     places: &[usize],
-    lines: &[usize],
+    text: &[u8],
 ) -> Done
-    requires { ⌜ Shaped j × Lent (length (now numbers)) (length (now shorts)) (length (now steps)) (length (now flags)) (length (now offsets)) (length (now places)) (length (now lines)) ⌝ }
+    requires { ⌜ Shaped j × Lent (length (now numbers)) (length (now shorts)) (length (now steps)) (length (now flags)) (length (now offsets)) (length (now places)) ⌝ }
 {
     if !taken(y, u, v, wasy, wasu, wasv, name, j, k) {
         return failed();
@@ -120,7 +120,7 @@ fn work(
         flags,
         offsets,
         places,
-        lines,
+        text,
     ) {
         return failed();
     }
@@ -146,9 +146,9 @@ pub fn next(
     flags: &[u8],
     offsets: &[i8],
     places: &[usize],
-    lines: &[usize],
+    text: &[u8],
 ) -> Done
-    requires { ⌜ Shaped j × Lent (length (now numbers)) (length (now shorts)) (length (now steps)) (length (now flags)) (length (now offsets)) (length (now places)) (length (now lines)) ⌝ }
+    requires { ⌜ Shaped j × Lent (length (now numbers)) (length (now shorts)) (length (now steps)) (length (now flags)) (length (now offsets)) (length (now places)) ⌝ }
 {
     let mut mark = [0u8; 1024];
     let t = files::read_line(j.from, &mut mark);
@@ -183,6 +183,6 @@ pub fn next(
         flags,
         offsets,
         places,
-        lines,
+        text,
     )
 }

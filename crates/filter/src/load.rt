@@ -1,27 +1,9 @@
 // The settings' text, taken into the lists of its numbers.
-ghost use Prim.Native.Nat.{_≤_};
-ghost use lib.ListN.{length};
 use crate::say;
-use settings::text::lines_of;
 use settings::text::parse;
-use words::place::blank;
 use words::place::line_end;
 use words::place::spaces;
-
-// Where a word ends: at a blank or the end of what is looked at.
-fn word_end(text: &[u8], from: usize, end: usize) -> usize
-    requires { ⌜ (from ≤ end) × (end ≤ length (now text)) ⌝ }
-    ensures { λ r. ⌜ (from ≤ r) × (r ≤ end) ⌝ }
-{
-    let mut at = from;
-    while at < end {
-        if blank(text[at]) {
-            return at;
-        }
-        at += 1;
-    }
-    at
-}
+use words::place::word_end;
 
 // Says that the line from a place on begins with an unknown name.
 fn say_unknown(name: &[u8], text: &[u8], at: usize, line: usize) {
@@ -45,11 +27,9 @@ pub fn take(
     flags: &mut [u8],
     offsets: &mut [i8],
     places: &mut [usize; 21],
-    lines: &mut [usize; 21],
 ) -> bool {
     let fault = parse(text, numbers, shorts, steps, flags, offsets, places);
     if fault.kind == 0 {
-        lines_of(text, lines);
         return true;
     }
     if fault.kind == 21 {

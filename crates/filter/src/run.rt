@@ -49,9 +49,9 @@ fn frames(
     flags: &[u8],
     offsets: &[i8],
     places: &[usize],
-    lines: &[usize],
+    text: &[u8],
 )
-    requires { ⌜ Shaped j × Lent (length (now numbers)) (length (now shorts)) (length (now steps)) (length (now flags)) (length (now offsets)) (length (now places)) (length (now lines)) ⌝ }
+    requires { ⌜ Shaped j × Lent (length (now numbers)) (length (now shorts)) (length (now steps)) (length (now flags)) (length (now offsets)) (length (now places)) ⌝ }
 {
     let shown = libc::isatty(2) == 1;
     let mut k: usize = 0;
@@ -76,7 +76,7 @@ fn frames(
             flags,
             offsets,
             places,
-            lines,
+            text,
         );
         if !d.more {
             closed(name, j, k, changed, d.good);
@@ -128,14 +128,14 @@ fn sized(
     flags: &[u8],
     offsets: &[i8],
     places: &mut [usize; 21],
-    lines: &[usize; 21],
+    text: &[u8],
 )
-    requires { ⌜ (24576 ≤ length (now shorts)) × Lent (length (now numbers)) (length (now shorts)) (length (now steps)) (length (now flags)) (length (now offsets)) 21 21 ⌝ }
+    requires { ⌜ (24576 ≤ length (now shorts)) × Lent (length (now numbers)) (length (now shorts)) (length (now steps)) (length (now flags)) (length (now offsets)) 21 ⌝ }
 {
     let l = luma_of(h);
     let c = chroma_of(h);
     defaults::complete(shorts, places, l.width, l.height);
-    if inside(settings, shorts, places, l) {
+    if inside(settings, text, shorts, places, l) {
         let j = Job {
             from: fd,
             to: files::open_out(out),
@@ -160,7 +160,7 @@ fn sized(
             flags,
             offsets,
             places,
-            lines,
+            text,
         );
     }
 }
@@ -190,7 +190,6 @@ fn told(
     let mut flags = [1u8; 12288];
     let mut offsets = [0i8; 384];
     let mut places = first_places(shorts.len());
-    let mut lines = [0usize; 21];
     if take(
         settings,
         text,
@@ -200,7 +199,6 @@ fn told(
         &mut flags,
         &mut offsets,
         &mut places,
-        &mut lines,
     ) {
         sized(
             y,
@@ -222,7 +220,7 @@ fn told(
             &flags,
             &offsets,
             &mut places,
-            &lines,
+            text,
         );
     }
 }

@@ -86,15 +86,25 @@ pub fn cut(name: &[u8], k: usize, has: usize, needs: usize) {
 }
 
 // A leaf that begins outside the picture, whose cells are counted.
-pub fn outside(name: &[u8], list: &[u8], row: usize, column: usize, rows: usize, columns: usize) {
+pub fn outside(
+    name: &[u8],
+    line: usize,
+    kind: usize,
+    row: usize,
+    column: usize,
+    rows: usize,
+    columns: usize,
+) {
     words(b"2");
     words(name);
+    words(b": line ");
+    number(line);
     words(b": expected leaves in the picture's ");
     number(rows);
     words(b" rows and ");
     number(columns);
     words(b" columns of cells, and not '");
-    words(list);
+    setting(kind);
     words(b" ");
     number(row);
     words(b" ");
@@ -161,6 +171,16 @@ pub fn expected_setting(name: &[u8], line: usize, kind: usize) {
     words(b"\n");
 }
 
+// The line of the settings that has what was refused, where there is one.
+fn settings_line(line: usize) {
+    if line == 0 {
+        return;
+    }
+    words(b"; line ");
+    number(line);
+    words(b" of the settings");
+}
+
 // A setting outside its range, and the line that has it.
 pub fn out_of_range(kind: usize, line: usize) {
     words(b"1refused by 5: ");
@@ -173,9 +193,8 @@ pub fn out_of_range(kind: usize, line: usize) {
             b"its ranges: scale 1..16, cuts -4095..4095 with lo at most hi, classes 0..3, taps -16..16, band log2 0..3",
         ),
     }
-    words(b"; line ");
-    number(line);
-    words(b" of the settings\n");
+    settings_line(line);
+    words(b"\n");
 }
 
 // A refusal's meaning.
@@ -199,38 +218,41 @@ fn meaning(r: Refusal) {
     }
 }
 
-// A plane or list by its name.
+// A plane by its name, or a list by its setting's.
 fn plane_name(plane: usize) {
     match plane {
         0 => words(b"luma"),
         1 => words(b"U"),
         2 => words(b"V"),
         3 => words(b"chroma"),
-        4 => words(b"luma's leaves"),
-        5 => words(b"chroma's leaves"),
-        6 => words(b"the skip leaves"),
-        7 => words(b"the step table"),
+        4 | 5 | 6 => setting(plane),
+        7 => setting(3),
         _ => words(b"the frame"),
     }
 }
 
-// A refusal by its number, its meaning and its place.
-pub fn refused(r: Refusal, at: Place) {
+// Where a refusal stands.
+fn placed(at: Place) {
+    plane_name(at.plane);
+    if at.plane == 7 {
+        words(b", entry ");
+    } else {
+        words(b", row ");
+        number(at.row);
+        words(b", column ");
+    }
+    number(at.column);
+}
+
+// A refusal by its number, its meaning, its place, and the line of the settings that has it, 0 for none.
+pub fn refused(r: Refusal, at: Place, line: usize) {
     words(b"1refused by ");
     number(rules::refusals::number(r) as usize);
     words(b": ");
     meaning(r);
     words(b"; ");
-    plane_name(at.plane);
-    if at.plane == 7 {
-        words(b", entry ");
-        number(at.column);
-    } else {
-        words(b", row ");
-        number(at.row);
-        words(b", column ");
-        number(at.column);
-    }
+    placed(at);
+    settings_line(line);
     words(b"\n");
 }
 

@@ -8,6 +8,7 @@ use crate::frame::Job;
 use crate::say;
 use asked::gated::offset_planes;
 use asked::lists::lists_of;
+use asked::places::Place;
 use asked::places::at;
 use asked::told::frame_of;
 use framed::listed::deblock_asked;
@@ -15,14 +16,18 @@ use pictures::outside::outside;
 use pictures::planes;
 use pictures::planes::Shape;
 use rules::refusals::Answer;
+use rules::refusals::Refusal;
 use rules::refusals::number;
+use rules::refusals::place;
 use rules::settings::Frame;
+use settings::lines::line_with;
+use settings::lines::lines_of;
 use thresholds::checks::delta_ok;
 use tiles::checks::cap_ok;
 use tiles::leaf::wide;
 
-// Whether the leaves of a list begin in the picture; else after the answer that names the first that does not.
-fn list_inside(name: &[u8], list: &[u8], leaves: &[u16], s: Shape) -> bool {
+// Whether the leaves of a kind begin in the picture; else after the answer that names the first that does not.
+fn list_inside(name: &[u8], text: &[u8], kind: usize, leaves: &[u16], s: Shape) -> bool {
     let rows = s.rows / 4;
     let columns = s.stride / 4;
     let k = outside(leaves, rows, columns);
@@ -31,12 +36,13 @@ fn list_inside(name: &[u8], list: &[u8], leaves: &[u16], s: Shape) -> bool {
     }
     let row = wide(leaves[4 * k]);
     let column = wide(leaves[4 * k + 1]);
-    say::outside(name, list, row, column, rows, columns);
+    let line = line_with(text, kind, 4 * k);
+    say::outside(name, line, kind, row, column, rows, columns);
     false
 }
 
 // Whether every leaf begins in the picture; else after the answer.
-pub fn inside(name: &[u8], shorts: &[u16], places: &[usize], s: Shape) -> bool
+pub fn inside(name: &[u8], text: &[u8], shorts: &[u16], places: &[usize], s: Shape) -> bool
     requires { ⌜ (4096 ≤ length (now shorts)) × (7 ≤ length (now places)) ⌝ }
 {
     let at = lists_of(places, shorts.len());
@@ -46,13 +52,13 @@ pub fn inside(name: &[u8], shorts: &[u16], places: &[usize], s: Shape) -> bool
     let d = at.chromaend;
     let e = at.skips;
     let g = at.skipsend;
-    if !list_inside(name, b"leaf", &shorts[a..b], s) {
+    if !list_inside(name, text, 4, &shorts[a..b], s) {
         return false;
     }
-    if !list_inside(name, b"leaf_uv", &shorts[c..d], s) {
+    if !list_inside(name, text, 5, &shorts[c..d], s) {
         return false;
     }
-    list_inside(name, b"skip", &shorts[e..g], s)
+    list_inside(name, text, 6, &shorts[e..g], s)
 }
 
 // Which setting of a frame is outside its range: the kind of its line.
@@ -79,11 +85,32 @@ fn ccso_kind(plane: usize) -> usize {
 }
 
 // The answer on a setting outside its range, by its kind.
-fn say_setting(kind: usize, lines: &[usize])
-    requires { ⌜ 21 ≤ length (now lines) ⌝ }
-{
+fn say_setting(kind: usize, text: &[u8]) {
+    let mut lines = [0usize; 21];
+    lines_of(text, &mut lines);
     if kind < 21 {
         say::out_of_range(kind, lines[kind]);
+    }
+}
+
+// The line of the settings that has number k of a list: a leaf's first number, or a step; 0 for none.
+fn line_of(list: usize, k: usize, text: &[u8]) -> usize {
+    if 1048576 <= k {
+        return 0;
+    }
+    match list {
+        4 | 5 | 6 => line_with(text, list, 4 * k),
+        7 => line_with(text, 3, k),
+        _ => 0,
+    }
+}
+
+// The answer on a frame that was refused.
+fn say_refused(r: Refusal, at: Place, f: Frame, text: &[u8]) {
+    if number(r) == 5 {
+        say_setting(setting_of(f), text);
+    } else {
+        say::refused(r, at, line_of(at.plane, place(r), text));
     }
 }
 
@@ -95,22 +122,18 @@ fn deblocked(
     shorts: &[u16],
     steps: &[u32],
     places: &[usize],
-    lines: &[usize],
+    text: &[u8],
     f: Frame,
 ) -> bool
-    requires { ⌜ Listed (length (now shorts)) (length (now steps)) (length (now places)) × (21 ≤ length (now lines)) ⌝ }
+    requires { ⌜ Listed (length (now shorts)) (length (now steps)) (length (now places)) ⌝ }
 {
     let o = deblock_asked(y, u, v, shorts, steps, places, f);
     let a = o.answer;
-    let place = o.place;
+    let at = o.place;
     match a {
         Answer::Accepted => true,
         Answer::Refused(r) => {
-            if number(r) == 5 {
-                say_setting(setting_of(f), lines);
-            } else {
-                say::refused(r, place);
-            }
+            say_refused(r, at, f, text);
             false
         }
     }
@@ -126,11 +149,11 @@ fn offset(
     flags: &[u8],
     offsets: &[i8],
     places: &[usize],
-    lines: &[usize],
+    text: &[u8],
     f: Frame,
     across: usize,
 ) -> bool
-    requires { ⌜ Long (length (now numbers)) (length (now flags)) (length (now offsets)) (length (now places)) × (21 ≤ length (now lines)) ⌝ }
+    requires { ⌜ Long (length (now numbers)) (length (now flags)) (length (now offsets)) (length (now places)) ⌝ }
 {
     let done = offset_planes(y, u, v, luma, numbers, flags, offsets, places, f);
     let a = done.answer;
@@ -139,10 +162,10 @@ fn offset(
         Answer::Accepted => true,
         Answer::Refused(r) => {
             if number(r) == 5 {
-                say_setting(ccso_kind(plane), lines);
+                say_setting(ccso_kind(plane), text);
             } else {
                 let width = if plane == 0 { f.width } else { across };
-                say::refused(r, at(plane, rules::refusals::place(r), width));
+                say::refused(r, at(plane, place(r), width), 0);
             }
             false
         }
@@ -186,12 +209,12 @@ pub fn treat(
     flags: &[u8],
     offsets: &[i8],
     places: &[usize],
-    lines: &[usize],
+    text: &[u8],
 ) -> bool
-    requires { ⌜ Shaped j × Lent (length (now numbers)) (length (now shorts)) (length (now steps)) (length (now flags)) (length (now offsets)) (length (now places)) (length (now lines)) ⌝ }
+    requires { ⌜ Shaped j × Lent (length (now numbers)) (length (now shorts)) (length (now steps)) (length (now flags)) (length (now offsets)) (length (now places)) ⌝ }
 {
     let f = frame_by(j, numbers);
-    if !deblocked(y, u, v, shorts, steps, places, lines, f) {
+    if !deblocked(y, u, v, shorts, steps, places, text, f) {
         return false;
     }
     pack(y, u, v, j);
@@ -205,7 +228,7 @@ pub fn treat(
         flags,
         offsets,
         places,
-        lines,
+        text,
         f,
         width_of(j),
     )

@@ -2,13 +2,11 @@
 use Prim.Native.Nat.{ℕ, zero, suc, _+_, _-_}
 use mathlib.Core.List.{List}
 use mathlib.Core.Bool.{Bool, not}
-use lib.ListN.{length, getD, set}
+use lib.ListN.{length, getD}
 use lib.Dec.{eqb, ltb}
 use Rattle.laws.specs.Choose.{pick, both}
-use Rattle.words.specs.Places.{seek, newlineAt, remarkAt, inkAt}
-use Rattle.words.specs.Words.{wordAt}
+use Rattle.words.specs.Places.{seek, newlineAt, remarkAt}
 use Rattle.settings.specs.declared.text.Fault.{Fault}
-use Rattle.settings.specs.Names.{kindOf}
 use Rattle.settings.specs.Lines.{State, Said, lineOf}
 
 -- the lists and places, and the line with the kind that was expected there and the place where it starts
@@ -53,21 +51,3 @@ walk xs (suc n) at l s =
 -- lines count from 1, and a text has no more of them than bytes
 unfoldable pub parseOf : List ℕ → State → Parsed
 parseOf xs s = walk xs (length xs) 0 1 s
-
--- ---- which line has a setting
-
--- the kind of the line that starts at a place and says something up to stop; 0 where it is none
-unfoldable pub kindTo : List ℕ → ℕ → ℕ → ℕ
-kindTo xs at stop = kindOf (wordAt xs (seek (inkAt xs) at (stop - at)) stop .value)
-
-unfoldable pub kindAt : List ℕ → ℕ → ℕ
-kindAt xs at = kindTo xs at (seek (remarkAt xs) at (lineEnd xs at - at))
-
--- for each kind the last line that has it, among the lines from a place on, of which there are at most n, the first of them line l
-unfoldable pub numbered : List ℕ → ℕ → ℕ → ℕ → List ℕ → List ℕ
-numbered xs zero at l lines = lines
-numbered xs (suc n) at l lines =
-    pick (ltb at (length xs)) (numbered xs n (lineEnd xs at + 1) (l + 1) (set lines (kindAt xs at) l)) lines
-
-unfoldable pub linesOf : List ℕ → List ℕ → List ℕ
-linesOf xs lines = numbered xs (length xs) 0 1 lines

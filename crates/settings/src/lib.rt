@@ -8,3 +8,6 @@ mod values;
 
 // One line, and the whole text.
 pub mod text;
+
+// Which line has a setting.
+pub mod lines;

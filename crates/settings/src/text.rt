@@ -3,7 +3,7 @@ ghost use mathlib.Core.Path.{_≡_};
 ghost use Prim.Native.Nat.{_≤_};
 ghost use lib.ListN.{length};
 ghost use Rattle.settings.specs.Lines.{Kept, lists, state, takeOf, startOf, wholeOf, versionBad, flagBad, verdictOf, fillOf, tooSoon, settingOf, lineOf};
-ghost use Rattle.settings.specs.Text.{aloneOf, missingOf, kindTo, parseOf, linesOf};
+ghost use Rattle.settings.specs.Text.{aloneOf, missingOf, parseOf};
 use crate::names::kind;
 use crate::names::rule_of;
 use crate::values;
@@ -331,32 +331,5 @@ pub fn parse(
         line: l,
         kind: missing(places),
         at,
-    }
-}
-
-// The kind of a line that says something up to a place, 0 for none.
-fn kind_of(text: &[u8], from: usize, stop: usize) -> usize
-    requires { ⌜ (from ≤ stop) × (stop ≤ length (now text)) ⌝ }
-    ensures { λ r. ⌜ (r ≡ kindTo (now (text .entry)) from stop) × (r ≤ 20) ⌝ }
-{
-    let at = spaces(text, from, stop);
-    let w = read_word(text, at, stop);
-    kind(w.value)
-}
-
-// The last line of each kind; a line of none is counted at 0.
-pub fn lines_of(text: &[u8], lines: &mut [usize; 21])
-    ensures { λ _. ⌜ now (lines .exit) ≡ linesOf (now (text .entry)) (now (lines .entry)) ⌝ }
-{
-    let n = text.len();
-    let mut at: usize = 0;
-    let mut l: usize = 1;
-    while at < n {
-        let newline = line_end(text, at, n);
-        let stop = content_end(text, at, newline);
-        let k = kind_of(text, at, stop);
-        lines[k] = l;
-        at = newline + 1;
-        l += 1;
     }
 }

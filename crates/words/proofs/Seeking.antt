@@ -10,7 +10,7 @@ use borrow.Author.Tests.{eq-eqb, ne-eqb}
 use lib.ListN.{getD}
 use lib.Dec.{eqb}
 use Rattle.laws.specs.Choose.{pick, tests}
-use Rattle.words.specs.Places.{seek, newlineAt, remark, remarkAt, blankOf, inkAt}
+use Rattle.words.specs.Places.{seek, newlineAt, remark, remarkAt, blankOf, blankAt, inkAt}
 
 -- whole is what is found from the first place on
 module _ (q : ℕ → Bool) (at end whole : ℕ) where
@@ -64,4 +64,12 @@ pub no-ink : (xs : List ℕ) (k : ℕ) (r : Bool) → r ≡ blankOf (getD xs k 0
 unfolding inkAt
 no-ink xs k r e f = sym f ∙ ap not e
 
-pub ruleset seeking = (needs, seek-on, seek-here, seek-end, is-newline, no-newline, is-remark, no-remark, is-ink, no-ink)
+pub is-blank : (xs : List ℕ) (k : ℕ) (r : Bool) → r ≡ blankOf (getD xs k 0) → r ≡ true → true ≡ blankAt xs k
+unfolding blankAt
+is-blank xs k r e f = sym f ∙ e
+
+pub no-blank : (xs : List ℕ) (k : ℕ) (r : Bool) → r ≡ blankOf (getD xs k 0) → r ≡ false → false ≡ blankAt xs k
+unfolding blankAt
+no-blank xs k r e f = sym f ∙ e
+
+pub ruleset seeking = (needs, seek-on, seek-here, seek-end, is-newline, no-newline, is-remark, no-remark, is-ink, no-ink, is-blank, no-blank)

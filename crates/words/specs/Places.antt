@@ -26,6 +26,9 @@ remarkAt xs k = remark (getD xs k 0)
 unfoldable pub blankOf : ℕ → Bool
 blankOf b = either (eqb b 32) (eqb b 9)
 
+unfoldable pub blankAt : List ℕ → ℕ → Bool
+blankAt xs k = blankOf (getD xs k 0)
+
 -- something else stands at k
 unfoldable pub inkAt : List ℕ → ℕ → Bool
 inkAt xs k = not (blankOf (getD xs k 0))

@@ -1,10 +1,11 @@
--- A word as one number, and where it ends. Assumes nothing.
+-- A word as one number, and where it ends; how many words there are. Assumes nothing.
 use Prim.Native.Nat.{ℕ, zero, suc, _+_, _-_, _*_}
 use mathlib.Core.List.{List}
 use mathlib.Core.Bool.{Bool, not}
 use lib.ListN.{getD}
 use lib.Dec.{leb, ltb}
 use Rattle.laws.specs.Choose.{pick, both}
+use Rattle.laws.specs.Sums.{sum}
 use Rattle.words.specs.declared.spell.Word.{Word}
 use Rattle.words.specs.Places.{blankOf}
 
@@ -26,3 +27,13 @@ endedAt xs end w =
 -- the word from a place on
 unfoldable pub wordAt : List ℕ → ℕ → ℕ → Word
 wordAt xs from end = endedAt xs end (readLetters xs 0 from (end - from))
+
+-- ---- how many words
+
+-- 1 where something stands at k, and a space, a tab or the end after it
+unfoldable pub lastOf : List ℕ → ℕ → ℕ → ℕ
+lastOf xs end k = pick (blankOf (getD xs k 0)) 0 (pick (leb end (k + 1)) 1 (pick (blankOf (getD xs (k + 1) 0)) 1 0))
+
+-- each word has one last letter
+unfoldable pub wordsIn : List ℕ → ℕ → ℕ → ℕ
+wordsIn xs from end = sum (end - from) (λ k. lastOf xs end (from + k))

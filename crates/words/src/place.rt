@@ -2,7 +2,7 @@
 ghost use mathlib.Core.Path.{_≡_};
 ghost use Prim.Native.Nat.{_-_, _≤_};
 ghost use lib.ListN.{length};
-ghost use Rattle.words.specs.Places.{seek, newlineAt, remark, remarkAt, blankOf, inkAt};
+ghost use Rattle.words.specs.Places.{seek, newlineAt, remark, remarkAt, blankOf, blankAt, inkAt};
 
 // The newline that ends a line.
 pub fn line_end(text: &[u8], from: usize, end: usize) -> usize
@@ -64,6 +64,22 @@ pub fn spaces(text: &[u8], from: usize, end: usize) -> usize
     let mut at = from;
     while at < end {
         if !blank(text[at]) {
+            return at;
+        }
+        at += 1;
+    }
+    at
+}
+
+// The space or tab that ends a word.
+pub fn word_end(text: &[u8], from: usize, end: usize) -> usize
+    requires { ⌜ (from ≤ end) × (end ≤ length (now text)) ⌝ }
+    ensures { λ r. ⌜ r ≡ seek (blankAt (now (text .entry))) from (end - from) ⌝ }
+    ensures { λ r. ⌜ (from ≤ r) × (r ≤ end) ⌝ }
+{
+    let mut at = from;
+    while at < end {
+        if blank(text[at]) {
             return at;
         }
         at += 1;

@@ -7,11 +7,11 @@ use Rattle.filter.proofs.run.frames.Statement.{statement}
 use Rattle.filter.proofs.run.frames.Tie as tie
 
 abbrev Inv-loop : tie.InvT-loop
-Inv-loop y₀ u₀ v₀ wasy₀ wasu₀ wasv₀ luma₀ name head j numbers shorts steps flags offsets places lines shown k₀ changed₀ y u v wasy wasu wasv luma k changed =
+Inv-loop y₀ u₀ v₀ wasy₀ wasu₀ wasv₀ luma₀ name head j numbers shorts steps flags offsets places text shown k₀ changed₀ y u v wasy wasu wasv luma k changed =
     (k ≤ 18446744073709551615) × (length y ≡ length y₀) × (length u ≡ length u₀) × (length v ≡ length v₀) × (length wasy ≡ length wasy₀) × (length wasu ≡ length wasu₀) × (length wasv ≡ length wasv₀) × (length luma ≡ length luma₀)
 
 abbrev μ-loop : tie.MeasureT-loop
-μ-loop y₀ u₀ v₀ wasy₀ wasu₀ wasv₀ luma₀ name head j numbers shorts steps flags offsets places lines shown k₀ changed₀ y u v wasy wasu wasv luma k changed = 18446744073709551615 - k
+μ-loop y₀ u₀ v₀ wasy₀ wasu₀ wasv₀ luma₀ name head j numbers shorts steps flags offsets places text shown k₀ changed₀ y u v wasy wasu wasv luma k changed = 18446744073709551615 - k
 
 isatty-requires : tie.Need-isatty-requires Inv-loop μ-loop
 isatty-requires c κs = search needs

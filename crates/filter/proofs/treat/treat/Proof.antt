@@ -7,7 +7,7 @@ frame-by-requires : tie.Need-frame-by-requires
 frame-by-requires c κs = search needs
 
 deblocked-requires : tie.Need-deblocked-requires
-deblocked-requires c κs = (record { shorts-long = c .before .before .before .before .before .before .before .before .before .before .before .before .before .pre .1 .shorts; steps-long = c .before .before .before .before .before .before .before .before .before .before .before .before .before .pre .1 .steps; places-long = search needs }, c .before .before .before .before .before .before .before .before .before .before .before .before .before .pre .1 .lines)
+deblocked-requires c κs = let p = c .before .before .before .before .before .before .before .before .before .before .before .before .before .pre .1 in record { shorts-long = p .shorts; steps-long = p .steps; places-long = search needs }
 
 same-length : tie.Need-same-length
 same-length c = search needs
@@ -31,7 +31,7 @@ width-of-requires : tie.Need-width-of-requires
 width-of-requires c κs = tt
 
 offset-requires : tie.Need-offset-requires
-offset-requires c κs = let p = c .before .before .before .before .before .before .before .before .before .before .before .before .before .before .before .before .before .before .before .before .before .before .before .before .before .before .before .before .before .before .before .before .before .before .before .before .before .before .before .before .before .pre .1 in (record { numbers-long = p .numbers; flags-long = p .flags; offsets-long = p .offsets; places-long = p .places }, p .lines)
+offset-requires c κs = let p = c .before .before .before .before .before .before .before .before .before .before .before .before .before .before .before .before .before .before .before .before .before .before .before .before .before .before .before .before .before .before .before .before .before .before .before .before .before .before .before .before .before .pre .1 in record { numbers-long = p .numbers; flags-long = p .flags; offsets-long = p .offsets; places-long = p .places }
 
 same-length-4 : tie.Need-same-length-4
 same-length-4 c = search needs

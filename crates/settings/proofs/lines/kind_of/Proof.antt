@@ -1,8 +1,8 @@
 -- `kind_of` reads a line's first word. Assumes nothing.
 use Rattle.settings.proofs.Numbering.{kind-is}
 use borrow.Author.Needs.{needs}
-use Rattle.settings.proofs.text.kind_of.Statement.{statement}
-use Rattle.settings.proofs.text.kind_of.Tie as tie
+use Rattle.settings.proofs.lines.kind_of.Statement.{statement}
+use Rattle.settings.proofs.lines.kind_of.Tie as tie
 
 spaces-requires : tie.Need-spaces-requires
 spaces-requires c κs = search needs

@@ -1,13 +1,13 @@
 -- `lines_of` walks the lines, and keeps the last one of each kind. Assumes nothing.
 use Rattle.settings.proofs.Numbering.{numbering}
-use Rattle.settings.specs.Text.{numbered}
+use Rattle.settings.specs.Numbered.{numbered}
 use mathlib.Core.Path.{_≡_, refl}
 use native.Mathlib.Omega.{arith}
 use Prim.Native.Nat.{_+_, _-_, _≤_}
 use lib.ListN.{length}
 use borrow.Author.Needs.{needs}
-use Rattle.settings.proofs.text.lines_of.Statement.{statement}
-use Rattle.settings.proofs.text.lines_of.Tie as tie
+use Rattle.settings.proofs.lines.lines_of.Statement.{statement}
+use Rattle.settings.proofs.lines.lines_of.Tie as tie
 
 abbrev Inv-loop : tie.InvT-loop
 Inv-loop text lines₀ n at₀ l₀ lines at l = (n ≡ length text) × (at ≤ n + 1) × (l ≤ at + 1) × (numbered text (n + 1 - l) at l lines ≡ numbered text (n + 1 - l₀) at₀ l₀ lines₀)
