@@ -3,19 +3,44 @@
 //! pictures settings SEED WIDTH HEIGHT     writes random settings to standard output
 //! pictures picture SEED                   writes a random picture to standard output
 //! pictures filter PICTURE SETTINGS OUT    filters a picture by the Rust
+//! pictures record PICTURE SETTINGS FILE   writes the edges of its planes to FILE.y, FILE.u and FILE.v: the Rust's grids and thresholds, and a plain reading of ticket 1
 //! pictures damage SEED FILE               writes the file, damaged, to standard output
 
 #![allow(dead_code)]
 
+#[path = "src/ccso.rs"]
+mod ccso;
+#[path = "src/damage.rs"]
+mod damage;
+#[path = "src/frame.rs"]
+mod frame;
+#[path = "src/grid.rs"]
+mod grid;
+#[path = "src/line.rs"]
+mod line;
+#[path = "src/made.rs"]
+mod made;
+#[path = "src/picture.rs"]
+mod picture;
+#[path = "src/plane.rs"]
+mod plane;
 #[path = "src/random.rs"]
 mod random;
+#[path = "src/record.rs"]
+mod record;
+#[path = "src/refusals.rs"]
+mod refusals;
 #[path = "src/rust.rs"]
 mod rust;
+#[path = "src/segment.rs"]
+mod segment;
+#[path = "src/thresholds.rs"]
+mod thresholds;
 
 // The published files name each other below `crate::av2`.
 use rust as av2;
 
-use av2::{ccso, deblock};
+use av2::deblock;
 use random::Random;
 use std::io::Write;
 use std::process::exit;
@@ -148,9 +173,9 @@ fn packed(plane: &[u16], size: (usize, usize)) -> Vec<u16> {
 }
 
 /// The Rust's own settings that an eleven-number line stands for.
-fn choice(numbers: &[i64]) -> Option<ccso::Choice> {
+fn choice(numbers: &[i64]) -> Option<av2::ccso::Choice> {
     for code in 0..4 * 4 * 7 * 2 * 4u32 {
-        let c = ccso::Choice {
+        let c = av2::ccso::Choice {
             scale: (code % 4) as u8,
             quantizer: (code / 4 % 4) as u8,
             support: (code / 16 % 7) as u8,
@@ -164,7 +189,7 @@ fn choice(numbers: &[i64]) -> Option<ccso::Choice> {
     None
 }
 
-fn line_of(c: &ccso::Choice) -> Vec<i64> {
+fn line_of(c: &av2::ccso::Choice) -> Vec<i64> {
     let classes = if c.classifier == 0 { [0, 1, 2] } else { [0, 1, 1] };
     let taps = c.taps();
     let mut line = vec![c.scale(), -c.cut(), c.cut()];
@@ -173,9 +198,20 @@ fn line_of(c: &ccso::Choice) -> Vec<i64> {
     line
 }
 
-fn deblocked(p: &Picture, s: &Settings) -> [Vec<u16>; 3] {
-    let (w, h) = p.size;
-    let (across, down) = (w.div_ceil(64), h.div_ceil(64));
+/// What the settings give for a picture, with the defaults.
+struct Given {
+    entries: Vec<u16>,
+    leaves: Vec<deblock::Leaf>,
+    chroma_leaves: Vec<deblock::Leaf>,
+    skips: Vec<deblock::Leaf>,
+    cap: (usize, usize),
+    chroma_cap: (usize, usize),
+    chroma: bool,
+    deltas: (i64, i64),
+}
+
+fn given(p: &Picture, s: &Settings) -> Given {
+    let (across, down) = (p.size.0.div_ceil(64), p.size.1.div_ceil(64));
     let mut entries: Vec<u16> = s.all("qindex").iter().map(|&q| q as u16).collect();
     while entries.len() < across * down {
         entries.push(*entries.last().unwrap());
@@ -188,25 +224,75 @@ fn deblocked(p: &Picture, s: &Settings) -> [Vec<u16>; 3] {
     if chroma_leaves.is_empty() {
         chroma_leaves = leaves.clone();
     }
-    let pair = |name: &str| s.last(name, &[16, 16]);
-    let (cap, chroma_cap) = (pair("cap_y"), pair("cap_uv"));
+    let pair = |name: &str| {
+        let cap = s.last(name, &[16, 16]);
+        (cap[0] as usize, cap[1] as usize)
+    };
+    Given {
+        entries,
+        leaves,
+        chroma_leaves,
+        skips: s.leaves("skip"),
+        cap: pair("cap_y"),
+        chroma_cap: pair("cap_uv"),
+        chroma: s.last("chroma", &[1])[0] != 0,
+        deltas: (s.last("delta_y", &[0])[0], s.last("delta_uv", &[0])[0]),
+    }
+}
+
+fn deblocked(p: &Picture, s: &Settings) -> [Vec<u16>; 3] {
+    let g = given(p, s);
     let planes = [0, 1, 2].map(|k| if p.planes[k].is_empty() { Vec::new() } else { padded(&p.planes[k], p.plane_size(k)) });
     let frame = deblock::Frame {
         size: p.size,
         sub: p.sub,
-        chroma: (p.chroma, s.last("chroma", &[1])[0] != 0),
+        chroma: (p.chroma, g.chroma),
         depth: p.depth,
-        deltas: (s.last("delta_y", &[0])[0], s.last("delta_uv", &[0])[0]),
-        strides: (eights(w), eights(p.plane_size(1).0)),
-        cap: (cap[0] as usize, cap[1] as usize),
-        chroma_cap: (chroma_cap[0] as usize, chroma_cap[1] as usize),
-        entries: &entries,
-        leaves: &leaves,
-        chroma_leaves: &chroma_leaves,
-        skips: &s.leaves("skip"),
+        deltas: g.deltas,
+        strides: (eights(p.size.0), eights(p.plane_size(1).0)),
+        cap: g.cap,
+        chroma_cap: g.chroma_cap,
+        entries: &g.entries,
+        leaves: &g.leaves,
+        chroma_leaves: &g.chroma_leaves,
+        skips: &g.skips,
     };
     let new = deblock::frame(&frame, &planes);
     [0, 1, 2].map(|k| if new[k].is_empty() { Vec::new() } else { packed(&new[k], p.plane_size(k)) })
+}
+
+/// The record of luma or of chroma.
+fn edges(p: &Picture, g: &Given, chroma: bool) -> Vec<u8> {
+    let (sub, cap, leaves, delta) =
+        if chroma { (p.sub, g.chroma_cap, &g.chroma_leaves, g.deltas.1) } else { ((0, 0), g.cap, &g.leaves, g.deltas.0) };
+    let size = p.plane_size(chroma as usize);
+    let cells = (eights(size.0) / 4, eights(size.1) / 4);
+    record::record(&record::entries(&plane::Case {
+        cells: (cells.0 as u64, cells.1 as u64),
+        stride: eights(size.0) as u64,
+        size: ((eights(p.size.0) >> sub.0) as u64, (eights(p.size.1) >> sub.1) as u64),
+        superblock: (16 >> sub.0, 16 >> sub.1),
+        chroma,
+        depth: p.depth,
+        delta_q: delta,
+        delta_side: delta,
+        marks: deblock::tx_grid(leaves, &g.skips, cells, sub, cap),
+        qindex: deblock::qindex_grid(&g.entries, p.size.0.div_ceil(64), cells, sub),
+        plane: Vec::new(),
+        steps: Vec::new(),
+    }))
+}
+
+fn records(picture: &str, settings: &str, file: &str) {
+    let p = read_picture(picture);
+    let g = given(&p, &Settings::read(settings));
+    let write = |letter: &str, bytes: &[u8]| std::fs::write(format!("{file}.{letter}"), bytes).expect("a record");
+    write("y", &edges(&p, &g, false));
+    if p.chroma && g.chroma {
+        let both = edges(&p, &g, true);
+        write("u", &both);
+        write("v", &both);
+    }
 }
 
 fn offset(p: &Picture, s: &Settings, luma: &[u16], plane: usize, target: &[u16]) -> Vec<u16> {
@@ -221,8 +307,8 @@ fn offset(p: &Picture, s: &Settings, luma: &[u16], plane: usize, target: &[u16])
     let mut offsets = s.all(&format!("offset_{letter}"));
     offsets.resize(128, 0);
     offsets.truncate(16 << c.bands);
-    let over = ccso::Picture { luma, size: p.size, sub: if plane == 0 { (0, 0) } else { p.sub }, depth: p.depth };
-    ccso::apply(&over, &c, target, &flags, &offsets)
+    let over = av2::ccso::Picture { luma, size: p.size, sub: if plane == 0 { (0, 0) } else { p.sub }, depth: p.depth };
+    av2::ccso::apply(&over, &c, target, &flags, &offsets)
 }
 
 fn filter(picture: &str, settings: &str, out: &str) {
@@ -279,7 +365,7 @@ fn numbers(list: &[i64]) -> String {
 }
 
 fn ccso_lines(random: &Random, out: &mut String, letter: &str) {
-    let c = ccso::Choice {
+    let c = av2::ccso::Choice {
         scale: random.below(4) as u8,
         quantizer: random.below(4) as u8,
         support: random.below(7) as u8,
@@ -393,8 +479,12 @@ fn main() {
             filter(&words[1], &words[2], &words[3]);
             Vec::new()
         }
+        (Some("record"), 4) => {
+            records(&words[1], &words[2], &words[3]);
+            Vec::new()
+        }
         _ => {
-            eprintln!("pictures settings SEED WIDTH HEIGHT | picture SEED | filter PICTURE SETTINGS OUT | damage SEED FILE");
+            eprintln!("pictures settings SEED WIDTH HEIGHT | picture SEED | filter PICTURE SETTINGS OUT | record PICTURE SETTINGS FILE | damage SEED FILE");
             exit(2);
         }
     };

@@ -34,7 +34,7 @@ pub fn record(entries: &[Entry]) -> Vec<u8> {
 
 /// The edges of a good plane in document 01's order: a superblock column's vertical ones, rows outer, then the previous column's
 /// horizontal ones, columns outer; at the end the last column's.
-fn entries(c: &plane::Case) -> Vec<Entry> {
+pub fn entries(c: &plane::Case) -> Vec<Entry> {
     let (cols, rows) = c.cells;
     let blocks: Vec<_> = (0..cols).step_by(c.superblock.0 as usize).map(|start| start..(start + c.superblock.0).min(cols)).collect();
     let mut found = Vec::new();

@@ -1,7 +1,6 @@
 // From the names of the files to the written frames and the answer.
 ghost use lib.ListN.{length};
 ghost use Prim.Native.Nat.{_≤_};
-ghost use Rattle.pictures.specs.Shapes.{Fit};
 ghost use Rattle.filter.specs.Lent.{Lent, Shaped};
 use crate::frame;
 use crate::frame::Job;
@@ -10,11 +9,11 @@ use crate::read::header_of;
 use crate::read::short_of;
 use crate::say;
 use crate::treat::inside;
-use asked::lists::limit;
 use pictures::defaults;
 use pictures::files;
 use pictures::planes;
-use pictures::planes::Shape;
+use pictures::shapes::chroma_of;
+use pictures::shapes::luma_of;
 use settings::names::first_places;
 use std::num::wrapping_add_usize;
 use y4m::header::Header;
@@ -85,26 +84,6 @@ fn frames(
         changed = wrapping_add_usize(changed, d.changed);
         k += 1;
     }
-}
-
-// Luma's shape by the header.
-fn luma_of(h: Header) -> Shape
-    ensures { λ r. ⌜ Fit r ⌝ }
-{
-    planes::shape_of(limit(h.width, 1, 4096), limit(h.height, 1, 4096), 0, 0)
-}
-
-// Chroma's shape by the header.
-fn chroma_of(h: Header) -> Shape
-    ensures { λ r. ⌜ Fit r ⌝ }
-{
-    let layout = h.layout;
-    planes::shape_of(
-        limit(h.width, 1, 4096),
-        limit(h.height, 1, 4096),
-        layout.ssx,
-        layout.ssy,
-    )
 }
 
 // What the picture's size decides of the settings, and then its frames.

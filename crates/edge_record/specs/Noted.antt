@@ -1,0 +1,56 @@
+-- The record of luma or chroma by a frame and what the settings give: that of a dark plane over the grid that they make.
+-- Assumes nothing.
+use mathlib.Core.Path.{_≡_}
+use mathlib.Core.Bool.{Bool, true, false}
+use mathlib.Core.List.{List}
+use Prim.Native.Nat.{ℕ}
+use lib.ListN.{length, replicate}
+use Rattle.rules.specs.declared.settings.Frame.{Frame}
+use Rattle.rules.specs.declared.settings.Plane.{Plane}
+use Rattle.rules.specs.declared.settings.TuGrid.{TuGrid}
+use Rattle.rules.specs.declared.settings.QindexGrid.{QindexGrid}
+use Rattle.rules.specs.declared.refusals.Recorded.{Recorded}
+use Rattle.rules.specs.declared.refusals.Recorded.the-variants.{Bytes, Refused}
+use Rattle.rules.specs.Plane.{Grid}
+use Rattle.rules.specs.TuGrid.{marks, txGridAfter}
+use Rattle.rules.specs.QindexGrid.{qGridAfter}
+use Rattle.rules.specs.Frame.{Given, withQ}
+use Rattle.rules.specs.Record.{recordedAnswer, recordedBuffer}
+use Rattle.frame_checks.specs.Settings.{planeOf, tuOf, qOf}
+use Rattle.asked.specs.declared.lists.Lists.{Lists}
+use Rattle.framed.specs.Deblocked.{zeros}
+
+-- every sample of the largest plane
+unfoldable pub dark : List ℕ
+dark = replicate 16777216 0
+
+-- both grids' entries over zeros
+unfoldable pub gridBy : TuGrid → QindexGrid → List ℕ → List ℕ → List ℕ → Grid
+gridBy t q leaves skips sbq = withQ (txGridAfter t leaves skips (marks zeros zeros zeros zeros)) (qGridAfter q sbq zeros)
+
+unfoldable pub bytesOf : Recorded → ℕ
+bytesOf (Bytes n) = n
+bytesOf (Refused r) = 0
+
+-- a record of n bytes, and the buffer b afterwards
+pub record Noted (s : Plane) (steps : List ℕ) (g : Grid) (b : List ℕ) (n : ℕ) (c : List ℕ) : Type 0 where
+  pub bytes : n ≡ bytesOf (recordedAnswer s steps g dark (length b))
+  pub buffer : c ≡ recordedBuffer s steps g dark b
+
+-- luma's leaves, or chroma's
+abbrev pub leavesFrom : Lists → Bool → ℕ
+leavesFrom l false = l .leaves
+leavesFrom l true = l .chroma
+
+abbrev pub leavesEnd : Lists → Bool → ℕ
+leavesEnd l false = l .leavesend
+leavesEnd l true = l .chromaend
+
+abbrev pub leavesBy : Given → Bool → List ℕ
+leavesBy g false = g .leaves
+leavesBy g true = g .chromaLeaves
+
+-- luma's record, or chroma's
+abbrev pub NotedBy : Frame → Bool → Given → List ℕ → ℕ → List ℕ → Type 0
+NotedBy f chroma g =
+    Noted (planeOf f chroma) (g .steps) (gridBy (tuOf f chroma) (qOf f chroma) (leavesBy g chroma) (g .skips) (g .sbq))
