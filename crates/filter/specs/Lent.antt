@@ -1,7 +1,5 @@
--- What the functions of a picture are lent: the settings' lists, each long enough, and the planes' shapes. Assumes nothing.
+-- What the functions of a picture are lent: the settings' lists, each long enough. Assumes nothing.
 use Prim.Native.Nat.{ℕ, _≤_}
-use Rattle.pictures.specs.Shapes.{Fit}
-use Rattle.filter.specs.declared.frame.Job.{Job}
 
 -- n numbers, s short numbers, t steps, f flags, o offsets, p places, q lines
 pub record Lent (n s t f o p q : ℕ) : Type 0 where
@@ -12,8 +10,3 @@ pub record Lent (n s t f o p q : ℕ) : Type 0 where
   pub offsets : 384 ≤ o
   pub places : 15 ≤ p
   pub lines : 21 ≤ q
-
--- luma's shape and chroma's
-pub record Shaped (j : Job) : Type 0 where
-  pub luma : Fit (j .l)
-  pub chroma : Fit (j .c)

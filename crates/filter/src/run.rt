@@ -1,22 +1,24 @@
 // From the names of the files to the written frames and the answer.
 ghost use lib.ListN.{length};
 ghost use Prim.Native.Nat.{_≤_};
-ghost use Rattle.pictures.specs.Shapes.{Fit};
-ghost use Rattle.filter.specs.Lent.{Lent, Shaped};
+ghost use Rattle.streams.specs.Shaped.{Shaped};
+ghost use Rattle.filter.specs.Lent.{Lent};
 use crate::frame;
-use crate::frame::Job;
 use crate::load::take;
-use crate::read::header_of;
-use crate::read::short_of;
 use crate::say;
 use crate::treat::inside;
-use asked::lists::limit;
 use pictures::defaults;
 use pictures::files;
 use pictures::planes;
-use pictures::planes::Shape;
+use pictures::shapes::chroma_of;
+use pictures::shapes::luma_of;
 use settings::names::first_places;
 use std::num::wrapping_add_usize;
+use streams::job::Job;
+use streams::open::open;
+use streams::open::small;
+use streams::say::cannot;
+use streams::say::unwritten;
 use y4m::header::Header;
 
 // The answer after the last frame, by whether OUT could be closed; none where a frame was bad, which was answered.
@@ -27,7 +29,7 @@ fn closed(name: &[u8], j: Job, frames: usize, changed: usize, good: bool) {
     if libc::close(j.to) == 0 {
         say::filtered(name, j.h, frames, changed);
     } else {
-        say::unwritten();
+        unwritten();
     }
 }
 
@@ -85,26 +87,6 @@ fn frames(
         changed = wrapping_add_usize(changed, d.changed);
         k += 1;
     }
-}
-
-// Luma's shape by the header.
-fn luma_of(h: Header) -> Shape
-    ensures { λ r. ⌜ Fit r ⌝ }
-{
-    planes::shape_of(limit(h.width, 1, 4096), limit(h.height, 1, 4096), 0, 0)
-}
-
-// Chroma's shape by the header.
-fn chroma_of(h: Header) -> Shape
-    ensures { λ r. ⌜ Fit r ⌝ }
-{
-    let layout = h.layout;
-    planes::shape_of(
-        limit(h.width, 1, 4096),
-        limit(h.height, 1, 4096),
-        layout.ssx,
-        layout.ssy,
-    )
 }
 
 // What the picture's size decides of the settings, and then its frames.
@@ -281,7 +263,7 @@ fn heavy(
     let mut text = files::text_room();
     let n = read_on(file, front, &mut text);
     if n == 33554432 {
-        say::cannot(settings, b"expected settings of fewer than 33554432 bytes");
+        cannot(settings, b"expected settings of fewer than 33554432 bytes");
         return;
     }
     let mut shorts = defaults::shorts();
@@ -311,16 +293,11 @@ fn heavy(
     );
 }
 
-// Whether no plane has more than 512 rows, or samples in a row.
-fn small(h: Header) -> bool {
-    h.width <= 512 && h.height <= 512
-}
-
 // The settings' file, and then what its text says. `heavy` is called twice so that the compiler leaves it a function of its own, whose lists a small picture never touches.
 fn asked(name: &[u8], settings: &[u8], out: &[u8], fd: i32, head: &[u8], h: Header) {
     let file = files::open_in(settings);
     if file < 0 {
-        say::cannot(settings, b"the settings can't be read");
+        cannot(settings, b"the settings can't be read");
         return;
     }
     let mut front = io::large_buffer();
@@ -335,19 +312,14 @@ fn asked(name: &[u8], settings: &[u8], out: &[u8], fd: i32, head: &[u8], h: Head
     libc::close(file);
 }
 
-// The picture's header, and then the rest. A header that is too long counts as none.
+// The picture's header, and then the rest.
 pub fn run(name: &[u8], settings: &[u8], out: &[u8]) {
-    let fd = files::open_in(name);
-    if fd < 0 {
-        say::cannot(name, b"the picture can't be read");
-        return;
-    }
     let mut head = [0u8; 1024];
-    let first = files::read_line(fd, &mut head);
-    let n = short_of(first.n);
-    let h = header_of(name, &head[..n]);
+    let p = open(name, &mut head);
+    let n = p.n;
+    let h = p.h;
     if h.opens {
-        asked(name, settings, out, fd, &head[..n], h);
+        asked(name, settings, out, p.fd, &head[..n], h);
     }
-    libc::close(fd);
+    libc::close(p.fd);
 }

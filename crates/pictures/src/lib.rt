@@ -6,6 +6,9 @@ pub mod files;
 // Planes, read with padding, packed, and written.
 pub mod planes;
 
+// The shapes of a picture's planes.
+pub mod shapes;
+
 // Leaves outside the picture, a header's values twice.
 pub mod outside;
 
