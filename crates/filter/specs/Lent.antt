@@ -1,7 +1,5 @@
--- What the functions of a picture are lent: the settings' lists, each long enough, and the planes' shapes. Assumes nothing.
+-- What the functions of a picture are lent: the settings' lists, each long enough. Assumes nothing.
 use Prim.Native.Nat.{ℕ, _≤_}
-use Rattle.pictures.specs.Shapes.{Fit}
-use Rattle.filter.specs.declared.frame.Job.{Job}
 
 -- n numbers, s short numbers, t steps, f flags, o offsets, p places
 pub record Lent (n s t f o p : ℕ) : Type 0 where
@@ -11,8 +9,3 @@ pub record Lent (n s t f o p : ℕ) : Type 0 where
   pub flags : 12288 ≤ f
   pub offsets : 384 ≤ o
   pub places : 15 ≤ p
-
--- luma's shape and chroma's
-pub record Shaped (j : Job) : Type 0 where
-  pub luma : Fit (j .l)
-  pub chroma : Fit (j .c)

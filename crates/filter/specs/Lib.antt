@@ -1,2 +1,2 @@
--- What `specs/` holds: how long the lists of the settings are, and the shapes of the planes.
+-- What `specs/` holds: how long the lists of the settings are.
 pub mod Lent

@@ -1,25 +1,14 @@
 // One frame: its line, its planes read, filtered and written, over lent planes.
 ghost use lib.ListN.{length};
-ghost use Rattle.filter.specs.Lent.{Lent, Shaped};
-use crate::read::read_frame;
-use crate::save::changed;
-use crate::save::keep;
-use crate::save::save;
-use crate::say;
+ghost use Rattle.streams.specs.Shaped.{Shaped};
+ghost use Rattle.filter.specs.Lent.{Lent};
 use crate::treat::treat;
-use pictures::files;
-use pictures::planes::Shape;
-use y4m::header::Header;
-use y4m::header::is_frame;
-
-// What is the same for every frame: the files that are open, the header, and the shapes of luma and chroma.
-pub struct Job {
-    pub from: i32,
-    pub to: i32,
-    pub h: Header,
-    pub l: Shape,
-    pub c: Shape,
-}
+use streams::changes::changed;
+use streams::changes::keep;
+use streams::job::Job;
+use streams::read::next_mark;
+use streams::read::read_frame;
+use streams::save::save;
 
 // Whether all is well so far, whether a frame was there, and how many of its samples changed.
 pub struct Done {
@@ -151,19 +140,15 @@ pub fn next(
     requires { ⌜ Shaped j × Lent (length (now numbers)) (length (now shorts)) (length (now steps)) (length (now flags)) (length (now offsets)) (length (now places)) ⌝ }
 {
     let mut mark = [0u8; 1024];
-    let t = files::read_line(j.from, &mut mark);
-    if t.end && 0 < k {
+    let t = next_mark(name, j.from, k, &mut mark);
+    if !t.more {
         return Done {
-            good: true,
+            good: t.good,
             more: false,
             changed: 0,
         };
     }
     let m = t.n;
-    if m == 1024 || !is_frame(&mark, m) {
-        say::no_frame(name, k);
-        return failed();
-    }
     work(
         y,
         u,

@@ -7,14 +7,8 @@ mod say;
 // The settings' file.
 mod load;
 
-// The picture's file.
-mod read;
-
 // The filters over the planes.
 mod treat;
-
-// The written frame, and what changed.
-mod save;
 
 // One frame.
 mod frame;

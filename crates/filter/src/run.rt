@@ -1,12 +1,10 @@
 // From the names of the files to the written frames and the answer.
 ghost use lib.ListN.{length};
 ghost use Prim.Native.Nat.{_≤_};
-ghost use Rattle.filter.specs.Lent.{Lent, Shaped};
+ghost use Rattle.streams.specs.Shaped.{Shaped};
+ghost use Rattle.filter.specs.Lent.{Lent};
 use crate::frame;
-use crate::frame::Job;
 use crate::load::take;
-use crate::read::header_of;
-use crate::read::short_of;
 use crate::say;
 use crate::treat::inside;
 use pictures::defaults;
@@ -16,6 +14,11 @@ use pictures::shapes::chroma_of;
 use pictures::shapes::luma_of;
 use settings::names::first_places;
 use std::num::wrapping_add_usize;
+use streams::job::Job;
+use streams::open::open;
+use streams::open::small;
+use streams::say::cannot;
+use streams::say::unwritten;
 use y4m::header::Header;
 
 // The answer after the last frame, by whether OUT could be closed; none where a frame was bad, which was answered.
@@ -26,7 +29,7 @@ fn closed(name: &[u8], j: Job, frames: usize, changed: usize, good: bool) {
     if libc::close(j.to) == 0 {
         say::filtered(name, j.h, frames, changed);
     } else {
-        say::unwritten();
+        unwritten();
     }
 }
 
@@ -258,7 +261,7 @@ fn heavy(
     let mut text = files::text_room();
     let n = read_on(file, front, &mut text);
     if n == 33554432 {
-        say::cannot(settings, b"expected settings of fewer than 33554432 bytes");
+        cannot(settings, b"expected settings of fewer than 33554432 bytes");
         return;
     }
     let mut shorts = defaults::shorts();
@@ -288,16 +291,11 @@ fn heavy(
     );
 }
 
-// Whether no plane has more than 512 rows, or samples in a row.
-fn small(h: Header) -> bool {
-    h.width <= 512 && h.height <= 512
-}
-
 // The settings' file, and then what its text says. `heavy` is called twice so that the compiler leaves it a function of its own, whose lists a small picture never touches.
 fn asked(name: &[u8], settings: &[u8], out: &[u8], fd: i32, head: &[u8], h: Header) {
     let file = files::open_in(settings);
     if file < 0 {
-        say::cannot(settings, b"the settings can't be read");
+        cannot(settings, b"the settings can't be read");
         return;
     }
     let mut front = io::large_buffer();
@@ -312,19 +310,14 @@ fn asked(name: &[u8], settings: &[u8], out: &[u8], fd: i32, head: &[u8], h: Head
     libc::close(file);
 }
 
-// The picture's header, and then the rest. A header that is too long counts as none.
+// The picture's header, and then the rest.
 pub fn run(name: &[u8], settings: &[u8], out: &[u8]) {
-    let fd = files::open_in(name);
-    if fd < 0 {
-        say::cannot(name, b"the picture can't be read");
-        return;
-    }
     let mut head = [0u8; 1024];
-    let first = files::read_line(fd, &mut head);
-    let n = short_of(first.n);
-    let h = header_of(name, &head[..n]);
+    let p = open(name, &mut head);
+    let n = p.n;
+    let h = p.h;
     if h.opens {
-        asked(name, settings, out, fd, &head[..n], h);
+        asked(name, settings, out, p.fd, &head[..n], h);
     }
-    libc::close(fd);
+    libc::close(p.fd);
 }

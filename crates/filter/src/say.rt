@@ -1,51 +1,19 @@
 // The answer on standard output: the outcome as one byte (0 filtered, 1 refused, 2 a bad file, 3 not written), which stands before any name, and then a line.
 use asked::places::Place;
 use rules::refusals::Refusal;
+use streams::say::expected;
+use streams::say::frames_of;
+use streams::say::number;
+use streams::say::words;
 use y4m::header::Header;
-
-pub fn words(text: &[u8]) {
-    io::write_all(1, text);
-}
-
-pub fn number(n: usize) {
-    io::print_decimal(1, n as u64);
-}
 
 pub fn usage() {
     words(b"usage: filter PICTURE SETTINGS OUT\n");
 }
 
-// How many frames are done, on a terminal, from the first one on.
+// How many frames are done, on a terminal.
 pub fn count(k: usize, shown: bool) {
-    if shown && 0 < k {
-        io::write_all(2, b"\rfiltered: frame ");
-        io::print_decimal(2, k as u64);
-    }
-}
-
-// A file that can't be read.
-pub fn cannot(name: &[u8], what: &[u8]) {
-    words(b"2");
-    words(name);
-    words(b": ");
-    words(what);
-    words(b"\n");
-}
-
-// A picture that can't be written; whoever called knows its name.
-pub fn unwritten() {
-    words(b"3\n");
-}
-
-// A line of a file that is not as it should be.
-pub fn expected(name: &[u8], line: usize, what: &[u8]) {
-    words(b"2");
-    words(name);
-    words(b": line ");
-    number(line);
-    words(b": expected ");
-    words(what);
-    words(b"\n");
+    streams::say::count(b"filtered", k, shown);
 }
 
 // A line that begins with an unknown name.
@@ -57,32 +25,6 @@ pub fn unknown(name: &[u8], line: usize, word: &[u8]) {
     words(b": expected the name of a setting, and not '");
     words(word);
     words(b"'\n");
-}
-
-// After k frames no other begins.
-pub fn no_frame(name: &[u8], k: usize) {
-    if k == 0 {
-        expected(name, 2, b"'FRAME'");
-        return;
-    }
-    words(b"2");
-    words(name);
-    words(b": expected 'FRAME' or the end of the file after frame ");
-    number(k);
-    words(b"\n");
-}
-
-// Frame k has fewer bytes of samples than it needs.
-pub fn cut(name: &[u8], k: usize, has: usize, needs: usize) {
-    words(b"2");
-    words(name);
-    words(b": frame ");
-    number(std::num::wrapping_add_usize(k, 1));
-    words(b": expected ");
-    number(needs);
-    words(b" bytes of samples, and the file ends after ");
-    number(has);
-    words(b" of them\n");
 }
 
 // A leaf that begins outside the picture, whose cells are counted.
@@ -264,11 +206,7 @@ pub fn filtered(name: &[u8], h: Header, frames: usize, changed: usize) {
     number(h.width);
     words(b"x");
     number(h.height);
-    if frames != 1 {
-        words(b", ");
-        number(frames);
-        words(b" frames");
-    }
+    frames_of(frames);
     words(b", ");
     number(changed);
     words(b" samples changed\n");

@@ -3,8 +3,8 @@ ghost use lib.ListN.{length};
 ghost use Prim.Native.Nat.{_≤_};
 ghost use Rattle.framed.specs.Framed.{Listed};
 ghost use Rattle.asked.specs.Offsets.{Long};
-ghost use Rattle.filter.specs.Lent.{Lent, Shaped};
-use crate::frame::Job;
+ghost use Rattle.filter.specs.Lent.{Lent};
+ghost use Rattle.streams.specs.Shaped.{Shaped};
 use crate::say;
 use asked::gated::offset_planes;
 use asked::lists::lists_of;
@@ -22,6 +22,8 @@ use rules::refusals::place;
 use rules::settings::Frame;
 use settings::lines::line_with;
 use settings::lines::lines_of;
+use streams::job::Job;
+use streams::save::pack;
 use thresholds::checks::delta_ok;
 use tiles::checks::cap_ok;
 use tiles::leaf::wide;
@@ -185,15 +187,6 @@ fn frame_by(j: Job, numbers: &[i32]) -> Frame
 fn width_of(j: Job) -> usize {
     let c = j.c;
     c.width
-}
-
-// Takes the padding out of the planes.
-fn pack(y: &mut [u16], u: &mut [u16], v: &mut [u16], j: Job)
-    requires { ⌜ Shaped j ⌝ }
-{
-    planes::pack(y, j.l);
-    planes::pack(u, j.c);
-    planes::pack(v, j.c);
 }
 
 // Deblocks the planes, packs them and applies the offsets by a copy of luma; false after the answer that says why not.

@@ -1,4 +1,4 @@
-// Files: by their names, and what is read from them, a text or a line.
+// Files: by their names, and what is read from them, all of it or a line.
 ghost use mathlib.Core.Path.{_≡_};
 ghost use Prim.Native.Nat.{_≤_};
 ghost use lib.ListN.{length};
@@ -31,6 +31,28 @@ pub fn open_out(name: &[u8]) -> i32 {
 // How many bytes a settings text may have.
 pub fn text_room() -> [u8; 33554432] {
     [0; 33554432]
+}
+
+// What was read of a file: whether it could be opened, and how many bytes.
+pub struct Whole {
+    pub opened: bool,
+    pub n: usize,
+}
+
+// A file's bytes to the front of a buffer; one that has as many as the buffer may have more.
+pub fn read_whole(name: &[u8], buf: &mut [u8]) -> Whole
+    ensures { λ r. ⌜ r .n ≤ length (now (buf .exit)) ⌝ }
+{
+    let fd = open_in(name);
+    if fd < 0 {
+        return Whole {
+            opened: false,
+            n: 0,
+        };
+    }
+    let n = io::read_full(fd, buf);
+    libc::close(fd);
+    Whole { opened: true, n }
 }
 
 // The next byte of a file, where there is one.

@@ -4,29 +4,14 @@ use borrow.Author.Needs.{needs}
 use Rattle.filter.proofs.frame.next.Statement.{statement}
 use Rattle.filter.proofs.frame.next.Tie as tie
 
-slice-aggregate-read-line : tie.Need-slice-aggregate-read-line
-slice-aggregate-read-line c = search needs
+slice-aggregate-next-mark : tie.Need-slice-aggregate-next-mark
+slice-aggregate-next-mark c = search needs
 
-read-line-requires : tie.Need-read-line-requires
-read-line-requires c κs = tt
+next-mark-requires : tie.Need-next-mark-requires
+next-mark-requires c κs = tt
 
 returns : tie.Need-returns
 returns c = search needs
-
-slice-aggregate-is-frame : tie.Need-slice-aggregate-is-frame
-slice-aggregate-is-frame c = search needs
-
-is-frame-requires : tie.Need-is-frame-requires
-is-frame-requires c κs = search needs
-
-no-frame-requires : tie.Need-no-frame-requires
-no-frame-requires c κs = tt
-
-failed-requires : tie.Need-failed-requires
-failed-requires c κs = tt
-
-returns-2 : tie.Need-returns-2
-returns-2 c = search needs
 
 array-share-prefix-mark : tie.Need-array-share-prefix-mark
 array-share-prefix-mark c = search needs
@@ -35,7 +20,7 @@ slice-aggregate-work : tie.Need-slice-aggregate-work
 slice-aggregate-work c = front _ _ (search needs)
 
 work-requires : tie.Need-work-requires
-work-requires c κs = c .before .before .before .before .before .before .before .before .before .before .before .before .before .before .before .before .before .before .before .before .before .before .before .before .before .before .before .before .before .before .before .pre
+work-requires c κs = c .before .before .before .before .before .before .before .before .before .before .before .before .before .before .before .before .before .before .before .before .before .before .before .before .before .before .before .before .pre
 
 same-length : tie.Need-same-length
 same-length c = c .before .before .before .before .before .before .before .before .before .before .before .before .before .before .work .kept .0
@@ -58,21 +43,16 @@ same-length-6 c = c .before .before .before .before .before .before .before .bef
 same-length-7 : tie.Need-same-length-7
 same-length-7 c = c .before .before .before .before .before .before .before .before .before .before .before .before .before .before .work .kept .1 .1 .1 .1 .1 .1 .0
 
-returns-3 : tie.Need-returns-3
-returns-3 c = search needs
+returns-2 : tie.Need-returns-2
+returns-2 c = search needs
 
 pub next-spec : {M : Type 1} → statement M
 next-spec =
     tie.close
     (tie.spec
-    slice-aggregate-read-line
-    read-line-requires
+    slice-aggregate-next-mark
+    next-mark-requires
     returns
-    slice-aggregate-is-frame
-    is-frame-requires
-    no-frame-requires
-    failed-requires
-    returns-2
     array-share-prefix-mark
     slice-aggregate-work
     work-requires
@@ -83,4 +63,4 @@ next-spec =
     same-length-5
     same-length-6
     same-length-7
-    returns-3)
+    returns-2)

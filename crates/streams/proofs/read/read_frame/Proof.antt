@@ -1,7 +1,7 @@
 -- `read_frame` reads by the shapes. Assumes nothing.
 use borrow.Author.Needs.{needs}
-use Rattle.filter.proofs.read.read_frame.Statement.{statement}
-use Rattle.filter.proofs.read.read_frame.Tie as tie
+use Rattle.streams.proofs.read.read_frame.Statement.{statement}
+use Rattle.streams.proofs.read.read_frame.Tie as tie
 
 read-more-requires : tie.Need-read-more-requires
 read-more-requires c κs = c .before .before .before .before .before .before .before .before .before .pre .luma

@@ -1,7 +1,7 @@
 -- `write_planes` writes by the shapes. Assumes nothing.
 use borrow.Author.Needs.{needs}
-use Rattle.filter.proofs.save.write_planes.Statement.{statement}
-use Rattle.filter.proofs.save.write_planes.Tie as tie
+use Rattle.streams.proofs.save.write_planes.Statement.{statement}
+use Rattle.streams.proofs.save.write_planes.Tie as tie
 
 write-plane-requires : tie.Need-write-plane-requires
 write-plane-requires c κs = c .before .before .before .before .before .before .before .pre .luma
