@@ -8,22 +8,20 @@ use pictures::files;
 use replay::count;
 use replay::record_check;
 use rules::refusals::Answer;
-use streams::say::cannot;
-use streams::say::number;
-use streams::say::words;
 
 // A record from a file; fewer than 5 bytes after the line that says why there is none.
 fn load(name: &[u8], bytes: &mut [u8]) -> usize
     ensures { λ r. ⌜ r ≤ length (now (bytes .exit)) ⌝ }
 {
-    let w = files::read_whole(name, bytes);
-    if !w.opened {
-        cannot(name, b"the record can't be read");
+    let fd = files::open_in(name);
+    if fd < 0 {
+        say::bad(name, b"the record can't be read");
         return 0;
     }
-    let n = w.n;
+    let n = io::read_full(fd, bytes);
+    libc::close(fd);
     if n == bytes.len() {
-        cannot(name, b"expected a record of fewer than 33554432 bytes");
+        say::bad(name, b"expected a record of fewer than 33554432 bytes");
         return 0;
     }
     let a = record_check(&bytes[..n]);
@@ -41,25 +39,25 @@ fn tell(a: &[u8], b: &[u8]) -> bool
     let d = compare(a, b);
     match d {
         Difference::Equal(n) => {
-            words(b"0equal: ");
-            number(n);
-            words(b" edges\n");
+            say::words(b"0equal: ");
+            say::number(n);
+            say::words(b" edges\n");
             return false;
         }
         Difference::Edges(k, e, f) => {
-            words(b"1");
+            say::words(b"1");
             say::edge(k, e);
             say::other(e, f);
         }
         Difference::FirstGoesOn(k, e) => {
-            words(b"1");
+            say::words(b"1");
             say::edge(k, e);
-            words(b"; the second record has no such edge\n");
+            say::words(b"; the second record has no such edge\n");
         }
         Difference::SecondGoesOn(k, e) => {
-            words(b"1");
+            say::words(b"1");
             say::edge(k, e);
-            words(b"; the first record has no such edge\n");
+            say::words(b"; the first record has no such edge\n");
         }
     }
     true

@@ -3,12 +3,26 @@ use compared::length_after;
 use compared::length_before;
 use rules::edge::Edge;
 use rules::refusals::Refusal;
-use streams::say::cannot;
-use streams::say::number;
-use streams::say::words;
+
+pub fn words(text: &[u8]) {
+    io::write_all(1, text);
+}
+
+pub fn number(n: usize) {
+    io::print_decimal(1, n as u64);
+}
 
 pub fn usage() {
     words(b"usage: compare_records A [B]\n");
+}
+
+// A file that is no record.
+pub fn bad(name: &[u8], what: &[u8]) {
+    words(b"2");
+    words(name);
+    words(b": ");
+    words(what);
+    words(b"\n");
 }
 
 // Why a record is refused.
@@ -16,7 +30,7 @@ pub fn refused(name: &[u8], r: Refusal) {
     match r {
         Refusal::Cut(k) => bad_entry(name, 12, k, b" is cut\n"),
         Refusal::Entry(k) => bad_entry(name, 13, k, b" is outside document 01's ranges\n"),
-        _ => cannot(name, b"refused by 11: expected 'EDG' and version 1"),
+        _ => bad(name, b"refused by 11: expected 'EDG' and version 1"),
     }
 }
 
