@@ -29,7 +29,19 @@ pub extern "C" fn bihargesh_frame(
     settings: &[i32],
     place: &mut [usize],
 ) -> i32
-    ensures { λ r. ⌜ FrameTold (cFrameOf (now (settings .entry)) (given (now (steps .entry)) (now (sbq .entry)) (now (leaves .entry)) (now (chromaleaves .entry)) (now (skips .entry))) (lent (planes (now (y .entry)) (now (u .entry)) (now (v .entry))) (grids (grid (now (lv .entry)) (now (lh .entry)) (now (lw .entry)) (now (lt .entry)) (now (lq .entry))) (grid (now (cv .entry)) (now (ch .entry)) (now (cw .entry)) (now (ct .entry)) (now (cq .entry)))))) (now (place .entry)) r (lent (planes (now (y .exit)) (now (u .exit)) (now (v .exit))) (grids (grid (now (lv .exit)) (now (lh .exit)) (now (lw .exit)) (now (lt .exit)) (now (lq .exit))) (grid (now (cv .exit)) (now (ch .exit)) (now (cw .exit)) (now (ct .exit)) (now (cq .exit))))) (now (place .exit)) ⌝ }
+    ensures { λ r. ⌜ FrameTold
+        (cFrameOf
+        (now (settings .entry))
+        (given (now (steps .entry)) (now (sbq .entry)) (now (leaves .entry)) (now (chromaleaves .entry)) (now (skips .entry)))
+        (lent
+        (planes (now (y .entry)) (now (u .entry)) (now (v .entry)))
+        (grids (grid (now (lv .entry)) (now (lh .entry)) (now (lw .entry)) (now (lt .entry)) (now (lq .entry))) (grid (now (cv .entry)) (now (ch .entry)) (now (cw .entry)) (now (ct .entry)) (now (cq .entry))))))
+        (now (place .entry))
+        r
+        (lent
+        (planes (now (y .exit)) (now (u .exit)) (now (v .exit)))
+        (grids (grid (now (lv .exit)) (now (lh .exit)) (now (lw .exit)) (now (lt .exit)) (now (lq .exit))) (grid (now (cv .exit)) (now (ch .exit)) (now (cw .exit)) (now (ct .exit)) (now (cq .exit)))))
+        (now (place .exit)) ⌝ }
 {
     let a = filter(
         y,

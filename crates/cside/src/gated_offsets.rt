@@ -15,7 +15,14 @@ pub extern "C" fn bihargesh_ccso(
     settings: &[i32],
     place: &mut [usize],
 ) -> i32
-    ensures { λ r. ⌜ Reported (listed 16 (now (settings .entry)) (ccsoCheck (offsetsOf (now (settings .entry))) (now (luma .entry)) (now (flags .entry)) (now (offsets .entry)) (now (target .entry)))) (now (target .entry)) (ccsoOf (offsetsOf (now (settings .entry))) (now (luma .entry)) (now (flags .entry)) (now (offsets .entry)) (now (target .entry))) (now (place .entry)) r (now (target .exit)) (now (place .exit)) ⌝ }
+    ensures { λ r. ⌜ Reported
+        (listed 16 (now (settings .entry)) (ccsoCheck (offsetsOf (now (settings .entry))) (now (luma .entry)) (now (flags .entry)) (now (offsets .entry)) (now (target .entry))))
+        (now (target .entry))
+        (ccsoOf (offsetsOf (now (settings .entry))) (now (luma .entry)) (now (flags .entry)) (now (offsets .entry)) (now (target .entry)))
+        (now (place .entry))
+        r
+        (now (target .exit))
+        (now (place .exit)) ⌝ }
 {
     let a = apply(luma, target, flags, offsets, settings);
     told(a, place)

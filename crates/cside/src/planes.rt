@@ -19,7 +19,14 @@ pub extern "C" fn bihargesh_plane(
     settings: &[i32],
     place: &mut [usize],
 ) -> i32
-    ensures { λ r. ⌜ Reported (cPlaneCheck (now (settings .entry)) (now (steps .entry)) (grid (now (vedge .entry)) (now (hedge .entry)) (now (sqw .entry)) (now (sqh .entry)) (now (qindex .entry))) (now (plane .entry))) (now (plane .entry)) (runPlane (planeOf (now (settings .entry))) (now (steps .entry)) (grid (now (vedge .entry)) (now (hedge .entry)) (now (sqw .entry)) (now (sqh .entry)) (now (qindex .entry))) (now (plane .entry))) (now (place .entry)) r (now (plane .exit)) (now (place .exit)) ⌝ }
+    ensures { λ r. ⌜ Reported
+        (cPlaneCheck (now (settings .entry)) (now (steps .entry)) (grid (now (vedge .entry)) (now (hedge .entry)) (now (sqw .entry)) (now (sqh .entry)) (now (qindex .entry))) (now (plane .entry)))
+        (now (plane .entry))
+        (runPlane (planeOf (now (settings .entry))) (now (steps .entry)) (grid (now (vedge .entry)) (now (hedge .entry)) (now (sqw .entry)) (now (sqh .entry)) (now (qindex .entry))) (now (plane .entry)))
+        (now (place .entry))
+        r
+        (now (plane .exit))
+        (now (place .exit)) ⌝ }
 {
     let a = deblock(plane, vedge, hedge, sqw, sqh, qindex, steps, settings);
     told(a, place)

@@ -13,7 +13,14 @@ pub extern "C" fn bihargesh_qindex_grid(
     settings: &[i32],
     place: &mut [usize],
 ) -> i32
-    ensures { λ r. ⌜ Reported (listed 5 (now (settings .entry)) (qGridCheck (qindexGridOf (now (settings .entry))) (now (sbq .entry)) (now (qindex .entry)))) (now (qindex .entry)) (qGridOf (qindexGridOf (now (settings .entry))) (now (sbq .entry)) (now (qindex .entry))) (now (place .entry)) r (now (qindex .exit)) (now (place .exit)) ⌝ }
+    ensures { λ r. ⌜ Reported
+        (listed 5 (now (settings .entry)) (qGridCheck (qindexGridOf (now (settings .entry))) (now (sbq .entry)) (now (qindex .entry))))
+        (now (qindex .entry))
+        (qGridOf (qindexGridOf (now (settings .entry))) (now (sbq .entry)) (now (qindex .entry)))
+        (now (place .entry))
+        r
+        (now (qindex .exit))
+        (now (place .exit)) ⌝ }
 {
     let a = fill(sbq, qindex, settings);
     told(a, place)

@@ -18,7 +18,17 @@ pub extern "C" fn bihargesh_record_plane(
     settings: &[i32],
     place: &mut [usize],
 ) -> i32
-    ensures { λ r. ⌜ RecordTold (now (settings .entry)) (now (steps .entry)) (grid (now (vedge .entry)) (now (hedge .entry)) (now (sqw .entry)) (now (sqh .entry)) (now (qindex .entry))) (now (plane .entry)) (now (buffer .entry)) (now (place .entry)) r (now (plane .exit)) (now (buffer .exit)) (now (place .exit)) ⌝ }
+    ensures { λ r. ⌜ RecordTold
+        (now (settings .entry))
+        (now (steps .entry))
+        (grid (now (vedge .entry)) (now (hedge .entry)) (now (sqw .entry)) (now (sqh .entry)) (now (qindex .entry)))
+        (now (plane .entry))
+        (now (buffer .entry))
+        (now (place .entry))
+        r
+        (now (plane .exit))
+        (now (buffer .exit))
+        (now (place .exit)) ⌝ }
 {
     let a = write_record(
         plane,

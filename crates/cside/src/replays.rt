@@ -13,7 +13,14 @@ pub extern "C" fn bihargesh_replay(
     settings: &[i32],
     place: &mut [usize],
 ) -> i32
-    ensures { λ r. ⌜ Reported (listed 4 (now (settings .entry)) (replayCheck (replaySettings (now (settings .entry))) (now (bytes .entry)) (now (plane .entry)))) (now (plane .entry)) (replayOf (replaySettings (now (settings .entry))) (now (bytes .entry)) (now (plane .entry))) (now (place .entry)) r (now (plane .exit)) (now (place .exit)) ⌝ }
+    ensures { λ r. ⌜ Reported
+        (listed 4 (now (settings .entry)) (replayCheck (replaySettings (now (settings .entry))) (now (bytes .entry)) (now (plane .entry))))
+        (now (plane .entry))
+        (replayOf (replaySettings (now (settings .entry))) (now (bytes .entry)) (now (plane .entry)))
+        (now (place .entry))
+        r
+        (now (plane .exit))
+        (now (place .exit)) ⌝ }
 {
     let a = run_again(plane, bytes, settings);
     told(a, place)

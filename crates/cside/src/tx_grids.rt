@@ -17,7 +17,14 @@ pub extern "C" fn bihargesh_tx_grid(
     settings: &[i32],
     place: &mut [usize],
 ) -> i32
-    ensures { λ r. ⌜ Reported (listed 6 (now (settings .entry)) (txGridCheck (tuGridOf (now (settings .entry))) (now (leaves .entry)) (now (skips .entry)) (marks (now (vedge .entry)) (now (hedge .entry)) (now (sqw .entry)) (now (sqh .entry))))) (marks (now (vedge .entry)) (now (hedge .entry)) (now (sqw .entry)) (now (sqh .entry))) (txGridOf (tuGridOf (now (settings .entry))) (now (leaves .entry)) (now (skips .entry)) (marks (now (vedge .entry)) (now (hedge .entry)) (now (sqw .entry)) (now (sqh .entry)))) (now (place .entry)) r (marks (now (vedge .exit)) (now (hedge .exit)) (now (sqw .exit)) (now (sqh .exit))) (now (place .exit)) ⌝ }
+    ensures { λ r. ⌜ Reported
+        (listed 6 (now (settings .entry)) (txGridCheck (tuGridOf (now (settings .entry))) (now (leaves .entry)) (now (skips .entry)) (marks (now (vedge .entry)) (now (hedge .entry)) (now (sqw .entry)) (now (sqh .entry)))))
+        (marks (now (vedge .entry)) (now (hedge .entry)) (now (sqw .entry)) (now (sqh .entry)))
+        (txGridOf (tuGridOf (now (settings .entry))) (now (leaves .entry)) (now (skips .entry)) (marks (now (vedge .entry)) (now (hedge .entry)) (now (sqw .entry)) (now (sqh .entry))))
+        (now (place .entry))
+        r
+        (marks (now (vedge .exit)) (now (hedge .exit)) (now (sqw .exit)) (now (sqh .exit)))
+        (now (place .exit)) ⌝ }
 {
     let a = build(leaves, skips, vedge, hedge, sqw, sqh, settings);
     told(a, place)

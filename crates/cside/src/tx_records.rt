@@ -20,7 +20,14 @@ pub extern "C" fn bihargesh_tx_grid_leaves(
     settings: &[i32],
     place: &mut [usize],
 ) -> i32
-    ensures { λ r. ⌜ Reported (listed 6 (now (settings .entry)) (txGridCheck (tuGridOf (now (settings .entry))) (flat (now (leaves .entry))) (flat (now (skips .entry))) (marks (now (vedge .entry)) (now (hedge .entry)) (now (sqw .entry)) (now (sqh .entry))))) (marks (now (vedge .entry)) (now (hedge .entry)) (now (sqw .entry)) (now (sqh .entry))) (txGridOf (tuGridOf (now (settings .entry))) (flat (now (leaves .entry))) (flat (now (skips .entry))) (marks (now (vedge .entry)) (now (hedge .entry)) (now (sqw .entry)) (now (sqh .entry)))) (now (place .entry)) r (marks (now (vedge .exit)) (now (hedge .exit)) (now (sqw .exit)) (now (sqh .exit))) (now (place .exit)) ⌝ }
+    ensures { λ r. ⌜ Reported
+        (listed 6 (now (settings .entry)) (txGridCheck (tuGridOf (now (settings .entry))) (flat (now (leaves .entry))) (flat (now (skips .entry))) (marks (now (vedge .entry)) (now (hedge .entry)) (now (sqw .entry)) (now (sqh .entry)))))
+        (marks (now (vedge .entry)) (now (hedge .entry)) (now (sqw .entry)) (now (sqh .entry)))
+        (txGridOf (tuGridOf (now (settings .entry))) (flat (now (leaves .entry))) (flat (now (skips .entry))) (marks (now (vedge .entry)) (now (hedge .entry)) (now (sqw .entry)) (now (sqh .entry))))
+        (now (place .entry))
+        r
+        (marks (now (vedge .exit)) (now (hedge .exit)) (now (sqw .exit)) (now (sqh .exit)))
+        (now (place .exit)) ⌝ }
 {
     let s = read(settings);
     let a = build_tx_grid(leaves, skips, vedge, hedge, sqw, sqh, s);

@@ -15,7 +15,12 @@ pub fn apply(
     offsets: &[i8],
     settings: &[i32],
 ) -> Answer
-    ensures { λ a. ⌜ Handed (listed 16 (now (settings .entry)) (ccsoCheck (offsetsOf (now (settings .entry))) (now (luma .entry)) (now (flags .entry)) (now (offsets .entry)) (now (target .entry)))) (now (target .entry)) (ccsoOf (offsetsOf (now (settings .entry))) (now (luma .entry)) (now (flags .entry)) (now (offsets .entry)) (now (target .entry))) a (now (target .exit)) ⌝ }
+    ensures { λ a. ⌜ Handed
+        (listed 16 (now (settings .entry)) (ccsoCheck (offsetsOf (now (settings .entry))) (now (luma .entry)) (now (flags .entry)) (now (offsets .entry)) (now (target .entry))))
+        (now (target .entry))
+        (ccsoOf (offsetsOf (now (settings .entry))) (now (luma .entry)) (now (flags .entry)) (now (offsets .entry)) (now (target .entry)))
+        a
+        (now (target .exit)) ⌝ }
 {
     if settings.len() < 16 {
         return Answer::Refused(Refusal::Length);

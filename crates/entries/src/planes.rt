@@ -38,7 +38,12 @@ pub fn deblock(
     steps: &[u32],
     settings: &[i32],
 ) -> Answer
-    ensures { λ a. ⌜ Handed (cPlaneCheck (now (settings .entry)) (now (steps .entry)) (grid (now (vedge .entry)) (now (hedge .entry)) (now (sqw .entry)) (now (sqh .entry)) (now (qindex .entry))) (now (plane .entry))) (now (plane .entry)) (runPlane (planeOf (now (settings .entry))) (now (steps .entry)) (grid (now (vedge .entry)) (now (hedge .entry)) (now (sqw .entry)) (now (sqh .entry)) (now (qindex .entry))) (now (plane .entry))) a (now (plane .exit)) ⌝ }
+    ensures { λ a. ⌜ Handed
+        (cPlaneCheck (now (settings .entry)) (now (steps .entry)) (grid (now (vedge .entry)) (now (hedge .entry)) (now (sqw .entry)) (now (sqh .entry)) (now (qindex .entry))) (now (plane .entry)))
+        (now (plane .entry))
+        (runPlane (planeOf (now (settings .entry))) (now (steps .entry)) (grid (now (vedge .entry)) (now (hedge .entry)) (now (sqw .entry)) (now (sqh .entry)) (now (qindex .entry))) (now (plane .entry)))
+        a
+        (now (plane .exit)) ⌝ }
 {
     let a = list_check(settings);
     if let Answer::Refused(r) = a {

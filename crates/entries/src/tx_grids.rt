@@ -17,7 +17,12 @@ pub fn build(
     sqh: &mut [u8],
     settings: &[i32],
 ) -> Answer
-    ensures { λ a. ⌜ Handed (listed 6 (now (settings .entry)) (txGridCheck (tuGridOf (now (settings .entry))) (now (leaves .entry)) (now (skips .entry)) (marks (now (vedge .entry)) (now (hedge .entry)) (now (sqw .entry)) (now (sqh .entry))))) (marks (now (vedge .entry)) (now (hedge .entry)) (now (sqw .entry)) (now (sqh .entry))) (txGridOf (tuGridOf (now (settings .entry))) (now (leaves .entry)) (now (skips .entry)) (marks (now (vedge .entry)) (now (hedge .entry)) (now (sqw .entry)) (now (sqh .entry)))) a (marks (now (vedge .exit)) (now (hedge .exit)) (now (sqw .exit)) (now (sqh .exit))) ⌝ }
+    ensures { λ a. ⌜ Handed
+        (listed 6 (now (settings .entry)) (txGridCheck (tuGridOf (now (settings .entry))) (now (leaves .entry)) (now (skips .entry)) (marks (now (vedge .entry)) (now (hedge .entry)) (now (sqw .entry)) (now (sqh .entry)))))
+        (marks (now (vedge .entry)) (now (hedge .entry)) (now (sqw .entry)) (now (sqh .entry)))
+        (txGridOf (tuGridOf (now (settings .entry))) (now (leaves .entry)) (now (skips .entry)) (marks (now (vedge .entry)) (now (hedge .entry)) (now (sqw .entry)) (now (sqh .entry))))
+        a
+        (marks (now (vedge .exit)) (now (hedge .exit)) (now (sqw .exit)) (now (sqh .exit))) ⌝ }
 {
     if settings.len() < 6 {
         return Answer::Refused(Refusal::Length);

@@ -30,7 +30,14 @@ pub fn filter(
 ) -> Answer
     requires { ⌜ Stepped f false (now steps) × Gridded f false (grid (now lv) (now lh) (now lw) (now lt) (now lq)) (length (now y)) ⌝ }
     requires { ⌜ (chromaOn f ≡ true → Stepped f true (now steps) × Gridded f true (grid (now cv) (now ch) (now cw) (now ct) (now cq)) (length (now u)) × Gridded f true (grid (now cv) (now ch) (now cw) (now ct) (now cq)) (length (now v))) ⌝ }
-    ensures { λ r. ⌜ done r (lent (planes (now (y .exit)) (now (u .exit)) (now (v .exit))) (grids (grid (now (lv .entry)) (now (lh .entry)) (now (lw .entry)) (now (lt .entry)) (now (lq .entry))) (grid (now (cv .entry)) (now (ch .entry)) (now (cw .entry)) (now (ct .entry)) (now (cq .entry))))) ≡ frameBuilt f (now (steps .entry)) (grids (grid (now (lv .entry)) (now (lh .entry)) (now (lw .entry)) (now (lt .entry)) (now (lq .entry))) (grid (now (cv .entry)) (now (ch .entry)) (now (cw .entry)) (now (ct .entry)) (now (cq .entry)))) (planes (now (y .entry)) (now (u .entry)) (now (v .entry))) ⌝ }
+    ensures { λ r. ⌜ done r
+        (lent
+        (planes (now (y .exit)) (now (u .exit)) (now (v .exit)))
+        (grids (grid (now (lv .entry)) (now (lh .entry)) (now (lw .entry)) (now (lt .entry)) (now (lq .entry))) (grid (now (cv .entry)) (now (ch .entry)) (now (cw .entry)) (now (ct .entry)) (now (cq .entry)))))
+        ≡ frameBuilt f
+        (now (steps .entry))
+        (grids (grid (now (lv .entry)) (now (lh .entry)) (now (lw .entry)) (now (lt .entry)) (now (lq .entry))) (grid (now (cv .entry)) (now (ch .entry)) (now (cw .entry)) (now (ct .entry)) (now (cq .entry))))
+        (planes (now (y .entry)) (now (u .entry)) (now (v .entry))) ⌝ }
 {
     let a = late(y, u, v, lv, lh, lw, lt, cv, ch, cw, ct, f);
     if let Answer::Refused(r) = a {

@@ -32,7 +32,16 @@ pub fn filter(
     skips: &[u16],
     settings: &[i32],
 ) -> Answer
-    ensures { λ a. ⌜ done a (lent (planes (now (y .exit)) (now (u .exit)) (now (v .exit))) (grids (grid (now (lv .exit)) (now (lh .exit)) (now (lw .exit)) (now (lt .exit)) (now (lq .exit))) (grid (now (cv .exit)) (now (ch .exit)) (now (cw .exit)) (now (ct .exit)) (now (cq .exit))))) ≡ cFrameOf (now (settings .entry)) (given (now (steps .entry)) (now (sbq .entry)) (now (leaves .entry)) (now (chromaleaves .entry)) (now (skips .entry))) (lent (planes (now (y .entry)) (now (u .entry)) (now (v .entry))) (grids (grid (now (lv .entry)) (now (lh .entry)) (now (lw .entry)) (now (lt .entry)) (now (lq .entry))) (grid (now (cv .entry)) (now (ch .entry)) (now (cw .entry)) (now (ct .entry)) (now (cq .entry))))) ⌝ }
+    ensures { λ a. ⌜ done a
+        (lent
+        (planes (now (y .exit)) (now (u .exit)) (now (v .exit)))
+        (grids (grid (now (lv .exit)) (now (lh .exit)) (now (lw .exit)) (now (lt .exit)) (now (lq .exit))) (grid (now (cv .exit)) (now (ch .exit)) (now (cw .exit)) (now (ct .exit)) (now (cq .exit)))))
+        ≡ cFrameOf
+        (now (settings .entry))
+        (given (now (steps .entry)) (now (sbq .entry)) (now (leaves .entry)) (now (chromaleaves .entry)) (now (skips .entry)))
+        (lent
+        (planes (now (y .entry)) (now (u .entry)) (now (v .entry)))
+        (grids (grid (now (lv .entry)) (now (lh .entry)) (now (lw .entry)) (now (lt .entry)) (now (lq .entry))) (grid (now (cv .entry)) (now (ch .entry)) (now (cw .entry)) (now (ct .entry)) (now (cq .entry))))) ⌝ }
 {
     if settings.len() < 15 {
         return Answer::Refused(Refusal::Length);

@@ -28,7 +28,11 @@ pub fn build(
     chroma: bool,
 )
     requires { ⌜ (kindOn f chroma ≡ true → Buildable f chroma (now leaves) (now skips) (length (now sbq)) (length (now vedge)) (length (now hedge)) (length (now sqw)) (length (now sqh)) (length (now qindex))) ⌝ }
-    ensures { λ _. ⌜ (grid (now (vedge .exit)) (now (hedge .exit)) (now (sqw .exit)) (now (sqh .exit)) (now (qindex .exit))) ≡ pick (kindOn f chroma) (builtGrid (tuOf f chroma) (qOf f chroma) (now (leaves .entry)) (now (skips .entry)) (now (sbq .entry)) (grid (now (vedge .entry)) (now (hedge .entry)) (now (sqw .entry)) (now (sqh .entry)) (now (qindex .entry)))) (grid (now (vedge .entry)) (now (hedge .entry)) (now (sqw .entry)) (now (sqh .entry)) (now (qindex .entry))) ⌝ }
+    ensures { λ _. ⌜ (grid (now (vedge .exit)) (now (hedge .exit)) (now (sqw .exit)) (now (sqh .exit)) (now (qindex .exit)))
+        ≡ pick
+        (kindOn f chroma)
+        (builtGrid (tuOf f chroma) (qOf f chroma) (now (leaves .entry)) (now (skips .entry)) (now (sbq .entry)) (grid (now (vedge .entry)) (now (hedge .entry)) (now (sqw .entry)) (now (sqh .entry)) (now (qindex .entry))))
+        (grid (now (vedge .entry)) (now (hedge .entry)) (now (sqw .entry)) (now (sqh .entry)) (now (qindex .entry))) ⌝ }
 {
     if !kind_on(f, chroma) {
         return;

@@ -59,7 +59,8 @@ abbrev cells : Grids
 cells = grids (grid (blank 4) (blank 4) (blank 4) (blank 4) (blank 4)) (grid (blank 4) (blank 4) (blank 4) (blank 4) (blank 4))
 
 early : frameEarly small (lengthsOf lists (lent samples cells)) lists ≡ Accepted
-unfolding pick either both all depthOk inRange inRangeZ deltaOk subsamplingOk down orElse unless found onlyIf sooner first foundUnless stepGood badStep stepsCheck flagOf bareOf isSize capOk foursOk leafGood leafGoodAt badLeaf eighths halved superblocks lumaPlane chromaPlane chromaOn frameSizes gridLong lumaLong chromaLong givenLong frameLengths frameShape frameSettings frameLeaves frameGiven frameEarly
+unfolding pick either both all depthOk inRange inRangeZ deltaOk subsamplingOk down orElse unless found onlyIf sooner first foundUnless stepGood badStep stepsCheck flagOf bareOf isSize capOk foursOk leafGood leafGoodAt badLeaf eighths halved superblocks lumaPlane chromaPlane chromaOn frameSizes
+    gridLong lumaLong chromaLong givenLong frameLengths frameShape frameSettings frameLeaves frameGiven frameEarly
 early = refl
 
 -- every cell is a TU with both its edges marked

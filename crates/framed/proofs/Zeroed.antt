@@ -39,7 +39,15 @@ found-first Nothing a b e = refused-not (sym e)
 
 module _ (f : Frame) (leaves skips sbq : List ℕ) where
   -- luma's grid by lists that were all zero when it was built
-  pub luma-room-is : {v h w t q v' h' w' t' q' : List ℕ} {r : Answer} → ((p : List ℕ) → r ≡ onlyIf true (found (noRoom (lumaPlane f) (grid v' h' w' t' p)) Room)) → grid v' h' w' t' q' ≡ pick true (builtGrid (lumaTu f) (lumaQ f) leaves skips sbq (grid v h w t q)) (grid v h w t q) → v ≡ zeros → h ≡ zeros → w ≡ zeros → t ≡ zeros → q ≡ zeros → r ≡ found (noRoom (lumaPlane f) (lumaGrid f leaves skips sbq)) Room
+  pub luma-room-is : {v h w t q v' h' w' t' q' : List ℕ} {r : Answer}
+      → ((p : List ℕ) → r ≡ onlyIf true (found (noRoom (lumaPlane f) (grid v' h' w' t' p)) Room))
+      → grid v' h' w' t' q' ≡ pick true (builtGrid (lumaTu f) (lumaQ f) leaves skips sbq (grid v h w t q)) (grid v h w t q)
+      → v ≡ zeros
+      → h ≡ zeros
+      → w ≡ zeros
+      → t ≡ zeros
+      → q ≡ zeros
+      → r ≡ found (noRoom (lumaPlane f) (lumaGrid f leaves skips sbq)) Room
   unfolding onlyIf pick lumaGrid
   luma-room-is {q' = q'} e is e0 e1 e2 e3 e4 = rw (rw (e0, e1, e2, e3, e4) at is) at (e q')
 

@@ -101,7 +101,8 @@ pub fn build_tx_grid(
     sqh: &mut [u8],
     s: TuGrid,
 ) -> Answer
-    ensures { λ r. ⌜ (r ≡ txGridCheck s (now (ls .entry)) (now (skips .entry)) (marks (now (vedge .entry)) (now (hedge .entry)) (now (sqw .entry)) (now (sqh .entry)))) × (marks (now (vedge .exit)) (now (hedge .exit)) (now (sqw .exit)) (now (sqh .exit)) ≡ txGridAfter s (now (ls .entry)) (now (skips .entry)) (marks (now (vedge .entry)) (now (hedge .entry)) (now (sqw .entry)) (now (sqh .entry)))) ⌝ }
+    ensures { λ r. ⌜ (r ≡ txGridCheck s (now (ls .entry)) (now (skips .entry)) (marks (now (vedge .entry)) (now (hedge .entry)) (now (sqw .entry)) (now (sqh .entry))))
+        × (marks (now (vedge .exit)) (now (hedge .exit)) (now (sqw .exit)) (now (sqh .exit)) ≡ txGridAfter s (now (ls .entry)) (now (skips .entry)) (marks (now (vedge .entry)) (now (hedge .entry)) (now (sqw .entry)) (now (sqh .entry)))) ⌝ }
 {
     let a = tx_check(ls, skips, vedge.len(), hedge.len(), sqw.len(), sqh.len(), s);
     if let Answer::Refused(r) = a {

@@ -72,7 +72,12 @@ pub fn start(
     m: usize,
     sound: usize,
 ) -> Answer
-    ensures { λ r. ⌜ (r ≡ recordCheck s n good m sound (marks (now (vedge .entry)) (now (hedge .entry)) (now (sqw .entry)) (now (sqh .entry)))) × (marks (now (vedge .exit)) (now (hedge .exit)) (now (sqw .exit)) (now (sqh .exit)) ≡ settle (recordCheck s n good m sound (marks (now (vedge .entry)) (now (hedge .entry)) (now (sqw .entry)) (now (sqh .entry)))) (marks (now (vedge .entry)) (now (hedge .entry)) (now (sqw .entry)) (now (sqh .entry))) (blankOf (s .rows * s .cols) (marks (now (vedge .entry)) (now (hedge .entry)) (now (sqw .entry)) (now (sqh .entry))))) ⌝ }
+    ensures { λ r. ⌜ (r ≡ recordCheck s n good m sound (marks (now (vedge .entry)) (now (hedge .entry)) (now (sqw .entry)) (now (sqh .entry))))
+        × (marks (now (vedge .exit)) (now (hedge .exit)) (now (sqw .exit)) (now (sqh .exit))
+        ≡ settle
+        (recordCheck s n good m sound (marks (now (vedge .entry)) (now (hedge .entry)) (now (sqw .entry)) (now (sqh .entry))))
+        (marks (now (vedge .entry)) (now (hedge .entry)) (now (sqw .entry)) (now (sqh .entry)))
+        (blankOf (s .rows * s .cols) (marks (now (vedge .entry)) (now (hedge .entry)) (now (sqw .entry)) (now (sqh .entry))))) ⌝ }
 {
     let a = check(
         vedge.len(),

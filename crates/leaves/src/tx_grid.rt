@@ -20,7 +20,9 @@ pub fn build_tx_grid(
     sqh: &mut [u8],
     s: TuGrid,
 ) -> Answer
-    ensures { λ r. ⌜ (r ≡ txGridCheck s (flat (now (ls .entry))) (flat (now (skips .entry))) (marks (now (vedge .entry)) (now (hedge .entry)) (now (sqw .entry)) (now (sqh .entry)))) × (marks (now (vedge .exit)) (now (hedge .exit)) (now (sqw .exit)) (now (sqh .exit)) ≡ txGridAfter s (flat (now (ls .entry))) (flat (now (skips .entry))) (marks (now (vedge .entry)) (now (hedge .entry)) (now (sqw .entry)) (now (sqh .entry)))) ⌝ }
+    ensures { λ r. ⌜ (r ≡ txGridCheck s (flat (now (ls .entry))) (flat (now (skips .entry))) (marks (now (vedge .entry)) (now (hedge .entry)) (now (sqw .entry)) (now (sqh .entry))))
+        × (marks (now (vedge .exit)) (now (hedge .exit)) (now (sqw .exit)) (now (sqh .exit))
+        ≡ txGridAfter s (flat (now (ls .entry))) (flat (now (skips .entry))) (marks (now (vedge .entry)) (now (hedge .entry)) (now (sqw .entry)) (now (sqh .entry)))) ⌝ }
 {
     let good = good_leaves(ls, false);
     let sound = good_leaves(skips, true);

@@ -29,30 +29,45 @@ block-most : (t : List ℕ) (k : ℕ) → Levels t → (getD t (min k 1415) 0 / 
 block-most t k l = let h : min k 1415 ≤ 1415 = omega arith in (l .q-most (min k 1415) h, l .side-most (min k 1415) h)
 
 -- what the code made is the edge
-module _ (s : Plane) (t sizes qindex : List ℕ) (dir r c : ℕ) {i j a b p q side : ℕ} {u : Bool} (cell : i ≡ cellOf s r c) (prev : j ≡ cellBefore s dir r c) (of-a : a ≡ getD t (min (getD qindex i 0) 1415) 0) (of-b : b ≡ getD t (min (getD qindex j 0) 1415) 0) (short : u ≡ shortenedAt s dir r) (pair : p ≡ pairOf (indexAt s (sized sizes) dir r c) (s .chroma) u) (of-q : q ≡ bothOf (a / 65536) (b / 65536)) (of-side : side ≡ bothOf (a % 65536) (b % 65536)) (deep : depthOk (s .depth) ≡ true) (l : Levels t) where
-  same-edge : (steps : List ℕ) → Table s steps t → record { x = c * 4; y = r * 4; dir = dir; pair = p; q = q; side = side } ≡ edgeAt s steps (oneWay [] sizes qindex) dir r c
-  unfolding edgeAt indexAt indicesOf
-  same-edge steps of =
-      let at-a = of-a ∙ of .entries .at (getD qindex i 0) in
-      let at-b = of-b ∙ of .entries .at (getD qindex j 0) in
-      let same-q = of-q ∙ edge-q (s .depth) steps (s .deltaq) (s .deltaside) deep (of .accepted) (getD qindex i 0) (getD qindex j 0) at-a at-b in
-      let same-side = of-side ∙ edge-side (s .depth) steps (s .deltaq) (s .deltaside) deep (of .accepted) (getD qindex i 0) (getD qindex j 0) at-a at-b in
-      rw (pair, short, same-q, same-side, cell, prev)
+module _ (s : Plane)
+    (t sizes qindex : List ℕ)
+    (dir r c : ℕ)
+    {i j a b p q side : ℕ}
+    {u : Bool}
+    (cell : i ≡ cellOf s r c)
+    (prev : j ≡ cellBefore s dir r c)
+    (of-a : a ≡ getD t (min (getD qindex i 0) 1415) 0)
+    (of-b : b ≡ getD t (min (getD qindex j 0) 1415) 0)
+    (short : u ≡ shortenedAt s dir r)
+    (pair : p ≡ pairOf (indexAt s (sized sizes) dir r c) (s .chroma) u)
+    (of-q : q ≡ bothOf (a / 65536) (b / 65536))
+    (of-side : side ≡ bothOf (a % 65536) (b % 65536))
+    (deep : depthOk (s .depth) ≡ true)
+    (l : Levels t)
+  where
+    same-edge : (steps : List ℕ) → Table s steps t → record { x = c * 4; y = r * 4; dir = dir; pair = p; q = q; side = side } ≡ edgeAt s steps (oneWay [] sizes qindex) dir r c
+    unfolding edgeAt indexAt indicesOf
+    same-edge steps of =
+        let at-a = of-a ∙ of .entries .at (getD qindex i 0) in
+        let at-b = of-b ∙ of .entries .at (getD qindex j 0) in
+        let same-q = of-q ∙ edge-q (s .depth) steps (s .deltaq) (s .deltaside) deep (of .accepted) (getD qindex i 0) (getD qindex j 0) at-a at-b in
+        let same-side = of-side ∙ edge-side (s .depth) steps (s .deltaq) (s .deltaside) deep (of .accepted) (getD qindex i 0) (getD qindex j 0) at-a at-b in
+        rw (pair, short, same-q, same-side, cell, prev)
 
-  pub edge-is : IsEdgeAt s t (oneWay [] sizes qindex) dir r c (record { x = c * 4; y = r * 4; dir = dir; pair = p; q = q; side = side })
-  unfolding indexAt indicesOf
-  edge-is =
-      let ha = block-most t (getD qindex i 0) l in
-      let hb = block-most t (getD qindex j 0) l in
-      record {
-        is = same-edge;
-        x-is = refl;
-        y-is = refl;
-        dir-is = refl;
-        pair-is = rw short at pair;
-        q-most = rw (of-q, of-a, of-b) (both-most 2048 _ _ (ha .0) (hb .0));
-        side-most = rw (of-side, of-a, of-b) (both-most 839 _ _ (ha .1) (hb .1));
-      }
+    pub edge-is : IsEdgeAt s t (oneWay [] sizes qindex) dir r c (record { x = c * 4; y = r * 4; dir = dir; pair = p; q = q; side = side })
+    unfolding indexAt indicesOf
+    edge-is =
+        let ha = block-most t (getD qindex i 0) l in
+        let hb = block-most t (getD qindex j 0) l in
+        record {
+          is = same-edge;
+          x-is = refl;
+          y-is = refl;
+          dir-is = refl;
+          pair-is = rw short at pair;
+          q-most = rw (of-q, of-a, of-b) (both-most 2048 _ _ (ha .0) (hb .0));
+          side-most = rw (of-side, of-a, of-b) (both-most 839 _ _ (ha .1) (hb .1));
+        }
 
 -- an edge of a checked plane has room
 module _ {s : Plane} (marks sizes qindex : List ℕ) {t : List ℕ} {size : ℕ} (dir r c : ℕ) {e : Edge} (f : Field s marks sizes qindex t size dir) (k : Cell s r c) (is : IsEdgeAt s t (oneWay [] sizes qindex) dir r c e) where

@@ -39,11 +39,13 @@ abbrev pub samples : List ℕ
 samples = four (100 ∷ 100 ∷ 100 ∷ 100 ∷ 108 ∷ 108 ∷ 108 ∷ 108 ∷ [])
 
 pub accepted : planeCheck settings steps cells samples ≡ Accepted
-unfolding each pick either both all depthOk topOf inRange inRangeZ deltaOk orElse unless found first sooner foundIf foundUnless over overRow overBox stepGood badStep stepsCheck deltasCheck lengthBefore lengthAfter reachOf reachBefore reachAfter pairOf hasRoom cellOf cellBefore marksOf indicesOf cappedOf indexAt shortenedAt isEdge planeSizesOk planeLengthsOk cellGood badCell edgeRoom lacksRoom lacksRow lacksDir noRoom overPlane planeCheck
+unfolding each pick either both all depthOk topOf inRange inRangeZ deltaOk orElse unless found first sooner foundIf foundUnless over overRow overBox stepGood badStep stepsCheck deltasCheck lengthBefore lengthAfter reachOf reachBefore reachAfter pairOf hasRoom cellOf cellBefore marksOf indicesOf
+    cappedOf indexAt shortenedAt isEdge planeSizesOk planeLengthsOk cellGood badCell edgeRoom lacksRoom lacksRow lacksDir noRoom overPlane planeCheck
 accepted = refl
 
 filtered : runPlane settings steps cells samples ≡ four (100 ∷ 101 ∷ 102 ∷ 103 ∷ 105 ∷ 106 ∷ 107 ∷ 108 ∷ [])
-unfolding each filled puts pick either both topOf highestOf offsetOf shiftOf indexOf stepOf quantOf lowered sideOf bothOf qThreshold sideThreshold lengthBefore lengthAfter mostBefore mostAfter reachOf reachBefore reachAfter pairOf bendOf slopeOf steepOf atDistance failsOf fromOf farOf wideOf gradeOf widthOf placeOf lineOf linesOf windowOf chosenOf lineStores fourStores storesOf segmentOf runEdges cellOf cellBefore marksOf indicesOf cappedOf indexAt shortenedAt isEdge edgeAt visitOf startOf countOf sbCols sweepOf columnOf turnOf edgesOf runPlane
+unfolding each filled puts pick either both topOf highestOf offsetOf shiftOf indexOf stepOf quantOf lowered sideOf bothOf qThreshold sideThreshold lengthBefore lengthAfter mostBefore mostAfter reachOf reachBefore reachAfter pairOf bendOf slopeOf steepOf atDistance failsOf fromOf farOf wideOf gradeOf
+    widthOf placeOf lineOf linesOf windowOf chosenOf lineStores fourStores storesOf segmentOf runEdges cellOf cellBefore marksOf indicesOf cappedOf indexAt shortenedAt isEdge edgeAt visitOf startOf countOf sbCols sweepOf columnOf turnOf edgesOf runPlane
 filtered = refl
 
 -- what `deblock_plane` must answer and leave

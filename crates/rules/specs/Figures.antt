@@ -91,7 +91,8 @@ pub record Figures : Type 0 where
   pub offset : offsetSample bands 5 (negℤ (pos 10)) ≡ 0
 
 pub figures : Figures
-unfolding pick either both each turns filled puts topOf offsetOf shiftOf down quantOf lowered sideOf bothOf lengthBefore lengthAfter mostBefore mostAfter reachOf reachBefore reachAfter bendOf slopeOf steepOf atDistance failsOf fromOf farOf wideOf gradeOf widthOf placeOf lineOf linesOf windowOf chosenOf lineStores fourStores storesOf widthAt segmentOf flagOf bareOf sizeOf log2Of wholeOf tileOf markOf storeCell paintCell paintRow paintOf leafOf leavesOf clearOf txGridOf offsetPlace offsetSample
+unfolding pick either both each turns filled puts topOf offsetOf shiftOf down quantOf lowered sideOf bothOf lengthBefore lengthAfter mostBefore mostAfter reachOf reachBefore reachAfter bendOf slopeOf steepOf atDistance failsOf fromOf farOf wideOf gradeOf widthOf placeOf lineOf linesOf windowOf
+    chosenOf lineStores fourStores storesOf widthAt segmentOf flagOf bareOf sizeOf log2Of wholeOf tileOf markOf storeCell paintCell paintRow paintOf leafOf leavesOf clearOf txGridOf offsetPlace offsetSample
 figures = record {
   steps = refl;
   blocks = refl;

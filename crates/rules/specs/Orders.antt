@@ -79,7 +79,8 @@ pub record Orders : Type 0 where
   pub grid-skip : txGridCheck (cell 1 8) [] (0 ∷ 0 ∷ 4097 ∷ 1 ∷ []) one ≡ Refused (Leaf 0)
 
 pub orders : Orders
-unfolding pick either both all depthOk topOf inRange inRangeZ deltaOk subsamplingOk orElse unless found sooner first foundIf foundUnless over overRow overBox stepGood badStep stepsCheck deltasCheck thresholdsCheck lengthBefore lengthAfter reachOf reachBefore reachAfter rangesOk hasRoom edgeOf sizesOk settingsOk overEdge loneCheck each numberIn edgeIn entryAt entryCount edgesIn replaySizesOk headerOk cutEntry firstEntry recordCheck replayCheck flagOf bareOf isSize cellsOk capOk foursOk leafGood leafGoodAt badLeaf marksLong txGridCheck
+unfolding pick either both all depthOk topOf inRange inRangeZ deltaOk subsamplingOk orElse unless found sooner first foundIf foundUnless over overRow overBox stepGood badStep stepsCheck deltasCheck thresholdsCheck lengthBefore lengthAfter reachOf reachBefore reachAfter rangesOk hasRoom edgeOf
+    sizesOk settingsOk overEdge loneCheck each numberIn edgeIn entryAt entryCount edgesIn replaySizesOk headerOk cutEntry firstEntry recordCheck replayCheck flagOf bareOf isSize cellsOk capOk foursOk leafGood leafGoodAt badLeaf marksLong txGridCheck
 orders = record {
   thresholds-1-4 = refl;
   thresholds-4-5 = refl;

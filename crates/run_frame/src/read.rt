@@ -161,7 +161,11 @@ pub fn grid(
     sqh: &mut [u8],
     qindex: &mut [u16],
 ) -> Five
-    ensures { λ r. ⌜ Fills (r .vedge) (now (vedge .entry)) (now (vedge .exit)) × Fills (r .hedge) (now (hedge .entry)) (now (hedge .exit)) × Fills (r .sqw) (now (sqw .entry)) (now (sqw .exit)) × Fills (r .sqh) (now (sqh .entry)) (now (sqh .exit)) × Fills (r .qindex) (now (qindex .entry)) (now (qindex .exit)) ⌝ }
+    ensures { λ r. ⌜ Fills (r .vedge) (now (vedge .entry)) (now (vedge .exit))
+        × Fills (r .hedge) (now (hedge .entry)) (now (hedge .exit))
+        × Fills (r .sqw) (now (sqw .entry)) (now (sqw .exit))
+        × Fills (r .sqh) (now (sqh .entry)) (now (sqh .exit))
+        × Fills (r .qindex) (now (qindex .entry)) (now (qindex .exit)) ⌝ }
 {
     let v = cases::read_u8s(text, c, vedge);
     let h = cases::read_u8s(text, v.rest, hedge);

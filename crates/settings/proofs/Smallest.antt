@@ -32,5 +32,6 @@ start = record { lists = lists (pos 0 ∷ []) (0 ∷ []) (0 ∷ []) (0 ∷ []) (
 pub smallest-read :
     (parseOf smallest start .fault ≡ record { line = 3; kind = 0; at = 22 })
     × (parseOf smallest start .state .lists ≡ lists (pos 1 ∷ []) (160 ∷ []) (0 ∷ []) (0 ∷ []) (pos 0 ∷ []))
-unfolding parseOf walk ended missingOf aloneOf lineEnd saidAt lineOf inkedOf namedOf settingOf tooSoon fillOf ruled judged settled verdictOf versionBad isOne flagBad wholeOf startOf takeOf inNumbers inShorts takenTo taken skipped goesOn readSigned readUpTo kindOf leafRoom ruleOf firstPlaces each pick both either all seek newlineAt remark remarkAt blankOf inkAt Words.wordAt Words.endedAt Words.readLetters Words.goesOn Digits.readDigits Digits.goesOn nothing past Numbers.blankOf ends closed signedAt numberAt unsignedOf fromZero signedOf
+unfolding parseOf walk ended missingOf aloneOf lineEnd saidAt lineOf inkedOf namedOf settingOf tooSoon fillOf ruled judged settled verdictOf versionBad isOne flagBad wholeOf startOf takeOf inNumbers inShorts takenTo taken skipped goesOn readSigned readUpTo kindOf leafRoom ruleOf firstPlaces each
+    pick both either all seek newlineAt remark remarkAt blankOf inkAt Words.wordAt Words.endedAt Words.readLetters Words.goesOn Digits.readDigits Digits.goesOn nothing past Numbers.blankOf ends closed signedAt numberAt unsignedOf fromZero signedOf
 smallest-read = (refl, refl)

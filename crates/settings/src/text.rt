@@ -37,7 +37,8 @@ fn take(
 ) -> Taken
     ensures { λ r. ⌜ from ≤ r .at ⌝ }
     ensures { λ _. ⌜ Kept (lists (now (numbers .entry)) (now (shorts .entry)) (now (steps .entry)) (now (flags .entry)) (now (offsets .entry))) (lists (now (numbers .exit)) (now (shorts .exit)) (now (steps .exit)) (now (flags .exit)) (now (offsets .exit))) ⌝ }
-    ensures { λ r. ⌜ record { lists = lists (now (numbers .exit)) (now (shorts .exit)) (now (steps .exit)) (now (flags .exit)) (now (offsets .exit)); left = r } ≡ takeOf (now (text .entry)) c list from end (lists (now (numbers .entry)) (now (shorts .entry)) (now (steps .entry)) (now (flags .entry)) (now (offsets .entry))) ⌝ }
+    ensures { λ r. ⌜ record { lists = lists (now (numbers .exit)) (now (shorts .exit)) (now (steps .exit)) (now (flags .exit)) (now (offsets .exit)); left = r }
+        ≡ takeOf (now (text .entry)) c list from end (lists (now (numbers .entry)) (now (shorts .entry)) (now (steps .entry)) (now (flags .entry)) (now (offsets .entry))) ⌝ }
 {
     match list {
         0 => values::signed(text, c, numbers, from, end),
@@ -143,7 +144,8 @@ fn fill(
 ) -> usize
     requires { ⌜ kind ≤ 20 ⌝ }
     ensures { λ _. ⌜ Kept (lists (now (numbers .entry)) (now (shorts .entry)) (now (steps .entry)) (now (flags .entry)) (now (offsets .entry))) (lists (now (numbers .exit)) (now (shorts .exit)) (now (steps .exit)) (now (flags .exit)) (now (offsets .exit))) ⌝ }
-    ensures { λ r. ⌜ record { state = state (now (numbers .exit)) (now (shorts .exit)) (now (steps .exit)) (now (flags .exit)) (now (offsets .exit)) (now (places .exit)); answer = r } ≡ fillOf (now (text .entry)) at end kind (state (now (numbers .entry)) (now (shorts .entry)) (now (steps .entry)) (now (flags .entry)) (now (offsets .entry)) (now (places .entry))) ⌝ }
+    ensures { λ r. ⌜ record { state = state (now (numbers .exit)) (now (shorts .exit)) (now (steps .exit)) (now (flags .exit)) (now (offsets .exit)) (now (places .exit)); answer = r }
+        ≡ fillOf (now (text .entry)) at end kind (state (now (numbers .entry)) (now (shorts .entry)) (now (steps .entry)) (now (flags .entry)) (now (offsets .entry)) (now (places .entry))) ⌝ }
 {
     let rule = rule_of(kind, shorts.len());
     let from = start(rule.list, rule.from, places[kind]);
@@ -197,7 +199,8 @@ fn setting(
 ) -> usize
     requires { ⌜ kind ≤ 20 ⌝ }
     ensures { λ _. ⌜ Kept (lists (now (numbers .entry)) (now (shorts .entry)) (now (steps .entry)) (now (flags .entry)) (now (offsets .entry))) (lists (now (numbers .exit)) (now (shorts .exit)) (now (steps .exit)) (now (flags .exit)) (now (offsets .exit))) ⌝ }
-    ensures { λ r. ⌜ record { state = state (now (numbers .exit)) (now (shorts .exit)) (now (steps .exit)) (now (flags .exit)) (now (offsets .exit)) (now (places .exit)); answer = r } ≡ settingOf (now (text .entry)) at end kind (state (now (numbers .entry)) (now (shorts .entry)) (now (steps .entry)) (now (flags .entry)) (now (offsets .entry)) (now (places .entry))) ⌝ }
+    ensures { λ r. ⌜ record { state = state (now (numbers .exit)) (now (shorts .exit)) (now (steps .exit)) (now (flags .exit)) (now (offsets .exit)) (now (places .exit)); answer = r }
+        ≡ settingOf (now (text .entry)) at end kind (state (now (numbers .entry)) (now (shorts .entry)) (now (steps .entry)) (now (flags .entry)) (now (offsets .entry)) (now (places .entry))) ⌝ }
 {
     if too_soon(kind, places[1]) {
         return 1;
@@ -230,7 +233,8 @@ fn line(
 ) -> usize
     requires { ⌜ (from ≤ end) × (end ≤ length (now text)) ⌝ }
     ensures { λ _. ⌜ Kept (lists (now (numbers .entry)) (now (shorts .entry)) (now (steps .entry)) (now (flags .entry)) (now (offsets .entry))) (lists (now (numbers .exit)) (now (shorts .exit)) (now (steps .exit)) (now (flags .exit)) (now (offsets .exit))) ⌝ }
-    ensures { λ r. ⌜ record { state = state (now (numbers .exit)) (now (shorts .exit)) (now (steps .exit)) (now (flags .exit)) (now (offsets .exit)) (now (places .exit)); answer = r } ≡ lineOf (now (text .entry)) from end (state (now (numbers .entry)) (now (shorts .entry)) (now (steps .entry)) (now (flags .entry)) (now (offsets .entry)) (now (places .entry))) ⌝ }
+    ensures { λ r. ⌜ record { state = state (now (numbers .exit)) (now (shorts .exit)) (now (steps .exit)) (now (flags .exit)) (now (offsets .exit)) (now (places .exit)); answer = r }
+        ≡ lineOf (now (text .entry)) from end (state (now (numbers .entry)) (now (shorts .entry)) (now (steps .entry)) (now (flags .entry)) (now (offsets .entry)) (now (places .entry))) ⌝ }
 {
     let at = spaces(text, from, end);
     if at == end {
@@ -298,7 +302,8 @@ pub fn parse(
     places: &mut [usize; 21],
 ) -> Fault
     ensures { λ _. ⌜ Kept (lists (now (numbers .entry)) (now (shorts .entry)) (now (steps .entry)) (now (flags .entry)) (now (offsets .entry))) (lists (now (numbers .exit)) (now (shorts .exit)) (now (steps .exit)) (now (flags .exit)) (now (offsets .exit))) ⌝ }
-    ensures { λ r. ⌜ record { state = state (now (numbers .exit)) (now (shorts .exit)) (now (steps .exit)) (now (flags .exit)) (now (offsets .exit)) (now (places .exit)); fault = r } ≡ parseOf (now (text .entry)) (state (now (numbers .entry)) (now (shorts .entry)) (now (steps .entry)) (now (flags .entry)) (now (offsets .entry)) (now (places .entry))) ⌝ }
+    ensures { λ r. ⌜ record { state = state (now (numbers .exit)) (now (shorts .exit)) (now (steps .exit)) (now (flags .exit)) (now (offsets .exit)) (now (places .exit)); fault = r }
+        ≡ parseOf (now (text .entry)) (state (now (numbers .entry)) (now (shorts .entry)) (now (steps .entry)) (now (flags .entry)) (now (offsets .entry)) (now (places .entry))) ⌝ }
 {
     let n = text.len();
     let mut at: usize = 0;

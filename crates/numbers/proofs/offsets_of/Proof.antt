@@ -55,7 +55,15 @@ count-requires-6 c κs = search needs
 
 returns : tie.Need-returns
 unfolding offsetsOf
-returns c = cc (number-kept _ _ (record { sfits = c .before .before .before .before .before .before .before .before .before .number .ok }) (c .before .before .before .before .before .before .before .before .before .number .ensures), number-kept _ _ (record { sfits = c .before .before .before .before .before .before .before .before .number2 .ok }) (c .before .before .before .before .before .before .before .before .number2 .ensures), number-kept _ _ (record { sfits = c .before .before .before .before .number3 .ok }) (c .before .before .before .before .number3 .ensures), number-kept _ _ (record { sfits = c .before .before .before .number4 .ok }) (c .before .before .before .number4 .ensures), number-kept _ _ (record { sfits = c .before .before .number5 .ok }) (c .before .before .number5 .ensures), number-kept _ _ (record { sfits = c .before .number6 .ok }) (c .before .number6 .ensures))
+returns c =
+    cc (
+      number-kept _ _ (record { sfits = c .before .before .before .before .before .before .before .before .before .number .ok }) (c .before .before .before .before .before .before .before .before .before .number .ensures),
+      number-kept _ _ (record { sfits = c .before .before .before .before .before .before .before .before .number2 .ok }) (c .before .before .before .before .before .before .before .before .number2 .ensures),
+      number-kept _ _ (record { sfits = c .before .before .before .before .number3 .ok }) (c .before .before .before .before .number3 .ensures),
+      number-kept _ _ (record { sfits = c .before .before .before .number4 .ok }) (c .before .before .before .number4 .ensures),
+      number-kept _ _ (record { sfits = c .before .before .number5 .ok }) (c .before .before .number5 .ensures),
+      number-kept _ _ (record { sfits = c .before .number6 .ok }) (c .before .number6 .ensures),
+    )
 
 pub offsets-of-spec : {M : Type 1} → statement M
 offsets-of-spec =

@@ -81,7 +81,21 @@ count-requires-5 : tie.Need-count-requires-5
 count-requires-5 c κs = search needs
 
 returns : tie.Need-returns
-returns c = ccso-read _ _ _ (c .before .before .before .before .before .before .before .before .before .before .before .before .subsampling .ensures) (c .before .before .before .before .before .before .before .before .before .before .before .subsampling2 .ensures) (c .before .before .before .before .before .before .before .before .before .before .count .ensures) (number-kept _ _ (record { sfits = c .before .before .before .before .before .before .before .before .before .number .ok }) (c .before .before .before .before .before .before .before .before .before .number .ensures)) (number-kept _ _ (record { sfits = c .before .before .before .before .before .before .before .before .number2 .ok }) (c .before .before .before .before .before .before .before .before .number2 .ensures)) (c .before .before .before .before .before .before .before .count2 .ensures) (c .before .before .before .before .before .before .count3 .ensures) (c .before .before .before .before .before .count4 .ensures) (number-kept _ _ (record { sfits = c .before .before .before .before .number3 .ok }) (c .before .before .before .before .number3 .ensures)) (number-kept _ _ (record { sfits = c .before .before .before .number4 .ok }) (c .before .before .before .number4 .ensures)) (number-kept _ _ (record { sfits = c .before .before .number5 .ok }) (c .before .before .number5 .ensures)) (number-kept _ _ (record { sfits = c .before .number6 .ok }) (c .before .number6 .ensures)) (c .count5 .ensures)
+returns c =
+    ccso-read _ _ _
+    (c .before .before .before .before .before .before .before .before .before .before .before .before .subsampling .ensures)
+    (c .before .before .before .before .before .before .before .before .before .before .before .subsampling2 .ensures)
+    (c .before .before .before .before .before .before .before .before .before .before .count .ensures)
+    (number-kept _ _ (record { sfits = c .before .before .before .before .before .before .before .before .before .number .ok }) (c .before .before .before .before .before .before .before .before .before .number .ensures))
+    (number-kept _ _ (record { sfits = c .before .before .before .before .before .before .before .before .number2 .ok }) (c .before .before .before .before .before .before .before .before .number2 .ensures))
+    (c .before .before .before .before .before .before .before .count2 .ensures)
+    (c .before .before .before .before .before .before .count3 .ensures)
+    (c .before .before .before .before .before .count4 .ensures)
+    (number-kept _ _ (record { sfits = c .before .before .before .before .number3 .ok }) (c .before .before .before .before .number3 .ensures))
+    (number-kept _ _ (record { sfits = c .before .before .before .number4 .ok }) (c .before .before .before .number4 .ensures))
+    (number-kept _ _ (record { sfits = c .before .before .number5 .ok }) (c .before .before .number5 .ensures))
+    (number-kept _ _ (record { sfits = c .before .number6 .ok }) (c .before .number6 .ensures))
+    (c .count5 .ensures)
 
 pub ccso-of-spec : {M : Type 1} → statement M
 ccso-of-spec =

@@ -44,7 +44,13 @@ enum-told-2 : tie.Need-enum-told-2
 enum-told-2 c = search needs
 
 samples-ok-requires : tie.Need-samples-ok-requires
-samples-ok-requires c κs = let l = passed-yes _ _ (c .before .before .before .before .before .before .before .lengths-ok .ensures) (c .before .before .before .before .before .before .if3 .left) in (passed-yes _ _ (c .before .before .before .before .before .before .before .before .before .before .before .is .ensures) (c .before .before .before .before .before .before .before .before .before .before .if1 .left), passed-yes _ _ (c .before .before .before .before .before .before .before .before .before .sizes-ok .ensures) (c .before .before .before .before .before .before .before .before .if2 .left), luma-there _ _ _ _ _ l, target-there _ _ _ _ _ l)
+samples-ok-requires c κs =
+    let l = passed-yes _ _ (c .before .before .before .before .before .before .before .lengths-ok .ensures) (c .before .before .before .before .before .before .if3 .left) in (
+      passed-yes _ _ (c .before .before .before .before .before .before .before .before .before .before .before .is .ensures) (c .before .before .before .before .before .before .before .before .before .before .if1 .left),
+      passed-yes _ _ (c .before .before .before .before .before .before .before .before .before .sizes-ok .ensures) (c .before .before .before .before .before .before .before .before .if2 .left),
+      luma-there _ _ _ _ _ l,
+      target-there _ _ _ _ _ l,
+    )
 
 returns-6 : tie.Need-returns-6
 returns-6 c = search answers

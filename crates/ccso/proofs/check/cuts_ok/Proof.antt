@@ -27,14 +27,33 @@ in-range-requires-2 c κs = search needs
 
 returns-4 : tie.Need-returns-4
 unfolding cutsOk inRange
-returns-4 c = all-ok _ _ _ (both-ok _ _ _ (is-le _ _ (c .before .before .before .before .before .before .before .before .if1 .left)) (is-le _ _ (c .before .before .before .before .before .before .if2 .left))) (all-ok _ _ _ (range-yes _ _ _ _ (c .before .before .before .before .before .struct-told .given .1 .1 .1 .1 .1 .1 .0 .1) (c .before .before .before .before .in-range .ensures) (c .before .before .before .if3 .left)) (all-bad _ _ (range-no _ _ _ _ (c .before .before .before .before .before .struct-told .given .1 .1 .1 .1 .1 .1 .1 .0 .1) (c .before .in-range2 .ensures) (c .if4 .taken))))
+returns-4 c =
+    all-ok _ _ _
+    (both-ok _ _ _ (is-le _ _ (c .before .before .before .before .before .before .before .before .if1 .left)) (is-le _ _ (c .before .before .before .before .before .before .if2 .left)))
+    (all-ok _ _ _
+    (range-yes _ _ _ _ (c .before .before .before .before .before .struct-told .given .1 .1 .1 .1 .1 .1 .0 .1) (c .before .before .before .before .in-range .ensures) (c .before .before .before .if3 .left))
+    (all-bad _ _ (range-no _ _ _ _ (c .before .before .before .before .before .struct-told .given .1 .1 .1 .1 .1 .1 .1 .0 .1) (c .before .in-range2 .ensures) (c .if4 .taken))))
 
 at-most-requires : tie.Need-at-most-requires
 at-most-requires c κs = search needs
 
 returns-5 : tie.Need-returns-5
 unfolding cutsOk inRange
-returns-5 c = all-ok _ _ _ (both-ok _ _ _ (is-le _ _ (c .before .before .before .before .before .before .before .before .before .before .before .if1 .left)) (is-le _ _ (c .before .before .before .before .before .before .before .before .before .if2 .left))) (all-ok _ _ _ (range-yes _ _ _ _ (c .before .before .before .before .before .before .before .before .struct-told .given .1 .1 .1 .1 .1 .1 .0 .1) (c .before .before .before .before .before .before .before .in-range .ensures) (c .before .before .before .before .before .before .if3 .left)) (all-ok _ _ _ (range-yes _ _ _ _ (c .before .before .before .before .before .before .before .before .struct-told .given .1 .1 .1 .1 .1 .1 .1 .0 .1) (c .before .before .before .before .in-range2 .ensures) (c .before .before .before .if4 .left)) (all-last _ _ (order-told (c .before .before .before .before .before .before .before .before .before .before .before .before .before .args .s .lo) (c .before .before .before .before .before .before .before .before .before .before .before .before .before .args .s .hi) _ (c .before .before .before .before .before .before .before .before .struct-told .given .1 .1 .1 .1 .1 .1 .0 .1) (c .before .before .before .before .before .before .before .before .struct-told .given .1 .1 .1 .1 .1 .1 .1 .0 .1) (c .at-most .ensures)))))
+returns-5 c =
+    all-ok _ _ _
+    (both-ok _ _ _ (is-le _ _ (c .before .before .before .before .before .before .before .before .before .before .before .if1 .left)) (is-le _ _ (c .before .before .before .before .before .before .before .before .before .if2 .left)))
+    (all-ok _ _ _
+    (range-yes _ _ _ _ (c .before .before .before .before .before .before .before .before .struct-told .given .1 .1 .1 .1 .1 .1 .0 .1) (c .before .before .before .before .before .before .before .in-range .ensures) (c .before .before .before .before .before .before .if3 .left))
+    (all-ok _ _ _
+    (range-yes _ _ _ _ (c .before .before .before .before .before .before .before .before .struct-told .given .1 .1 .1 .1 .1 .1 .1 .0 .1) (c .before .before .before .before .in-range2 .ensures) (c .before .before .before .if4 .left))
+    (all-last _ _
+    (order-told
+    (c .before .before .before .before .before .before .before .before .before .before .before .before .before .args .s .lo)
+    (c .before .before .before .before .before .before .before .before .before .before .before .before .before .args .s .hi)
+    _
+    (c .before .before .before .before .before .before .before .before .struct-told .given .1 .1 .1 .1 .1 .1 .0 .1)
+    (c .before .before .before .before .before .before .before .before .struct-told .given .1 .1 .1 .1 .1 .1 .1 .0 .1)
+    (c .at-most .ensures)))))
 
 pub cuts-ok-spec : {M : Type 1} → statement M
 cuts-ok-spec =

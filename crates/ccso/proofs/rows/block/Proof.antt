@@ -16,10 +16,31 @@ returns : tie.Need-returns
 returns c = search blocks
 
 mul-start : tie.Need-mul-start
-mul-start c = record { fits = rw ((c .before .before .before .before .before .before .before .pre .1 .0) .blockw) (omega (arith, (start-below (c .before .before .before .before .before .before .before .pre .0 .ranges) (c .before .before .before .before .before .before .before .pre .1 .1 .0) _ (c .before .before .before .before .before .before .before .pre .1 .1 .1 .1)), width-most (c .before .before .before .before .before .before .before .pre .0 .ranges))) }
+mul-start c =
+    record {
+      fits =
+          rw
+          ((c .before .before .before .before .before .before .before .pre .1 .0) .blockw)
+          (omega (
+            arith,
+            (start-below (c .before .before .before .before .before .before .before .pre .0 .ranges) (c .before .before .before .before .before .before .before .pre .1 .1 .0) _ (c .before .before .before .before .before .before .before .pre .1 .1 .1 .1)),
+            width-most (c .before .before .before .before .before .before .before .pre .0 .ranges),
+          ));
+    }
 
 add-least : tie.Need-add-least
-add-least c = record { fits = rw ((c .before .before .before .before .before .before .before .before .pre .1 .0) .blockw) (omega (arith, (start-below (c .before .before .before .before .before .before .before .before .pre .0 .ranges) (c .before .before .before .before .before .before .before .before .pre .1 .1 .0) _ (c .before .before .before .before .before .before .before .before .pre .1 .1 .1 .1)), width-most (c .before .before .before .before .before .before .before .before .pre .0 .ranges), block-most _ ((c .before .before .before .before .before .before .before .before .pre .0 .ranges) .ssx-most))) }
+add-least c =
+    record {
+      fits =
+          rw
+          ((c .before .before .before .before .before .before .before .before .pre .1 .0) .blockw)
+          (omega (
+            arith,
+            (start-below (c .before .before .before .before .before .before .before .before .pre .0 .ranges) (c .before .before .before .before .before .before .before .before .pre .1 .1 .0) _ (c .before .before .before .before .before .before .before .before .pre .1 .1 .1 .1)),
+            width-most (c .before .before .before .before .before .before .before .before .pre .0 .ranges),
+            block-most _ ((c .before .before .before .before .before .before .before .before .pre .0 .ranges) .ssx-most),
+          ));
+    }
 
 least-requires : tie.Need-least-requires
 least-requires c κs = search needs
@@ -28,7 +49,23 @@ sub-cells : tie.Need-sub-cells
 sub-cells c = search blocks
 
 cells-requires : tie.Need-cells-requires
-cells-requires c κs = ((c .before .before .before .before .before .before .before .before .before .before .pre .0), ((c .before .before .before .before .before .before .before .before .before .before .pre .1 .1 .0), (((c .before .before .before .before .before .before .before .before .before .before .pre .1 .1 .1 .0) .lit, (c .before .before .before .before .before .before .before .before .before .before .pre .1 .1 .1 .0) .small, (c .before .before .before .before .before .before .before .before .before .before .pre .1 .1 .1 .0) .target), count-le (c .before .before .before .before .before .before .before .before .before .before .pre .0 .ranges) (c .before .before .before .before .before .before .before .before .before .before .pre .1 .1 .0) _ (c .before .before .before .before .before .before .before .before .before .before .pre .1 .1 .1 .1) (c .before .before .before .before .before .before .before .before .before .before .pre .1 .0) _ (c .before .least .ensures))))
+cells-requires c κs = (
+  (c .before .before .before .before .before .before .before .before .before .before .pre .0),
+  (
+    (c .before .before .before .before .before .before .before .before .before .before .pre .1 .1 .0),
+    (
+      ((c .before .before .before .before .before .before .before .before .before .before .pre .1 .1 .1 .0) .lit, (c .before .before .before .before .before .before .before .before .before .before .pre .1 .1 .1 .0) .small, (c .before .before .before .before .before .before .before .before .before .before .pre .1 .1 .1 .0) .target),
+      count-le
+          (c .before .before .before .before .before .before .before .before .before .before .pre .0 .ranges)
+          (c .before .before .before .before .before .before .before .before .before .before .pre .1 .1 .0)
+          _
+          (c .before .before .before .before .before .before .before .before .before .before .pre .1 .1 .1 .1)
+          (c .before .before .before .before .before .before .before .before .before .before .pre .1 .0)
+          _
+          (c .before .least .ensures),
+    ),
+  ),
+)
 
 same-length : tie.Need-same-length
 same-length c = search needs

@@ -23,7 +23,16 @@ add-cell : tie.Need-add-cell Inv-loop μ-loop
 add-cell c = record { fits = omega (arith, (c .before .before .before .before .before .pre .1 .1 .1), width-most (c .before .before .before .before .before .pre .0 .ranges)) }
 
 cell-requires : tie.Need-cell-requires Inv-loop μ-loop
-cell-requires c κs = ((c .before .before .before .before .before .pre .0), ((c .before .before .before .before .before .pre .1 .0), (((c .before .before .before .before .before .pre .1 .1 .0) .0, (c .before .before .before .before .before .pre .1 .1 .0) .1, omega (arith, (c .before .before .before .before .before .pre .1 .1 .0) .2, c .before .before .loop .inv .2)), omega (arith, (c .before .before .before .before .before .pre .1 .1 .1), c .before .loop-test .taken))))
+cell-requires c κs = (
+  (c .before .before .before .before .before .pre .0),
+  (
+    (c .before .before .before .before .before .pre .1 .0),
+    (
+      ((c .before .before .before .before .before .pre .1 .1 .0) .0, (c .before .before .before .before .before .pre .1 .1 .0) .1, omega (arith, (c .before .before .before .before .before .pre .1 .1 .0) .2, c .before .before .loop .inv .2)),
+      omega (arith, (c .before .before .before .before .before .pre .1 .1 .1), c .before .loop-test .taken),
+    ),
+  ),
+)
 
 add-j : tie.Need-add-j Inv-loop μ-loop
 add-j c = search loops

@@ -26,7 +26,13 @@ loop-holds : tie.Need-loop-holds Inv-loop μ-loop
 loop-holds c = search row-blocks
 
 block-requires : tie.Need-block-requires Inv-loop μ-loop
-block-requires c κs = ((c .before .before .before .before .before .before .before .pre .0), ((c .before .before .before .before .before .before .before .pre .1 .0), (c .before .before .before .row-of .ensures .0, (fit-same (c .before .before .loop .inv .2) (c .before .before .before .before .before .before .before .pre .1 .1 .0), omega (arith, c .before .loop-test .taken, (c .before .before .before .before .before .before .before .pre .1 .0) .blocks)))))
+block-requires c κs = (
+  (c .before .before .before .before .before .before .before .pre .0),
+  (
+    (c .before .before .before .before .before .before .before .pre .1 .0),
+    (c .before .before .before .row-of .ensures .0, (fit-same (c .before .before .loop .inv .2) (c .before .before .before .before .before .before .before .pre .1 .1 .0), omega (arith, c .before .loop-test .taken, (c .before .before .before .before .before .before .before .pre .1 .0) .blocks))),
+  ),
+)
 
 add-b : tie.Need-add-b Inv-loop μ-loop
 add-b c = record { fits = omega (arith, c .before .before .before .before .before .loop .inv .0, c .before .before .before .before .loop-test .taken, (c .before .before .before .before .before .before .before .before .before .before .pre .1 .0) .blocks, blocks-most (c .before .before .before .before .before .before .before .before .before .before .pre .0 .ranges)) }

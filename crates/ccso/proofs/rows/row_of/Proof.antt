@@ -33,11 +33,26 @@ div-t13 : tie.Need-div-t13
 div-t13 c = rw ((c .before .before .before .before .before .pre .1 .0) .blockh) (block-some _ ((c .before .before .before .before .before .pre .0 .ranges) .ssy-most))
 
 mul-t14 : tie.Need-mul-t14
-mul-t14 c = product-fits _ _ (omega (arith, div-le-self (c .before .before .before .before .before .before .args .y) (c .before .before .before .before .before .before .args .z .blockh), (c .before .before .before .before .before .before .pre .1 .1), height-most (c .before .before .before .before .before .before .pre .0 .ranges))) (omega (arith, (c .before .before .before .before .before .before .pre .1 .0) .blocks, blocks-most (c .before .before .before .before .before .before .pre .0 .ranges)))
+mul-t14 c =
+    product-fits _ _
+    (omega (arith, div-le-self (c .before .before .before .before .before .before .args .y) (c .before .before .before .before .before .before .args .z .blockh), (c .before .before .before .before .before .before .pre .1 .1), height-most (c .before .before .before .before .before .before .pre .0 .ranges)))
+    (omega (arith, (c .before .before .before .before .before .before .pre .1 .0) .blocks, blocks-most (c .before .before .before .before .before .before .pre .0 .ranges)))
 
 returns : tie.Need-returns
 unfolding up
-returns c = let u = (c .before .before .before .before .before .before .pre .0) in let z = (c .before .before .before .before .before .before .pre .1 .0) in (record { inside = (c .before .before .before .before .before .before .pre .1 .1); at = rw (z .width); centre = rw (u .down); tap0 = ap (λ (n : ℕ). n * c .before .before .before .before .before .before .args .s .width) (tap-row-is u _ _ _ (c .before .before .before .before .limited .ensures .1 _ (u .dy0))); tap1 = ap (λ (n : ℕ). n * c .before .before .before .before .before .before .args .s .width) (tap-row-is u _ _ _ (c .before .before .before .limited2 .ensures .1 _ (u .dy1))); flags = rw (z .blockh, z .blocks) }, refl)
+returns c =
+    let u = (c .before .before .before .before .before .before .pre .0) in
+    let z = (c .before .before .before .before .before .before .pre .1 .0) in (
+      record {
+        inside = (c .before .before .before .before .before .before .pre .1 .1);
+        at = rw (z .width);
+        centre = rw (u .down);
+        tap0 = ap (λ (n : ℕ). n * c .before .before .before .before .before .before .args .s .width) (tap-row-is u _ _ _ (c .before .before .before .before .limited .ensures .1 _ (u .dy0)));
+        tap1 = ap (λ (n : ℕ). n * c .before .before .before .before .before .before .args .s .width) (tap-row-is u _ _ _ (c .before .before .before .limited2 .ensures .1 _ (u .dy1)));
+        flags = rw (z .blockh, z .blocks);
+      },
+      refl,
+    )
 
 pub row-of-spec : {M : Type 1} → statement M
 row-of-spec =

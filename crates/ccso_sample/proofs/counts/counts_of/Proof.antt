@@ -49,7 +49,21 @@ cast-t16 : tie.Need-cast-t16
 cast-t16 c = search needs
 
 returns : tie.Need-returns
-returns c = let p = c .before .before .before .before .before .before .before .before .before .before .before .before .before .before .before .pre in record { ranges = p; lo = back-is _ (p .lo) (omega arith) (c .before .before .before .before .before .before .before .before .before .before .before .before .before .raised .ensures); hi = back-is _ (p .hi) (omega arith) (c .before .before .before .before .before .before .before .before .before .before .before .raised2 .ensures); dx0 = back-is _ (p .dx0) (omega arith) (c .before .before .before .before .before .before .before .before .before .raised3 .ensures); dy0 = back-is _ (p .dy0) (omega arith) (c .before .before .before .before .before .before .before .raised4 .ensures); dx1 = back-is _ (p .dx1) (omega arith) (c .before .before .before .before .before .raised5 .ensures); dy1 = back-is _ (p .dy1) (omega arith) (c .before .before .before .raised6 .ensures); across = c .before .before .each-way .ensures; down = c .before .each-way2 .ensures; top = c .top .ensures; top-most = omega (arith, c .top .ensures, top-most _ (p .depth)) }
+returns c =
+    let p = c .before .before .before .before .before .before .before .before .before .before .before .before .before .before .before .pre in
+    record {
+      ranges = p;
+      lo = back-is _ (p .lo) (omega arith) (c .before .before .before .before .before .before .before .before .before .before .before .before .before .raised .ensures);
+      hi = back-is _ (p .hi) (omega arith) (c .before .before .before .before .before .before .before .before .before .before .before .raised2 .ensures);
+      dx0 = back-is _ (p .dx0) (omega arith) (c .before .before .before .before .before .before .before .before .before .raised3 .ensures);
+      dy0 = back-is _ (p .dy0) (omega arith) (c .before .before .before .before .before .before .before .raised4 .ensures);
+      dx1 = back-is _ (p .dx1) (omega arith) (c .before .before .before .before .before .raised5 .ensures);
+      dy1 = back-is _ (p .dy1) (omega arith) (c .before .before .before .raised6 .ensures);
+      across = c .before .before .each-way .ensures;
+      down = c .before .each-way2 .ensures;
+      top = c .top .ensures;
+      top-most = omega (arith, c .top .ensures, top-most _ (p .depth));
+    }
 
 pub counts-of-spec : {M : Type 1} → statement M
 counts-of-spec =

@@ -41,7 +41,14 @@ slice-aggregate-tell-2 : tie.Need-slice-aggregate-tell-2
 slice-aggregate-tell-2 c = front _ _ (search needs)
 
 tell-requires : tie.Need-tell-requires
-tell-requires c κs = (front-long 5 (c .before .before .before .before .before .before .before .before .before .load .result) (c .before .before .before .before .before .before .before .before .before .load .last .1 .0) (c .before .before .before .before .before .before .before .before .before .load .ensures) (c .before .before .before .before .before .before .before .if1 .left), front-long 5 (c .before .before .before .before .load2 .result) (c .before .before .before .before .load2 .last .1 .0) (c .before .before .before .before .load2 .ensures) (c .before .before .if2 .left))
+tell-requires c κs = (
+  front-long 5
+      (c .before .before .before .before .before .before .before .before .before .load .result)
+      (c .before .before .before .before .before .before .before .before .before .load .last .1 .0)
+      (c .before .before .before .before .before .before .before .before .before .load .ensures)
+      (c .before .before .before .before .before .before .before .if1 .left),
+  front-long 5 (c .before .before .before .before .load2 .result) (c .before .before .before .before .load2 .last .1 .0) (c .before .before .before .before .load2 .ensures) (c .before .before .if2 .left),
+)
 
 array-share-prefix-a-2 : tie.Need-array-share-prefix-a-2
 array-share-prefix-a-2 c = search needs
@@ -50,7 +57,12 @@ slice-aggregate-count : tie.Need-slice-aggregate-count
 slice-aggregate-count c = front _ _ (c .before .before .before .before .before .before .before .before .before .before .before .before .load .ensures)
 
 count-requires : tie.Need-count-requires
-count-requires c κs = front-long 5 (c .before .before .before .before .before .before .before .before .before .before .before .before .load .result) (c .before .before .before .before .before .before .before .before .before .before .before .before .load .last .1 .0) (c .before .before .before .before .before .before .before .before .before .before .before .before .load .ensures) (c .before .before .before .before .before .before .before .before .before .before .if1 .left)
+count-requires c κs =
+    front-long 5
+    (c .before .before .before .before .before .before .before .before .before .before .before .before .load .result)
+    (c .before .before .before .before .before .before .before .before .before .before .before .before .load .last .1 .0)
+    (c .before .before .before .before .before .before .before .before .before .before .before .before .load .ensures)
+    (c .before .before .before .before .before .before .before .before .before .before .if1 .left)
 
 array-share-prefix-b-2 : tie.Need-array-share-prefix-b-2
 array-share-prefix-b-2 c = search needs

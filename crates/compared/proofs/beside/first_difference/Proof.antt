@@ -38,7 +38,16 @@ same-numbers-requires : tie.Need-same-numbers-requires Inv-loop μ-loop
 same-numbers-requires c κs = search needs
 
 returns : tie.Need-returns Inv-loop μ-loop
-returns c = apart-found _ _ _ (c .before .before .before .before .before .loop .inv .1) (c .before .before .before .entry .ensures .0) (c .before .before .entry2 .ensures .0) (c .before .same-numbers .ensures) _ ((c .before .before .before .before .before .before .least .ensures) ∙ ap₂ min (c .before .before .before .before .before .before .before .before .count .ensures) (c .before .before .before .before .before .before .before .count2 .ensures)) (c .if1 .taken) (omega arith)
+returns c =
+    apart-found _ _ _
+    (c .before .before .before .before .before .loop .inv .1)
+    (c .before .before .before .entry .ensures .0)
+    (c .before .before .entry2 .ensures .0)
+    (c .before .same-numbers .ensures)
+    _
+    ((c .before .before .before .before .before .before .least .ensures) ∙ ap₂ min (c .before .before .before .before .before .before .before .before .count .ensures) (c .before .before .before .before .before .before .before .count2 .ensures))
+    (c .if1 .taken)
+    (omega arith)
 
 add-k : tie.Need-add-k Inv-loop μ-loop
 add-k c = omega arith

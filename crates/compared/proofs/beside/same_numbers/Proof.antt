@@ -23,11 +23,19 @@ returns-4 c = all-ok _ _ _ (is-eq _ _ (c .before .before .before .before .before
 
 returns-5 : tie.Need-returns-5
 unfolding sameNumbers
-returns-5 c = all-ok _ _ _ (is-eq _ _ (c .before .before .before .before .before .before .before .before .before .before .before .before .if1 .left)) (all-ok _ _ _ (is-eq _ _ (c .before .before .before .before .before .before .before .before .before .if2 .left)) (all-ok _ _ _ (is-eq _ _ (c .before .before .before .before .before .before .if3 .left)) (all-ok _ _ _ (is-eq _ _ (c .before .before .before .if4 .left)) (all-bad _ _ (not-eq _ _ (c .if5 .taken))))))
+returns-5 c =
+    all-ok _ _ _
+    (is-eq _ _ (c .before .before .before .before .before .before .before .before .before .before .before .before .if1 .left))
+    (all-ok _ _ _ (is-eq _ _ (c .before .before .before .before .before .before .before .before .before .if2 .left)) (all-ok _ _ _ (is-eq _ _ (c .before .before .before .before .before .before .if3 .left)) (all-ok _ _ _ (is-eq _ _ (c .before .before .before .if4 .left)) (all-bad _ _ (not-eq _ _ (c .if5 .taken))))))
 
 returns-6 : tie.Need-returns-6
 unfolding sameNumbers
-returns-6 c = all-ok _ _ _ (is-eq _ _ (c .before .before .before .before .before .before .before .before .before .before .before .before .before .before .if1 .left)) (all-ok _ _ _ (is-eq _ _ (c .before .before .before .before .before .before .before .before .before .before .before .if2 .left)) (all-ok _ _ _ (is-eq _ _ (c .before .before .before .before .before .before .before .before .if3 .left)) (all-ok _ _ _ (is-eq _ _ (c .before .before .before .before .before .if4 .left)) (all-ok _ _ _ (is-eq _ _ (c .before .before .if5 .left)) (all-last _ _ refl)))))
+returns-6 c =
+    all-ok _ _ _
+    (is-eq _ _ (c .before .before .before .before .before .before .before .before .before .before .before .before .before .before .if1 .left))
+    (all-ok _ _ _
+    (is-eq _ _ (c .before .before .before .before .before .before .before .before .before .before .before .if2 .left))
+    (all-ok _ _ _ (is-eq _ _ (c .before .before .before .before .before .before .before .before .if3 .left)) (all-ok _ _ _ (is-eq _ _ (c .before .before .before .before .before .if4 .left)) (all-ok _ _ _ (is-eq _ _ (c .before .before .if5 .left)) (all-last _ _ refl)))))
 
 pub same-numbers-spec : {M : Type 1} → statement M
 same-numbers-spec = tie.close (tie.spec returns returns-2 returns-3 returns-4 returns-5 returns-6)

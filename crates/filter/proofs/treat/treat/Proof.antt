@@ -31,7 +31,12 @@ width-of-requires : tie.Need-width-of-requires
 width-of-requires c κs = tt
 
 offset-requires : tie.Need-offset-requires
-offset-requires c κs = let p = c .before .before .before .before .before .before .before .before .before .before .before .before .before .before .before .before .before .before .before .before .before .before .before .before .before .before .before .before .before .before .before .before .before .before .before .before .before .before .before .before .before .pre .1 in record { numbers-long = p .numbers; flags-long = p .flags; offsets-long = p .offsets; places-long = p .places }
+offset-requires c κs =
+    let p =
+    c .before .before .before .before .before .before .before .before .before .before .before .before .before .before .before .before .before .before .before .before .before .before .before .before .before .before .before .before .before .before .before .before .before .before .before .before
+    .before .before .before .before .before .pre .1
+    in
+    record { numbers-long = p .numbers; flags-long = p .flags; offsets-long = p .offsets; places-long = p .places }
 
 same-length-4 : tie.Need-same-length-4
 same-length-4 c = search needs

@@ -21,11 +21,17 @@ kind-ok-requires-2 c κs = search needs
 
 returns-2 : tie.Need-returns-2
 unfolding frameSettings
-returns-2 c = let y = rw (toZ-ofZ {w = w32} {z = c .before .before .before .before .before .before .args .f .deltay} (record { sfits = c .before .before .before .before .before .struct-told .given .1 .1 .1 .1 .1 .1 .1 .0 .1 })) at (c .before .before .before .before .kind-ok .ensures) in let u = rw (toZ-ofZ {w = w32} {z = c .before .before .before .before .before .before .args .f .deltauv} (record { sfits = c .before .before .struct-told2 .given .1 .1 .1 .1 .1 .1 .1 .1 .0 .1 })) at (c .before .kind-ok2 .ensures) in unless-bad _ _ (three-ok _ _ _ _ _ (told-yes-not _ _ y (c .before .before .before .if1 .left)) (told-no-not _ _ u (c .if2 .taken)))
+returns-2 c =
+    let y = rw (toZ-ofZ {w = w32} {z = c .before .before .before .before .before .before .args .f .deltay} (record { sfits = c .before .before .before .before .before .struct-told .given .1 .1 .1 .1 .1 .1 .1 .0 .1 })) at (c .before .before .before .before .kind-ok .ensures) in
+    let u = rw (toZ-ofZ {w = w32} {z = c .before .before .before .before .before .before .args .f .deltauv} (record { sfits = c .before .before .struct-told2 .given .1 .1 .1 .1 .1 .1 .1 .1 .0 .1 })) at (c .before .kind-ok2 .ensures) in
+    unless-bad _ _ (three-ok _ _ _ _ _ (told-yes-not _ _ y (c .before .before .before .if1 .left)) (told-no-not _ _ u (c .if2 .taken)))
 
 returns-3 : tie.Need-returns-3
 unfolding frameSettings
-returns-3 c = let y = rw (toZ-ofZ {w = w32} {z = c .before .before .before .before .before .before .args .f .deltay} (record { sfits = c .before .before .before .before .before .struct-told .given .1 .1 .1 .1 .1 .1 .1 .0 .1 })) at (c .before .before .before .before .kind-ok .ensures) in let u = rw (toZ-ofZ {w = w32} {z = c .before .before .before .before .before .before .args .f .deltauv} (record { sfits = c .before .before .struct-told2 .given .1 .1 .1 .1 .1 .1 .1 .1 .0 .1 })) at (c .before .kind-ok2 .ensures) in unless-good _ _ (three-ok _ _ _ _ _ (told-yes-not _ _ y (c .before .before .before .if1 .left)) (told-yes-not _ _ u (c .if2 .left)))
+returns-3 c =
+    let y = rw (toZ-ofZ {w = w32} {z = c .before .before .before .before .before .before .args .f .deltay} (record { sfits = c .before .before .before .before .before .struct-told .given .1 .1 .1 .1 .1 .1 .1 .0 .1 })) at (c .before .before .before .before .kind-ok .ensures) in
+    let u = rw (toZ-ofZ {w = w32} {z = c .before .before .before .before .before .before .args .f .deltauv} (record { sfits = c .before .before .struct-told2 .given .1 .1 .1 .1 .1 .1 .1 .1 .0 .1 })) at (c .before .kind-ok2 .ensures) in
+    unless-good _ _ (three-ok _ _ _ _ _ (told-yes-not _ _ y (c .before .before .before .if1 .left)) (told-yes-not _ _ u (c .if2 .left)))
 
 pub frame-settings-spec : {M : Type 1} → statement M
 frame-settings-spec =

@@ -37,7 +37,23 @@ lower-requires-4 : tie.Need-lower-requires-4
 lower-requires-4 c κs = search needs
 
 returns : tie.Need-returns
-returns c = chroma-is (c .before .before .before .before .before .before .before .before .before .before .before .args .f) _ _ _ _ _ _ _ (toZ-ofZ {w = w32} {z = c .before .before .before .before .before .before .before .before .before .before .before .args .f .deltauv} (record { sfits = c .struct-told .given .1 .1 .1 .1 .1 .1 .1 .1 .0 .1 })) (eighths-by _ _ _ (c .before .before .before .before .before .before .before .before .before .before .half .ensures .0) (c .before .before .before .before .before .before .before .before .before .eights .ensures)) (eighths-by _ _ _ (c .before .before .before .before .before .before .before .before .half2 .ensures .0) (c .before .before .before .before .before .before .before .eights2 .ensures)) (down-by _ _ _ _ (c .before .before .before .before .before .before .eights3 .ensures) (c .before .before .before .before .before .lower .ensures)) (down-by _ _ _ _ (c .before .before .before .before .eights4 .ensures) (c .before .before .before .lower2 .ensures)) (c .before .before .lower3 .ensures) (c .before .lower4 .ensures)
+returns c =
+    chroma-is
+    (c .before .before .before .before .before .before .before .before .before .before .before .args .f)
+    _
+    _
+    _
+    _
+    _
+    _
+    _
+    (toZ-ofZ {w = w32} {z = c .before .before .before .before .before .before .before .before .before .before .before .args .f .deltauv} (record { sfits = c .struct-told .given .1 .1 .1 .1 .1 .1 .1 .1 .0 .1 }))
+    (eighths-by _ _ _ (c .before .before .before .before .before .before .before .before .before .before .half .ensures .0) (c .before .before .before .before .before .before .before .before .before .eights .ensures))
+    (eighths-by _ _ _ (c .before .before .before .before .before .before .before .before .half2 .ensures .0) (c .before .before .before .before .before .before .before .eights2 .ensures))
+    (down-by _ _ _ _ (c .before .before .before .before .before .before .eights3 .ensures) (c .before .before .before .before .before .lower .ensures))
+    (down-by _ _ _ _ (c .before .before .before .before .eights4 .ensures) (c .before .before .before .lower2 .ensures))
+    (c .before .before .lower3 .ensures)
+    (c .before .lower4 .ensures)
 
 pub chroma-plane-spec : {M : Type 1} → statement M
 chroma-plane-spec =

@@ -27,7 +27,10 @@ stride-ok-requires : tie.Need-stride-ok-requires
 stride-ok-requires c κs = size-by _ (c .before .before .before .before .before .in-range .ensures) (c .before .before .before .before .if1 .left) (c .before .before .before .in-range2 .ensures) (c .before .before .if2 .left) (c .before .subsampling-ok .ensures) (c .if3 .left)
 
 returns-4 : tie.Need-returns-4
-returns-4 c = all-ok _ _ _ (told-yes-not _ _ (c .before .before .before .before .before .before .in-range .ensures) (c .before .before .before .before .before .if1 .left)) (all-ok _ _ _ (told-yes-not _ _ (c .before .before .before .before .in-range2 .ensures) (c .before .before .before .if2 .left)) (all-ok _ _ _ (told-yes-not _ _ (c .before .before .subsampling-ok .ensures) (c .before .if3 .left)) (all-last _ _ (c .stride-ok .ensures))))
+returns-4 c =
+    all-ok _ _ _
+    (told-yes-not _ _ (c .before .before .before .before .before .before .in-range .ensures) (c .before .before .before .before .before .if1 .left))
+    (all-ok _ _ _ (told-yes-not _ _ (c .before .before .before .before .in-range2 .ensures) (c .before .before .before .if2 .left)) (all-ok _ _ _ (told-yes-not _ _ (c .before .before .subsampling-ok .ensures) (c .before .if3 .left)) (all-last _ _ (c .stride-ok .ensures))))
 
 pub luma-ok-spec : {M : Type 1} → statement M
 luma-ok-spec =

@@ -51,7 +51,15 @@ same-length-4 : tie.Need-same-length-4
 same-length-4 c = search needs
 
 returns-3 : tie.Need-returns-3
-returns-3 c = cell-within _ _ _ _ _ _ _ _ _ (c .before .before .before .before .before .before .before .before .before .before .before .before .before .before .before .before .before .before .before .before .if1 .left) (c .before .before .before .before .before .before .before .before .before .before .before .before .before .before .before .before .before .before .if2 .left) (c .before .before .before .before .before .before .before .before .before .before .before .before .mark .ensures) (c .before .before .before .before .before .before .before .before .before .before .before .mark2 .ensures) (c .before .before .before .before .before .before .before .before .before .before .log2 .ensures) (c .before .before .before .before .before .before .before .before .before .log22 .ensures) (c .before .before .before .before .before .before .before .before .store .ensures)
+returns-3 c =
+    cell-within _ _ _ _ _ _ _ _ _
+    (c .before .before .before .before .before .before .before .before .before .before .before .before .before .before .before .before .before .before .before .before .if1 .left)
+    (c .before .before .before .before .before .before .before .before .before .before .before .before .before .before .before .before .before .before .if2 .left)
+    (c .before .before .before .before .before .before .before .before .before .before .before .before .mark .ensures)
+    (c .before .before .before .before .before .before .before .before .before .before .before .mark2 .ensures)
+    (c .before .before .before .before .before .before .before .before .before .before .log2 .ensures)
+    (c .before .before .before .before .before .before .before .before .before .log22 .ensures)
+    (c .before .before .before .before .before .before .before .before .store .ensures)
 
 pub cell-spec : {M : Type 1} → statement M
 cell-spec =

@@ -41,7 +41,13 @@ shared-slice-read-h : tie.Need-shared-slice-read-h
 shared-slice-read-h c = search needs
 
 paint-leaf-requires : tie.Need-paint-leaf-requires
-paint-leaf-requires c κs = (c .before .before .before .before .before .before .before .before .before .before .before .before .before .pre .0, (c .before .before .before .before .before .before .before .before .before .before .before .before .before .pre .1 .0, c .before .before .before .before .before .before .before .before .before .before .before .before .before .pre .1 .1 .0 .each _ (c .before .before .before .before .before .before .before .before .before .before .before .before .before .pre .1 .1 .1)))
+paint-leaf-requires c κs = (
+  c .before .before .before .before .before .before .before .before .before .before .before .before .before .pre .0,
+  (
+    c .before .before .before .before .before .before .before .before .before .before .before .before .before .pre .1 .0,
+    c .before .before .before .before .before .before .before .before .before .before .before .before .before .pre .1 .1 .0 .each _ (c .before .before .before .before .before .before .before .before .before .before .before .before .before .pre .1 .1 .1),
+  ),
+)
 
 same-length : tie.Need-same-length
 same-length c = search needs

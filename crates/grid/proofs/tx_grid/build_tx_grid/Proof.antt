@@ -15,13 +15,50 @@ enum-known-a c = search needs
 
 returns : tie.Need-returns
 unfolding txGridAfter
-returns c = (refused-by _ _ (c .before .before .before .tx-check .ensures .of (marks (c .before .before .before .before .before .before .before .before .before .before .args .vedge .now) (c .before .before .before .before .before .before .before .before .before .before .args .hedge .now) (c .before .before .before .before .before .before .before .before .before .before .args .sqw .now) (c .before .before .before .before .before .before .before .before .before .before .args .sqh .now)) (record { of-v = refl; of-h = refl; of-w = refl; of-t = refl })) (c .before .a .given .1), settle-refused-by _ _ _ _ (c .before .before .before .tx-check .ensures .of (marks (c .before .before .before .before .before .before .before .before .before .before .args .vedge .now) (c .before .before .before .before .before .before .before .before .before .before .args .hedge .now) (c .before .before .before .before .before .before .before .before .before .before .args .sqw .now) (c .before .before .before .before .before .before .before .before .before .before .args .sqh .now)) (record { of-v = refl; of-h = refl; of-w = refl; of-t = refl })) (c .before .a .given .1))
+returns c = (
+  refused-by _ _
+      (c .before .before .before .tx-check .ensures .of
+      (marks
+      (c .before .before .before .before .before .before .before .before .before .before .args .vedge .now)
+      (c .before .before .before .before .before .before .before .before .before .before .args .hedge .now)
+      (c .before .before .before .before .before .before .before .before .before .before .args .sqw .now)
+      (c .before .before .before .before .before .before .before .before .before .before .args .sqh .now))
+      (record { of-v = refl; of-h = refl; of-w = refl; of-t = refl }))
+      (c .before .a .given .1),
+  settle-refused-by _ _ _ _
+      (c .before .before .before .tx-check .ensures .of
+      (marks
+      (c .before .before .before .before .before .before .before .before .before .before .args .vedge .now)
+      (c .before .before .before .before .before .before .before .before .before .before .args .hedge .now)
+      (c .before .before .before .before .before .before .before .before .before .before .args .sqw .now)
+      (c .before .before .before .before .before .before .before .before .before .before .args .sqh .now))
+      (record { of-v = refl; of-h = refl; of-w = refl; of-t = refl }))
+      (c .before .a .given .1),
+)
 
 enum-told : tie.Need-enum-told
 enum-told c = search needs
 
 tx-grid-requires : tie.Need-tx-grid-requires
-tx-grid-requires c κs = let a = tx-accepted _ _ _ (marks (c .before .before .before .before .before .before .before .before .before .before .before .before .before .args .vedge .now) (c .before .before .before .before .before .before .before .before .before .before .before .before .before .args .hedge .now) (c .before .before .before .before .before .before .before .before .before .before .before .before .before .args .sqw .now) (c .before .before .before .before .before .before .before .before .before .before .before .before .before .args .sqh .now)) (sym (c .before .before .before .before .before .before .tx-check .ensures .of (marks (c .before .before .before .before .before .before .before .before .before .before .before .before .before .args .vedge .now) (c .before .before .before .before .before .before .before .before .before .before .before .before .before .args .hedge .now) (c .before .before .before .before .before .before .before .before .before .before .before .before .before .args .sqw .now) (c .before .before .before .before .before .before .before .before .before .before .before .before .before .args .sqh .now)) (record { of-v = refl; of-h = refl; of-w = refl; of-t = refl })) ∙ c .before .before .before .before .enum-told .given .1) in (a .0, (a .1, (a .2, a .3)))
+tx-grid-requires c κs =
+    let a =
+    tx-accepted _ _ _
+    (marks
+    (c .before .before .before .before .before .before .before .before .before .before .before .before .before .args .vedge .now)
+    (c .before .before .before .before .before .before .before .before .before .before .before .before .before .args .hedge .now)
+    (c .before .before .before .before .before .before .before .before .before .before .before .before .before .args .sqw .now)
+    (c .before .before .before .before .before .before .before .before .before .before .before .before .before .args .sqh .now))
+    (sym
+    (c .before .before .before .before .before .before .tx-check .ensures .of
+    (marks
+    (c .before .before .before .before .before .before .before .before .before .before .before .before .before .args .vedge .now)
+    (c .before .before .before .before .before .before .before .before .before .before .before .before .before .args .hedge .now)
+    (c .before .before .before .before .before .before .before .before .before .before .before .before .before .args .sqw .now)
+    (c .before .before .before .before .before .before .before .before .before .before .before .before .before .args .sqh .now))
+    (record { of-v = refl; of-h = refl; of-w = refl; of-t = refl }))
+    ∙ c .before .before .before .before .enum-told .given .1)
+    in
+    (a .0, (a .1, (a .2, a .3)))
 
 same-length : tie.Need-same-length
 same-length c = search needs
@@ -37,7 +74,27 @@ same-length-4 c = search needs
 
 returns-2 : tie.Need-returns-2
 unfolding txGridAfter
-returns-2 c = (accepted-by _ _ (c .before .before .before .before .before .before .before .before .before .before .before .before .before .before .before .tx-check .ensures .of (marks (c .before .before .before .before .before .before .before .before .before .before .before .before .before .before .before .before .before .before .before .before .before .before .args .vedge .now) (c .before .before .before .before .before .before .before .before .before .before .before .before .before .before .before .before .before .before .before .before .before .before .args .hedge .now) (c .before .before .before .before .before .before .before .before .before .before .before .before .before .before .before .before .before .before .before .before .before .before .args .sqw .now) (c .before .before .before .before .before .before .before .before .before .before .before .before .before .before .before .before .before .before .before .before .before .before .args .sqh .now)) (record { of-v = refl; of-h = refl; of-w = refl; of-t = refl })) (c .before .before .before .before .before .before .before .before .before .before .before .before .before .enum-told .given .1), settle-accepted-by _ _ _ _ _ (c .before .before .before .before .before .before .before .before .before .before .before .before .before .before .before .tx-check .ensures .of (marks (c .before .before .before .before .before .before .before .before .before .before .before .before .before .before .before .before .before .before .before .before .before .before .args .vedge .now) (c .before .before .before .before .before .before .before .before .before .before .before .before .before .before .before .before .before .before .before .before .before .before .args .hedge .now) (c .before .before .before .before .before .before .before .before .before .before .before .before .before .before .before .before .before .before .before .before .before .before .args .sqw .now) (c .before .before .before .before .before .before .before .before .before .before .before .before .before .before .before .before .before .before .before .before .before .before .args .sqh .now)) (record { of-v = refl; of-h = refl; of-w = refl; of-t = refl })) (c .before .before .before .before .before .before .before .before .before .before .before .before .before .enum-told .given .1) (c .before .before .before .before .before .before .before .before .tx-grid .ensures))
+returns-2 c = (
+  accepted-by _ _
+      (c .before .before .before .before .before .before .before .before .before .before .before .before .before .before .before .tx-check .ensures .of
+      (marks
+      (c .before .before .before .before .before .before .before .before .before .before .before .before .before .before .before .before .before .before .before .before .before .before .args .vedge .now)
+      (c .before .before .before .before .before .before .before .before .before .before .before .before .before .before .before .before .before .before .before .before .before .before .args .hedge .now)
+      (c .before .before .before .before .before .before .before .before .before .before .before .before .before .before .before .before .before .before .before .before .before .before .args .sqw .now)
+      (c .before .before .before .before .before .before .before .before .before .before .before .before .before .before .before .before .before .before .before .before .before .before .args .sqh .now))
+      (record { of-v = refl; of-h = refl; of-w = refl; of-t = refl }))
+      (c .before .before .before .before .before .before .before .before .before .before .before .before .before .enum-told .given .1),
+  settle-accepted-by _ _ _ _ _
+      (c .before .before .before .before .before .before .before .before .before .before .before .before .before .before .before .tx-check .ensures .of
+      (marks
+      (c .before .before .before .before .before .before .before .before .before .before .before .before .before .before .before .before .before .before .before .before .before .before .args .vedge .now)
+      (c .before .before .before .before .before .before .before .before .before .before .before .before .before .before .before .before .before .before .before .before .before .before .args .hedge .now)
+      (c .before .before .before .before .before .before .before .before .before .before .before .before .before .before .before .before .before .before .before .before .before .before .args .sqw .now)
+      (c .before .before .before .before .before .before .before .before .before .before .before .before .before .before .before .before .before .before .before .before .before .before .args .sqh .now))
+      (record { of-v = refl; of-h = refl; of-w = refl; of-t = refl }))
+      (c .before .before .before .before .before .before .before .before .before .before .before .before .before .enum-told .given .1)
+      (c .before .before .before .before .before .before .before .before .tx-grid .ensures),
+)
 
 pub build-tx-grid-spec : {M : Type 1} → statement M
 build-tx-grid-spec =

@@ -12,10 +12,37 @@ blank-requires : tie.Need-blank-requires
 blank-requires c κs = search needs
 
 leaves-requires : tie.Need-leaves-requires
-leaves-requires c κs = (fit-same (c .before .before .before .before .before .before .before .before .before .before .before .before .before .before .before .before .before .before .before .before .before .before .before .before .pre .0) (c .before .before .before .before .before .before .before .before .before .before .before .before .blank .kept .0) (c .before .before .before .before .before .before .before .before .before .before .before .before .blank .kept .1 .0) (c .before .before .before .before .before .before .before .before .before .before .before .before .blank .kept .1 .1 .0) (c .before .before .before .before .before .before .before .before .before .before .before .before .blank .kept .1 .1 .1 .0), (c .before .before .before .before .before .before .before .before .before .before .before .before .before .before .before .before .before .before .before .before .before .before .before .before .pre .1 .0, c .before .before .before .before .before .before .before .before .before .before .before .before .before .before .before .before .before .before .before .before .before .before .before .before .pre .1 .1 .0))
+leaves-requires c κs = (
+  fit-same
+      (c .before .before .before .before .before .before .before .before .before .before .before .before .before .before .before .before .before .before .before .before .before .before .before .before .pre .0)
+      (c .before .before .before .before .before .before .before .before .before .before .before .before .blank .kept .0)
+      (c .before .before .before .before .before .before .before .before .before .before .before .before .blank .kept .1 .0)
+      (c .before .before .before .before .before .before .before .before .before .before .before .before .blank .kept .1 .1 .0)
+      (c .before .before .before .before .before .before .before .before .before .before .before .before .blank .kept .1 .1 .1 .0),
+  (
+    c .before .before .before .before .before .before .before .before .before .before .before .before .before .before .before .before .before .before .before .before .before .before .before .before .pre .1 .0,
+    c .before .before .before .before .before .before .before .before .before .before .before .before .before .before .before .before .before .before .before .before .before .before .before .before .pre .1 .1 .0,
+  ),
+)
 
 leaves-requires-2 : tie.Need-leaves-requires-2
-leaves-requires-2 c κs = (fit-same (fit-same (c .before .before .before .before .before .before .before .before .before .before .before .before .before .before .before .before .before .before .before .before .before .before .before .before .before .before .before .before .before .before .before .before .before .before .before .before .before .pre .0) (c .before .before .before .before .before .before .before .before .before .before .before .before .before .before .before .before .before .before .before .before .before .before .before .before .before .blank .kept .0) (c .before .before .before .before .before .before .before .before .before .before .before .before .before .before .before .before .before .before .before .before .before .before .before .before .before .blank .kept .1 .0) (c .before .before .before .before .before .before .before .before .before .before .before .before .before .before .before .before .before .before .before .before .before .before .before .before .before .blank .kept .1 .1 .0) (c .before .before .before .before .before .before .before .before .before .before .before .before .before .before .before .before .before .before .before .before .before .before .before .before .before .blank .kept .1 .1 .1 .0)) (c .before .before .before .before .before .before .before .before .before .before .before .before .leaves .kept .0) (c .before .before .before .before .before .before .before .before .before .before .before .before .leaves .kept .1 .0) (c .before .before .before .before .before .before .before .before .before .before .before .before .leaves .kept .1 .1 .0) (c .before .before .before .before .before .before .before .before .before .before .before .before .leaves .kept .1 .1 .1 .0), (c .before .before .before .before .before .before .before .before .before .before .before .before .before .before .before .before .before .before .before .before .before .before .before .before .before .before .before .before .before .before .before .before .before .before .before .before .before .pre .1 .0, c .before .before .before .before .before .before .before .before .before .before .before .before .before .before .before .before .before .before .before .before .before .before .before .before .before .before .before .before .before .before .before .before .before .before .before .before .before .pre .1 .1 .1))
+leaves-requires-2 c κs = (
+  fit-same
+      (fit-same
+      (c .before .before .before .before .before .before .before .before .before .before .before .before .before .before .before .before .before .before .before .before .before .before .before .before .before .before .before .before .before .before .before .before .before .before .before .before .before .pre .0)
+      (c .before .before .before .before .before .before .before .before .before .before .before .before .before .before .before .before .before .before .before .before .before .before .before .before .before .blank .kept .0)
+      (c .before .before .before .before .before .before .before .before .before .before .before .before .before .before .before .before .before .before .before .before .before .before .before .before .before .blank .kept .1 .0)
+      (c .before .before .before .before .before .before .before .before .before .before .before .before .before .before .before .before .before .before .before .before .before .before .before .before .before .blank .kept .1 .1 .0)
+      (c .before .before .before .before .before .before .before .before .before .before .before .before .before .before .before .before .before .before .before .before .before .before .before .before .before .blank .kept .1 .1 .1 .0))
+      (c .before .before .before .before .before .before .before .before .before .before .before .before .leaves .kept .0)
+      (c .before .before .before .before .before .before .before .before .before .before .before .before .leaves .kept .1 .0)
+      (c .before .before .before .before .before .before .before .before .before .before .before .before .leaves .kept .1 .1 .0)
+      (c .before .before .before .before .before .before .before .before .before .before .before .before .leaves .kept .1 .1 .1 .0),
+  (
+    c .before .before .before .before .before .before .before .before .before .before .before .before .before .before .before .before .before .before .before .before .before .before .before .before .before .before .before .before .before .before .before .before .before .before .before .before .before .pre .1 .0,
+    c .before .before .before .before .before .before .before .before .before .before .before .before .before .before .before .before .before .before .before .before .before .before .before .before .before .before .before .before .before .before .before .before .before .before .before .before .before .pre .1 .1 .1,
+  ),
+)
 
 same-length : tie.Need-same-length
 same-length c = search needs
@@ -30,7 +57,11 @@ same-length-4 : tie.Need-same-length-4
 same-length-4 c = search needs
 
 returns : tie.Need-returns
-returns c = grid-built _ _ _ _ _ _ (c .before .before .before .before .before .before .before .before .before .before .before .before .before .before .before .before .before .before .before .before .before .before .before .before .before .before .before .before .before .before .before .before .before .before .blank .ensures) (c .before .before .before .before .before .before .before .before .before .before .before .before .before .before .before .before .before .before .before .before .before .leaves .ensures) (c .before .before .before .before .before .before .before .before .leaves2 .ensures)
+returns c =
+    grid-built _ _ _ _ _ _
+    (c .before .before .before .before .before .before .before .before .before .before .before .before .before .before .before .before .before .before .before .before .before .before .before .before .before .before .before .before .before .before .before .before .before .before .blank .ensures)
+    (c .before .before .before .before .before .before .before .before .before .before .before .before .before .before .before .before .before .before .before .before .before .leaves .ensures)
+    (c .before .before .before .before .before .before .before .before .leaves2 .ensures)
 
 pub tx-grid-spec : {M : Type 1} → statement M
 tx-grid-spec =

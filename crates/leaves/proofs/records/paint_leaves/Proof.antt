@@ -214,7 +214,31 @@ module _ {M : Type 1} (𝓤 : URA M) (H : Heap 𝓤) (A : Atoms 𝓤) (W : Given
   fit-at g l = fit-same fit₀ (l .long-v ∙ sym (long₀ .long-v)) (l .long-h ∙ sym (long₀ .long-h)) (l .long-w ∙ sym (long₀ .long-w)) (l .long-t ∙ sym (long₀ .long-t))
 
   abbrev Envs : ℕ → ℕ → ℕ → ℕ → ℕ → ℕ → ℕ → ℕ → ℕ → ℕ → ℕ → ℕ → ℕ → ℕ → ℕ → ℕ → ℕ → ℕ → ℕ → ℕ → ℕ → ℕ → ℕ → Env 𝓤 H
-  Envs l₀ l₁ l₂ l₃ l₄ l₅ l₆ l₇ l₈ l₉ l₁₀ l₁₁ l₁₂ l₁₃ l₁₄ l₁₅ l₁₆ l₁₇ l₁₈ l₁₉ l₂₀ l₂₁ l₂₂ = (tyUnit, l₀) ∷ (listTy 0, l₁) ∷ (listTy 1, l₂) ∷ (listTy 2, l₃) ∷ (listTy 3, l₄) ∷ (leavesTy, l₅) ∷ (S′.mir, l₆) ∷ (tyBool, l₇) ∷ (word, l₈) ∷ (T′.mir, l₉) ∷ (word, l₁₀) ∷ (tyBool, l₁₁) ∷ (tyPtr, l₁₂) ∷ (T′.mir, l₁₃) ∷ (tyUnit, l₁₄) ∷ (lentTy, l₁₅) ∷ (sliceTy lentTy, l₁₆) ∷ (lentTy, l₁₇) ∷ (sliceTy lentTy, l₁₈) ∷ (lentTy, l₁₉) ∷ (sliceTy lentTy, l₂₀) ∷ (lentTy, l₂₁) ∷ (sliceTy lentTy, l₂₂) ∷ []
+  Envs l₀ l₁ l₂ l₃ l₄ l₅ l₆ l₇ l₈ l₉ l₁₀ l₁₁ l₁₂ l₁₃ l₁₄ l₁₅ l₁₆ l₁₇ l₁₈ l₁₉ l₂₀ l₂₁ l₂₂ =
+      (tyUnit, l₀)
+      ∷ (listTy 0, l₁)
+      ∷ (listTy 1, l₂)
+      ∷ (listTy 2, l₃)
+      ∷ (listTy 3, l₄)
+      ∷ (leavesTy, l₅)
+      ∷ (S′.mir, l₆)
+      ∷ (tyBool, l₇)
+      ∷ (word, l₈)
+      ∷ (T′.mir, l₉)
+      ∷ (word, l₁₀)
+      ∷ (tyBool, l₁₁)
+      ∷ (tyPtr, l₁₂)
+      ∷ (T′.mir, l₁₃)
+      ∷ (tyUnit, l₁₄)
+      ∷ (lentTy, l₁₅)
+      ∷ (sliceTy lentTy, l₁₆)
+      ∷ (lentTy, l₁₇)
+      ∷ (sliceTy lentTy, l₁₈)
+      ∷ (lentTy, l₁₉)
+      ∷ (sliceTy lentTy, l₂₀)
+      ∷ (lentTy, l₂₁)
+      ∷ (sliceTy lentTy, l₂₂)
+      ∷ []
 
   module _ (𝓣 : Tables 𝓤 H) (known : Triple 𝓤 (𝓣 .C #grid·paint-leaf) (PaintLeaf 𝓤 H A at-mem run)) (l₀ l₁ l₂ l₃ l₄ l₅ l₆ l₇ l₈ l₉ l₁₀ l₁₁ l₁₂ l₁₃ l₁₄ l₁₅ l₁₆ l₁₇ l₁₈ l₁₉ l₂₀ l₂₁ l₂₂ : ℕ) where
     abbrev C : Calls 𝓤 H
@@ -323,19 +347,56 @@ module _ {M : Type 1} (𝓤 : URA M) (H : Heap 𝓤) (A : Atoms 𝓤) (W : Given
 
   -- a function with these locals, whatever its body
   abbrev with-body : Body → Fn
-  with-body body = record { lifetimes = 5; outlives = []; params = 7; body = body; locals = local tyUnit valueLocal ∷ local (listTy 0) valueLocal ∷ local (listTy 1) valueLocal ∷ local (listTy 2) valueLocal ∷ local (listTy 3) valueLocal ∷ local leavesTy valueLocal ∷ local S′.mir valueLocal ∷ local tyBool valueLocal ∷ local word valueLocal ∷ local T′.mir valueLocal ∷ local word valueLocal ∷ local tyBool valueLocal ∷ local tyPtr valueLocal ∷ local T′.mir valueLocal ∷ local tyUnit valueLocal ∷ local lentTy valueLocal ∷ local (sliceTy lentTy) valueLocal ∷ local lentTy valueLocal ∷ local (sliceTy lentTy) valueLocal ∷ local lentTy valueLocal ∷ local (sliceTy lentTy) valueLocal ∷ local lentTy valueLocal ∷ local (sliceTy lentTy) valueLocal ∷ [] }
+  with-body body =
+      record {
+        lifetimes = 5;
+        outlives = [];
+        params = 7;
+        body = body;
+        locals =
+            local tyUnit valueLocal
+            ∷ local (listTy 0) valueLocal
+            ∷ local (listTy 1) valueLocal
+            ∷ local (listTy 2) valueLocal
+            ∷ local (listTy 3) valueLocal
+            ∷ local leavesTy valueLocal
+            ∷ local S′.mir valueLocal
+            ∷ local tyBool valueLocal
+            ∷ local word valueLocal
+            ∷ local T′.mir valueLocal
+            ∷ local word valueLocal
+            ∷ local tyBool valueLocal
+            ∷ local tyPtr valueLocal
+            ∷ local T′.mir valueLocal
+            ∷ local tyUnit valueLocal
+            ∷ local lentTy valueLocal
+            ∷ local (sliceTy lentTy) valueLocal
+            ∷ local lentTy valueLocal
+            ∷ local (sliceTy lentTy) valueLocal
+            ∷ local lentTy valueLocal
+            ∷ local (sliceTy lentTy) valueLocal
+            ∷ local lentTy valueLocal
+            ∷ local (sliceTy lentTy) valueLocal
+            ∷ [];
+      }
 
-  enters : (C : Calls 𝓤 H) (Λ : Loops 𝓤 H) (body : Body) → ((l₀ l₁ l₂ l₃ l₄ l₅ l₆ l₇ l₈ l₉ l₁₀ l₁₁ l₁₂ l₁₃ l₁₄ l₁₅ l₁₆ l₁₇ l₁₈ l₁₉ l₂₀ l₂₁ l₂₂ : ℕ) → Sq W (Begun l₀ l₁ l₂ l₃ l₄ l₅ l₆ l₇ l₈ l₉ l₁₀ l₁₁ l₁₂ l₁₃ l₁₄ l₁₅ l₁₆ l₁₇ l₁₈ l₁₉ l₂₀ l₂₁ l₂₂) (runs C Λ (Envs l₀ l₁ l₂ l₃ l₄ l₅ l₆ l₇ l₈ l₉ l₁₀ l₁₁ l₁₂ l₁₃ l₁₄ l₁₅ l₁₆ l₁₇ l₁₈ l₁₉ l₂₀ l₂₁ l₂₂) body (atRet (Envs l₀ l₁ l₂ l₃ l₄ l₅ l₆ l₇ l₈ l₉ l₁₀ l₁₁ l₁₂ l₁₃ l₁₄ l₁₅ l₁₆ l₁₇ l₁₈ l₁₉ l₂₀ l₂₁ l₂₂) Post)))
+  enters : (C : Calls 𝓤 H) (Λ : Loops 𝓤 H) (body : Body)
+      → ((l₀ l₁ l₂ l₃ l₄ l₅ l₆ l₇ l₈ l₉ l₁₀ l₁₁ l₁₂ l₁₃ l₁₄ l₁₅ l₁₆ l₁₇ l₁₈ l₁₉ l₂₀ l₂₁ l₂₂ : ℕ)
+      → Sq W (Begun l₀ l₁ l₂ l₃ l₄ l₅ l₆ l₇ l₈ l₉ l₁₀ l₁₁ l₁₂ l₁₃ l₁₄ l₁₅ l₁₆ l₁₇ l₁₈ l₁₉ l₂₀ l₂₁ l₂₂) (runs C Λ (Envs l₀ l₁ l₂ l₃ l₄ l₅ l₆ l₇ l₈ l₉ l₁₀ l₁₁ l₁₂ l₁₃ l₁₄ l₁₅ l₁₆ l₁₇ l₁₈ l₁₉ l₂₀ l₂₁ l₂₂) body (atRet (Envs l₀ l₁ l₂ l₃ l₄ l₅ l₆ l₇ l₈ l₉ l₁₀ l₁₁ l₁₂ l₁₃ l₁₄ l₁₅ l₁₆ l₁₇ l₁₈ l₁₉ l₂₀ l₂₁ l₂₂) Post)))
       → ent 𝓤 (⋆ 𝓤 H A (‵ shared ∷ ‵ (flft κ′ q′) ∷ ‵ (Lents L g₀) ∷ [])) (WpFn 𝓤 H C Λ (with-body body) Passed Post)
   enters C Λ body k =
       qed W (‵ shared ∷ ‵ (flft κ′ q′) ∷ ‵ (Lents L g₀) ∷ []) ∵ enter ! C Λ (with-body body) Passed _ $
-      alloc1 ! (λ l₀. alloc1 ! (λ l₁. alloc1 ! (λ l₂. alloc1 ! (λ l₃. alloc1 ! (λ l₄. alloc1 ! (λ l₅. alloc1 ! (λ l₆. alloc1 ! (λ l₇. alloc1 ! (λ l₈. alloc1 ! (λ l₉. alloc1 ! (λ l₁₀. alloc1 ! (λ l₁₁. alloc1 ! (λ l₁₂. alloc1 ! (λ l₁₃. alloc1 ! (λ l₁₄. alloc1 ! (λ l₁₅. alloc1 ! (λ l₁₆. alloc1 ! (λ l₁₇. alloc1 ! (λ l₁₈. alloc1 ! (λ l₁₉. alloc1 ! (λ l₂₀. alloc1 ! (λ l₂₁. alloc1 ! (λ l₂₂. alloc0 ! $ params1 ! $
+      alloc1 !
+      (λ l₀. alloc1 ! (λ l₁. alloc1 ! (λ l₂. alloc1 ! (λ l₃. alloc1 ! (λ l₄. alloc1 ! (λ l₅. alloc1 ! (λ l₆. alloc1 ! (λ l₇. alloc1 ! (λ l₈. alloc1 ! (λ l₉. alloc1 ! (λ l₁₀. alloc1 ! (λ l₁₁. alloc1 ! (λ l₁₂. alloc1 ! (λ l₁₃. alloc1 ! (λ l₁₄. alloc1 ! (λ l₁₅. alloc1 ! (λ l₁₆. alloc1 ! (λ l₁₇. alloc1 ! (λ l₁₈. alloc1 ! (λ l₁₉. alloc1 ! (λ l₂₀. alloc1 ! (λ l₂₁. alloc1 ! (λ l₂₂. alloc0 ! $ params1 ! $
       pass1 ! (init ! 42 refl (tt, (tt, (record { fits = room .room-v .0 }, tt)))) $ pass1 ! (init ! 40 refl (tt, (tt, (record { fits = room .room-h .0 }, tt)))) $
       pass1 ! (init ! 38 refl (tt, (tt, (record { fits = room .room-w .0 }, tt)))) $ pass1 ! (init ! 36 refl (tt, (tt, (record { fits = room .room-t .0 }, tt)))) $
       pass1 ! (init ! 34 refl (tt, (tt, (record { fits = room′ .0 }, tt)))) $ pass1 ! (init ! 32 refl (LL.lawful S.the-type S′.the-laws 𝓤 H A W .typed s _ is-s .0)) $ pass1 ! (init ! 30 refl (tt, tt)) $ pass0 ! $
       k l₀ l₁ l₂ l₃ l₄ l₅ l₆ l₇ l₈ l₉ l₁₀ l₁₁ l₁₂ l₁₃ l₁₄ l₁₅ l₁₆ l₁₇ l₁₈ l₁₉ l₂₀ l₂₁ l₂₂)))))))))))))))))))))))
 
-  begins : (𝓣 : Tables 𝓤 H) → Triple 𝓤 (𝓣 .C #grid·paint-leaf) (PaintLeaf 𝓤 H A at-mem run) → (l₀ l₁ l₂ l₃ l₄ l₅ l₆ l₇ l₈ l₉ l₁₀ l₁₁ l₁₂ l₁₃ l₁₄ l₁₅ l₁₆ l₁₇ l₁₈ l₁₉ l₂₀ l₂₁ l₂₂ : ℕ) → Sq W (Begun l₀ l₁ l₂ l₃ l₄ l₅ l₆ l₇ l₈ l₉ l₁₀ l₁₁ l₁₂ l₁₃ l₁₄ l₁₅ l₁₆ l₁₇ l₁₈ l₁₉ l₂₀ l₂₁ l₂₂) (runs (𝓣 .C) (𝓣 .Λ) (Envs l₀ l₁ l₂ l₃ l₄ l₅ l₆ l₇ l₈ l₉ l₁₀ l₁₁ l₁₂ l₁₃ l₁₄ l₁₅ l₁₆ l₁₇ l₁₈ l₁₉ l₂₀ l₂₁ l₂₂) mirs.t-1 (atRet (Envs l₀ l₁ l₂ l₃ l₄ l₅ l₆ l₇ l₈ l₉ l₁₀ l₁₁ l₁₂ l₁₃ l₁₄ l₁₅ l₁₆ l₁₇ l₁₈ l₁₉ l₂₀ l₂₁ l₂₂) Post))
+  begins : (𝓣 : Tables 𝓤 H)
+      → Triple 𝓤 (𝓣 .C #grid·paint-leaf) (PaintLeaf 𝓤 H A at-mem run)
+      → (l₀ l₁ l₂ l₃ l₄ l₅ l₆ l₇ l₈ l₉ l₁₀ l₁₁ l₁₂ l₁₃ l₁₄ l₁₅ l₁₆ l₁₇ l₁₈ l₁₉ l₂₀ l₂₁ l₂₂ : ℕ)
+      → Sq W (Begun l₀ l₁ l₂ l₃ l₄ l₅ l₆ l₇ l₈ l₉ l₁₀ l₁₁ l₁₂ l₁₃ l₁₄ l₁₅ l₁₆ l₁₇ l₁₈ l₁₉ l₂₀ l₂₁ l₂₂) (runs (𝓣 .C) (𝓣 .Λ) (Envs l₀ l₁ l₂ l₃ l₄ l₅ l₆ l₇ l₈ l₉ l₁₀ l₁₁ l₁₂ l₁₃ l₁₄ l₁₅ l₁₆ l₁₇ l₁₈ l₁₉ l₂₀ l₂₁ l₂₂) mirs.t-1 (atRet (Envs l₀ l₁ l₂ l₃ l₄ l₅ l₆ l₇ l₈ l₉ l₁₀ l₁₁ l₁₂ l₁₃ l₁₄ l₁₅ l₁₆ l₁₇ l₁₈ l₁₉ l₂₀ l₂₁ l₂₂) Post))
   begins 𝓣 known l₀ l₁ l₂ l₃ l₄ l₅ l₆ l₇ l₈ l₉ l₁₀ l₁₁ l₁₂ l₁₃ l₁₄ l₁₅ l₁₆ l₁₇ l₁₈ l₁₉ l₂₀ l₂₁ l₂₂ =
       assigns ! (of-opd ! (lit ! tt)) (from ! (stop !)) (init ! 28 refl (tt, record { fits = lit< tt })) $ move ! (46 ∷ 47 ∷ 48 ∷ []) $
       first ! $ blocks ! $ loops ! 𝓣 Nearer Nearer-wf (At 𝓣 known l₀ l₁ l₂ l₃ l₄ l₅ l₆ l₇ l₈ l₉ l₁₀ l₁₁ l₁₂ l₁₃ l₁₄ l₁₅ l₁₆ l₁₇ l₁₈ l₁₉ l₂₀ l₂₁ l₂₂) (turns 𝓣 known l₀ l₁ l₂ l₃ l₄ l₅ l₆ l₇ l₈ l₉ l₁₀ l₁₁ l₁₂ l₁₃ l₁₄ l₁₅ l₁₆ l₁₇ l₁₈ l₁₉ l₂₀ l₂₁ l₂₂) (0, g₀, zero-le, long₀, turns-none _ _)

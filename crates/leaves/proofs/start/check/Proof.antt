@@ -29,14 +29,32 @@ caps-ok-requires c κs = search needs
 
 returns-3 : tie.Need-returns-3
 unfolding recordCheck
-returns-3 c = record { of = λ g m. rw (← long-by _ _ _ _ _ g m) (go-on _ _ _ (unless-good _ _ (told-yes-not _ _ (c .before .before .before .before .before .before .sizes-ok .ensures) (c .before .before .before .before .before .if1 .left))) (go-on _ _ _ (unless-good _ _ (told-yes-not _ _ (c .before .before .before .marks-long .ensures) (c .before .before .if2 .left))) (stop _ _ (unless-bad _ _ (told-no-not _ _ (c .before .caps-ok .ensures) (c .if3 .taken)))))) }
+returns-3 c =
+    record {
+      of =
+          λ g m.
+          rw
+          (← long-by _ _ _ _ _ g m)
+          (go-on _ _ _
+          (unless-good _ _ (told-yes-not _ _ (c .before .before .before .before .before .before .sizes-ok .ensures) (c .before .before .before .before .before .if1 .left)))
+          (go-on _ _ _ (unless-good _ _ (told-yes-not _ _ (c .before .before .before .marks-long .ensures) (c .before .before .if2 .left))) (stop _ _ (unless-bad _ _ (told-no-not _ _ (c .before .caps-ok .ensures) (c .if3 .taken))))));
+    }
 
 leaves-ok-requires : tie.Need-leaves-ok-requires
 leaves-ok-requires c κs = search needs
 
 returns-4 : tie.Need-returns-4
 unfolding recordCheck
-returns-4 c = record { of = λ g m. rw (← long-by _ _ _ _ _ g m) (go-on _ _ _ (unless-good _ _ (told-yes-not _ _ (c .before .before .before .before .before .before .before .sizes-ok .ensures) (c .before .before .before .before .before .before .if1 .left))) (go-on _ _ _ (unless-good _ _ (told-yes-not _ _ (c .before .before .before .before .marks-long .ensures) (c .before .before .before .if2 .left))) (go-on _ _ _ (unless-good _ _ (told-yes-not _ _ (c .before .before .caps-ok .ensures) (c .before .if3 .left))) (c .leaves-ok .ensures)))) }
+returns-4 c =
+    record {
+      of =
+          λ g m.
+          rw
+          (← long-by _ _ _ _ _ g m)
+          (go-on _ _ _
+          (unless-good _ _ (told-yes-not _ _ (c .before .before .before .before .before .before .before .sizes-ok .ensures) (c .before .before .before .before .before .before .if1 .left)))
+          (go-on _ _ _ (unless-good _ _ (told-yes-not _ _ (c .before .before .before .before .marks-long .ensures) (c .before .before .before .if2 .left))) (go-on _ _ _ (unless-good _ _ (told-yes-not _ _ (c .before .before .caps-ok .ensures) (c .before .if3 .left))) (c .leaves-ok .ensures))));
+    }
 
 pub check-spec : {M : Type 1} → statement M
 check-spec =

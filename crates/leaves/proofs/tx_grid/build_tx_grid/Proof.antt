@@ -160,7 +160,47 @@ module _ {M : Type 1} (𝓤 : URA M) (H : Heap 𝓤) (A : Atoms 𝓤) (W : Given
       (fit-same (p .0) (l .long-v ∙ sym (long₀ .long-v)) (l .long-h ∙ sym (long₀ .long-h)) (l .long-w ∙ sym (long₀ .long-w)) (l .long-t ∙ sym (long₀ .long-t)), p .1, p .2, p .3)
 
   abbrev Envs : ℕ → ℕ → ℕ → ℕ → ℕ → ℕ → ℕ → ℕ → ℕ → ℕ → ℕ → ℕ → ℕ → ℕ → ℕ → ℕ → ℕ → ℕ → ℕ → ℕ → ℕ → ℕ → ℕ → ℕ → ℕ → ℕ → ℕ → ℕ → ℕ → ℕ → ℕ → ℕ → ℕ → ℕ → ℕ → ℕ → ℕ → ℕ → ℕ → Env 𝓤 H
-  Envs l₀ l₁ l₂ l₃ l₄ l₅ l₆ l₇ l₈ l₉ l₁₀ l₁₁ l₁₂ l₁₃ l₁₄ l₁₅ l₁₆ l₁₇ l₁₈ l₁₉ l₂₀ l₂₁ l₂₂ l₂₃ l₂₄ l₂₅ l₂₆ l₂₇ l₂₈ l₂₉ l₃₀ l₃₁ l₃₂ l₃₃ l₃₄ l₃₅ l₃₆ l₃₇ l₃₈ = (N′.mir, l₀) ∷ (leavesTy 0, l₁) ∷ (leavesTy 1, l₂) ∷ (listTy 2, l₃) ∷ (listTy 3, l₄) ∷ (listTy 4, l₅) ∷ (listTy 5, l₆) ∷ (S′.mir, l₇) ∷ (word, l₈) ∷ (word, l₉) ∷ (N′.mir, l₁₀) ∷ (lentTy, l₁₁) ∷ (sliceTy lentTy, l₁₂) ∷ (lentTy, l₁₃) ∷ (sliceTy lentTy, l₁₄) ∷ (lentTy, l₁₅) ∷ (sliceTy lentTy, l₁₆) ∷ (lentTy, l₁₇) ∷ (sliceTy lentTy, l₁₈) ∷ (word, l₁₉) ∷ (word, l₂₀) ∷ (tyBool, l₂₁) ∷ (tyUnit, l₂₂) ∷ (lentTy, l₂₃) ∷ (sliceTy lentTy, l₂₄) ∷ (lentTy, l₂₅) ∷ (sliceTy lentTy, l₂₆) ∷ (lentTy, l₂₇) ∷ (sliceTy lentTy, l₂₈) ∷ (lentTy, l₂₉) ∷ (sliceTy lentTy, l₃₀) ∷ (lentTy, l₃₁) ∷ (sliceTy lentTy, l₃₂) ∷ (lentTy, l₃₃) ∷ (sliceTy lentTy, l₃₄) ∷ (lentTy, l₃₅) ∷ (sliceTy lentTy, l₃₆) ∷ (lentTy, l₃₇) ∷ (sliceTy lentTy, l₃₈) ∷ []
+  Envs l₀ l₁ l₂ l₃ l₄ l₅ l₆ l₇ l₈ l₉ l₁₀ l₁₁ l₁₂ l₁₃ l₁₄ l₁₅ l₁₆ l₁₇ l₁₈ l₁₉ l₂₀ l₂₁ l₂₂ l₂₃ l₂₄ l₂₅ l₂₆ l₂₇ l₂₈ l₂₉ l₃₀ l₃₁ l₃₂ l₃₃ l₃₄ l₃₅ l₃₆ l₃₇ l₃₈ =
+      (N′.mir, l₀)
+      ∷ (leavesTy 0, l₁)
+      ∷ (leavesTy 1, l₂)
+      ∷ (listTy 2, l₃)
+      ∷ (listTy 3, l₄)
+      ∷ (listTy 4, l₅)
+      ∷ (listTy 5, l₆)
+      ∷ (S′.mir, l₇)
+      ∷ (word, l₈)
+      ∷ (word, l₉)
+      ∷ (N′.mir, l₁₀)
+      ∷ (lentTy, l₁₁)
+      ∷ (sliceTy lentTy, l₁₂)
+      ∷ (lentTy, l₁₃)
+      ∷ (sliceTy lentTy, l₁₄)
+      ∷ (lentTy, l₁₅)
+      ∷ (sliceTy lentTy, l₁₆)
+      ∷ (lentTy, l₁₇)
+      ∷ (sliceTy lentTy, l₁₈)
+      ∷ (word, l₁₉)
+      ∷ (word, l₂₀)
+      ∷ (tyBool, l₂₁)
+      ∷ (tyUnit, l₂₂)
+      ∷ (lentTy, l₂₃)
+      ∷ (sliceTy lentTy, l₂₄)
+      ∷ (lentTy, l₂₅)
+      ∷ (sliceTy lentTy, l₂₆)
+      ∷ (lentTy, l₂₇)
+      ∷ (sliceTy lentTy, l₂₈)
+      ∷ (lentTy, l₂₉)
+      ∷ (sliceTy lentTy, l₃₀)
+      ∷ (lentTy, l₃₁)
+      ∷ (sliceTy lentTy, l₃₂)
+      ∷ (lentTy, l₃₃)
+      ∷ (sliceTy lentTy, l₃₄)
+      ∷ (lentTy, l₃₅)
+      ∷ (sliceTy lentTy, l₃₆)
+      ∷ (lentTy, l₃₇)
+      ∷ (sliceTy lentTy, l₃₈)
+      ∷ []
 
   abbrev Passed : List Val
   Passed = val R₁ ∷ val R₂ ∷ val (L .lv) ∷ val (L .lh) ∷ val (L .lw) ∷ val (L .lt) ∷ S′.lowered s ∷ []
@@ -242,14 +282,66 @@ module _ {M : Type 1} (𝓤 : URA M) (H : Heap 𝓤) (A : Atoms 𝓤) (W : Given
 
   -- a function with these locals, whatever its body
   abbrev with-body : Body → Fn
-  with-body body = record { lifetimes = 6; outlives = []; params = 7; body = body; locals = local N′.mir valueLocal ∷ local (leavesTy 0) valueLocal ∷ local (leavesTy 1) valueLocal ∷ local (listTy 2) valueLocal ∷ local (listTy 3) valueLocal ∷ local (listTy 4) valueLocal ∷ local (listTy 5) valueLocal ∷ local S′.mir valueLocal ∷ local word valueLocal ∷ local word valueLocal ∷ local N′.mir valueLocal ∷ local lentTy valueLocal ∷ local (sliceTy lentTy) valueLocal ∷ local lentTy valueLocal ∷ local (sliceTy lentTy) valueLocal ∷ local lentTy valueLocal ∷ local (sliceTy lentTy) valueLocal ∷ local lentTy valueLocal ∷ local (sliceTy lentTy) valueLocal ∷ local word valueLocal ∷ local word valueLocal ∷ local tyBool valueLocal ∷ local tyUnit valueLocal ∷ local lentTy valueLocal ∷ local (sliceTy lentTy) valueLocal ∷ local lentTy valueLocal ∷ local (sliceTy lentTy) valueLocal ∷ local lentTy valueLocal ∷ local (sliceTy lentTy) valueLocal ∷ local lentTy valueLocal ∷ local (sliceTy lentTy) valueLocal ∷ local lentTy valueLocal ∷ local (sliceTy lentTy) valueLocal ∷ local lentTy valueLocal ∷ local (sliceTy lentTy) valueLocal ∷ local lentTy valueLocal ∷ local (sliceTy lentTy) valueLocal ∷ local lentTy valueLocal ∷ local (sliceTy lentTy) valueLocal ∷ [] }
+  with-body body =
+      record {
+        lifetimes = 6;
+        outlives = [];
+        params = 7;
+        body = body;
+        locals =
+            local N′.mir valueLocal
+            ∷ local (leavesTy 0) valueLocal
+            ∷ local (leavesTy 1) valueLocal
+            ∷ local (listTy 2) valueLocal
+            ∷ local (listTy 3) valueLocal
+            ∷ local (listTy 4) valueLocal
+            ∷ local (listTy 5) valueLocal
+            ∷ local S′.mir valueLocal
+            ∷ local word valueLocal
+            ∷ local word valueLocal
+            ∷ local N′.mir valueLocal
+            ∷ local lentTy valueLocal
+            ∷ local (sliceTy lentTy) valueLocal
+            ∷ local lentTy valueLocal
+            ∷ local (sliceTy lentTy) valueLocal
+            ∷ local lentTy valueLocal
+            ∷ local (sliceTy lentTy) valueLocal
+            ∷ local lentTy valueLocal
+            ∷ local (sliceTy lentTy) valueLocal
+            ∷ local word valueLocal
+            ∷ local word valueLocal
+            ∷ local tyBool valueLocal
+            ∷ local tyUnit valueLocal
+            ∷ local lentTy valueLocal
+            ∷ local (sliceTy lentTy) valueLocal
+            ∷ local lentTy valueLocal
+            ∷ local (sliceTy lentTy) valueLocal
+            ∷ local lentTy valueLocal
+            ∷ local (sliceTy lentTy) valueLocal
+            ∷ local lentTy valueLocal
+            ∷ local (sliceTy lentTy) valueLocal
+            ∷ local lentTy valueLocal
+            ∷ local (sliceTy lentTy) valueLocal
+            ∷ local lentTy valueLocal
+            ∷ local (sliceTy lentTy) valueLocal
+            ∷ local lentTy valueLocal
+            ∷ local (sliceTy lentTy) valueLocal
+            ∷ local lentTy valueLocal
+            ∷ local (sliceTy lentTy) valueLocal
+            ∷ [];
+      }
 
   enters : (C : Calls 𝓤 H) (Λ : Loops 𝓤 H) (body : Body)
-      → ((l₀ l₁ l₂ l₃ l₄ l₅ l₆ l₇ l₈ l₉ l₁₀ l₁₁ l₁₂ l₁₃ l₁₄ l₁₅ l₁₆ l₁₇ l₁₈ l₁₉ l₂₀ l₂₁ l₂₂ l₂₃ l₂₄ l₂₅ l₂₆ l₂₇ l₂₈ l₂₉ l₃₀ l₃₁ l₃₂ l₃₃ l₃₄ l₃₅ l₃₆ l₃₇ l₃₈ : ℕ) → Sq W (‵ (Shared R₁ ls) ∷ tok₁ ∷ ‵ (Shared R₂ skips) ∷ tok₂ ∷ ‵ (Lents L g₀) ∷ Cells1 l₀ l₁ l₂ l₃ l₄ l₅ l₆ l₇ l₈ l₉ l₁₀ l₁₁ l₁₂ l₁₃ l₁₄ l₁₅ l₁₆ l₁₇ l₁₈ l₁₉ l₂₀ l₂₁ l₂₂ l₂₃ l₂₄ l₂₅ l₂₆ l₂₇ l₂₈ l₂₉ l₃₀ l₃₁ l₃₂ l₃₃ l₃₄ l₃₅ l₃₆ l₃₇ l₃₈) (runs C Λ (Envs l₀ l₁ l₂ l₃ l₄ l₅ l₆ l₇ l₈ l₉ l₁₀ l₁₁ l₁₂ l₁₃ l₁₄ l₁₅ l₁₆ l₁₇ l₁₈ l₁₉ l₂₀ l₂₁ l₂₂ l₂₃ l₂₄ l₂₅ l₂₆ l₂₇ l₂₈ l₂₉ l₃₀ l₃₁ l₃₂ l₃₃ l₃₄ l₃₅ l₃₆ l₃₇ l₃₈) body (atRet (Envs l₀ l₁ l₂ l₃ l₄ l₅ l₆ l₇ l₈ l₉ l₁₀ l₁₁ l₁₂ l₁₃ l₁₄ l₁₅ l₁₆ l₁₇ l₁₈ l₁₉ l₂₀ l₂₁ l₂₂ l₂₃ l₂₄ l₂₅ l₂₆ l₂₇ l₂₈ l₂₉ l₃₀ l₃₁ l₃₂ l₃₃ l₃₄ l₃₅ l₃₆ l₃₇ l₃₈) Post)))
+      → ((l₀ l₁ l₂ l₃ l₄ l₅ l₆ l₇ l₈ l₉ l₁₀ l₁₁ l₁₂ l₁₃ l₁₄ l₁₅ l₁₆ l₁₇ l₁₈ l₁₉ l₂₀ l₂₁ l₂₂ l₂₃ l₂₄ l₂₅ l₂₆ l₂₇ l₂₈ l₂₉ l₃₀ l₃₁ l₃₂ l₃₃ l₃₄ l₃₅ l₃₆ l₃₇ l₃₈ : ℕ)
+      → Sq W
+      (‵ (Shared R₁ ls) ∷ tok₁ ∷ ‵ (Shared R₂ skips) ∷ tok₂ ∷ ‵ (Lents L g₀) ∷ Cells1 l₀ l₁ l₂ l₃ l₄ l₅ l₆ l₇ l₈ l₉ l₁₀ l₁₁ l₁₂ l₁₃ l₁₄ l₁₅ l₁₆ l₁₇ l₁₈ l₁₉ l₂₀ l₂₁ l₂₂ l₂₃ l₂₄ l₂₅ l₂₆ l₂₇ l₂₈ l₂₉ l₃₀ l₃₁ l₃₂ l₃₃ l₃₄ l₃₅ l₃₆ l₃₇ l₃₈)
+      (runs C Λ (Envs l₀ l₁ l₂ l₃ l₄ l₅ l₆ l₇ l₈ l₉ l₁₀ l₁₁ l₁₂ l₁₃ l₁₄ l₁₅ l₁₆ l₁₇ l₁₈ l₁₉ l₂₀ l₂₁ l₂₂ l₂₃ l₂₄ l₂₅ l₂₆ l₂₇ l₂₈ l₂₉ l₃₀ l₃₁ l₃₂ l₃₃ l₃₄ l₃₅ l₃₆ l₃₇ l₃₈) body (atRet (Envs l₀ l₁ l₂ l₃ l₄ l₅ l₆ l₇ l₈ l₉ l₁₀ l₁₁ l₁₂ l₁₃ l₁₄ l₁₅ l₁₆ l₁₇ l₁₈ l₁₉ l₂₀ l₂₁ l₂₂ l₂₃ l₂₄ l₂₅ l₂₆ l₂₇ l₂₈ l₂₉ l₃₀ l₃₁ l₃₂ l₃₃ l₃₄ l₃₅ l₃₆ l₃₇ l₃₈) Post)))
       → ent 𝓤 (⋆ 𝓤 H A (‵ (Shared R₁ ls) ∷ tok₁ ∷ ‵ (Shared R₂ skips) ∷ tok₂ ∷ ‵ (Lents L g₀) ∷ [])) (WpFn 𝓤 H C Λ (with-body body) Passed Post)
   enters C Λ body k =
       qed W (‵ (Shared R₁ ls) ∷ tok₁ ∷ ‵ (Shared R₂ skips) ∷ tok₂ ∷ ‵ (Lents L g₀) ∷ []) ∵ enter ! C Λ (with-body body) Passed _ $
-      alloc1 ! (λ l₀. alloc1 ! (λ l₁. alloc1 ! (λ l₂. alloc1 ! (λ l₃. alloc1 ! (λ l₄. alloc1 ! (λ l₅. alloc1 ! (λ l₆. alloc1 ! (λ l₇. alloc1 ! (λ l₈. alloc1 ! (λ l₉. alloc1 ! (λ l₁₀. alloc1 ! (λ l₁₁. alloc1 ! (λ l₁₂. alloc1 ! (λ l₁₃. alloc1 ! (λ l₁₄. alloc1 ! (λ l₁₅. alloc1 ! (λ l₁₆. alloc1 ! (λ l₁₇. alloc1 ! (λ l₁₈. alloc1 ! (λ l₁₉. alloc1 ! (λ l₂₀. alloc1 ! (λ l₂₁. alloc1 ! (λ l₂₂. alloc1 ! (λ l₂₃. alloc1 ! (λ l₂₄. alloc1 ! (λ l₂₅. alloc1 ! (λ l₂₆. alloc1 ! (λ l₂₇. alloc1 ! (λ l₂₈. alloc1 ! (λ l₂₉. alloc1 ! (λ l₃₀. alloc1 ! (λ l₃₁. alloc1 ! (λ l₃₂. alloc1 ! (λ l₃₃. alloc1 ! (λ l₃₄. alloc1 ! (λ l₃₅. alloc1 ! (λ l₃₆. alloc1 ! (λ l₃₇. alloc1 ! (λ l₃₈. alloc0 ! $ params1 ! $
+      alloc1 ! (λ l₀. alloc1 ! (λ l₁. alloc1 ! (λ l₂. alloc1 ! (λ l₃. alloc1 ! (λ l₄. alloc1 ! (λ l₅. alloc1 ! (λ l₆. alloc1 ! (λ l₇. alloc1 ! (λ l₈. alloc1 ! (λ l₉. alloc1 ! (λ l₁₀. alloc1 ! (λ l₁₁. alloc1 ! (λ l₁₂. alloc1 ! (λ l₁₃.
+      alloc1 ! (λ l₁₄. alloc1 ! (λ l₁₅. alloc1 ! (λ l₁₆. alloc1 ! (λ l₁₇. alloc1 ! (λ l₁₈. alloc1 ! (λ l₁₉. alloc1 ! (λ l₂₀. alloc1 ! (λ l₂₁. alloc1 ! (λ l₂₂. alloc1 ! (λ l₂₃. alloc1 ! (λ l₂₄. alloc1 ! (λ l₂₅. alloc1 ! (λ l₂₆.
+      alloc1 ! (λ l₂₇. alloc1 ! (λ l₂₈. alloc1 ! (λ l₂₉. alloc1 ! (λ l₃₀. alloc1 ! (λ l₃₁. alloc1 ! (λ l₃₂. alloc1 ! (λ l₃₃. alloc1 ! (λ l₃₄. alloc1 ! (λ l₃₅. alloc1 ! (λ l₃₆. alloc1 ! (λ l₃₇. alloc1 ! (λ l₃₈. alloc0 ! $ params1 ! $
       pass1 ! (init ! 74 refl (tt, (tt, (record { fits = room₁ }, tt)))) $ pass1 ! (init ! 72 refl (tt, (tt, (record { fits = room₂ }, tt)))) $
       pass1 ! (init ! 70 refl (tt, (tt, (record { fits = room .room-v .0 }, tt)))) $ pass1 ! (init ! 68 refl (tt, (tt, (record { fits = room .room-h .0 }, tt)))) $
       pass1 ! (init ! 66 refl (tt, (tt, (record { fits = room .room-w .0 }, tt)))) $ pass1 ! (init ! 64 refl (tt, (tt, (record { fits = room .room-t .0 }, tt)))) $
@@ -360,7 +452,16 @@ module _ {M : Type 1} (𝓤 : URA M) (H : Heap 𝓤) (A : Atoms 𝓤) (W : Given
         assigns ! (of-opd ! (load ! (from ! (fld ! refl (stop !))) (look-in ! 79 (sub ! 1 refl (whole !))))) (from ! (stop !)) (init ! 43 refl (tt, record { fits = room₁ })) $
         assigns ! (of-opd ! (load ! (from ! (fld ! refl (stop !))) (look-in ! 77 (sub ! 1 refl (whole !))))) (from ! (stop !)) (init ! 41 refl (tt, record { fits = room₂ })) $
         move ! (4 ∷ []) $ starts 𝓤 H A at-mem run W 𝓣 L room s is-s g₀ long₀ begin (R₁ .m) (goodOf false ls) (R₂ .m) (goodOf true skips) room₁ f₁ room₂ f₂
-        (λ c. (and-then ! (load ! (from ! (stop !)) (look ! 58 refl)) (and-then ! (load ! (from ! (stop !)) (look ! 54 refl)) (and-then ! (load ! (from ! (stop !)) (look ! 50 refl)) (and-then ! (load ! (from ! (stop !)) (look ! 46 refl)) (and-then ! (load ! (from ! (stop !)) (look ! 68 refl)) (and-then ! (load ! (from ! (stop !)) (look ! 44 refl)) (and-then ! (load ! (from ! (stop !)) (look ! 66 refl)) (and-then ! (load ! (from ! (stop !)) (look ! 42 refl)) (and-then ! (load ! (from ! (stop !)) (look ! 64 refl)) (no-more !)))))))))))
+        (λ c.
+        (and-then !
+        (load ! (from ! (stop !)) (look ! 58 refl))
+        (and-then !
+        (load ! (from ! (stop !)) (look ! 54 refl))
+        (and-then !
+        (load ! (from ! (stop !)) (look ! 50 refl))
+        (and-then !
+        (load ! (from ! (stop !)) (look ! 46 refl))
+        (and-then ! (load ! (from ! (stop !)) (look ! 68 refl)) (and-then ! (load ! (from ! (stop !)) (look ! 44 refl)) (and-then ! (load ! (from ! (stop !)) (look ! 66 refl)) (and-then ! (load ! (from ! (stop !)) (look ! 42 refl)) (and-then ! (load ! (from ! (stop !)) (look ! 64 refl)) (no-more !)))))))))))
         (λ a w is g l e. land ! (from ! (stop !)) (init ! 61 refl (typed a w is)) $ refusing a w is g l e)
 
     looks : Sq W (‵ (Shared R₁ ls) ∷ tok₁ ∷ ‵ (Shared R₂ skips) ∷ tok₂ ∷ ‵ (Lents L g₀) ∷ Cells1 l₀ l₁ l₂ l₃ l₄ l₅ l₆ l₇ l₈ l₉ l₁₀ l₁₁ l₁₂ l₁₃ l₁₄ l₁₅ l₁₆ l₁₇ l₁₈ l₁₉ l₂₀ l₂₁ l₂₂ l₂₃ l₂₄ l₂₅ l₂₆ l₂₇ l₂₈ l₂₉ l₃₀ l₃₁ l₃₂ l₃₃ l₃₄ l₃₅ l₃₆ l₃₇ l₃₈) (runs C Λ En mirs.t-1 (atRet En Post))

@@ -36,22 +36,49 @@ ranges-ok-requires : tie.Need-ranges-ok-requires
 ranges-ok-requires c κs = search needs
 
 returns-4 : tie.Need-returns-4
-returns-4 c = ranges-refused _ _ (told-yes-not _ _ (c .before .before .before .before .before .before .before .before .is .ensures) (c .before .before .before .before .before .before .before .if1 .left)) (told-yes-not _ _ (c .before .before .before .before .before .before .sizes-ok .ensures) (c .before .before .before .before .before .if2 .left)) (c .before .before .before .if3 .left) (c .before .before .edge-of .ensures .0) (told-no-not _ _ (c .before .ranges-ok .ensures) (c .if4 .taken))
+returns-4 c =
+    ranges-refused _ _
+    (told-yes-not _ _ (c .before .before .before .before .before .before .before .before .is .ensures) (c .before .before .before .before .before .before .before .if1 .left))
+    (told-yes-not _ _ (c .before .before .before .before .before .before .sizes-ok .ensures) (c .before .before .before .before .before .if2 .left))
+    (c .before .before .before .if3 .left)
+    (c .before .before .edge-of .ensures .0)
+    (told-no-not _ _ (c .before .ranges-ok .ensures) (c .if4 .taken))
 
 has-room-requires : tie.Need-has-room-requires
 has-room-requires c κs = (pair-below _ (told-yes-not _ _ (c .before .ranges-ok .ensures) (c .if4 .left)), (c .before .before .edge-of .ensures .1), (c .before .before .edge-of .ensures .2))
 
 returns-5 : tie.Need-returns-5
-returns-5 c = room-refused _ _ (told-yes-not _ _ (c .before .before .before .before .before .before .before .before .before .before .is .ensures) (c .before .before .before .before .before .before .before .before .before .if1 .left)) (told-yes-not _ _ (c .before .before .before .before .before .before .before .before .sizes-ok .ensures) (c .before .before .before .before .before .before .before .if2 .left)) (c .before .before .before .before .before .if3 .left) (c .before .before .before .before .edge-of .ensures .0) (told-yes-not _ _ (c .before .before .before .ranges-ok .ensures) (c .before .before .if4 .left)) (told-no-not _ _ (c .before .has-room .ensures) (c .if5 .taken))
+returns-5 c =
+    room-refused _ _
+    (told-yes-not _ _ (c .before .before .before .before .before .before .before .before .before .before .is .ensures) (c .before .before .before .before .before .before .before .before .before .if1 .left))
+    (told-yes-not _ _ (c .before .before .before .before .before .before .before .before .sizes-ok .ensures) (c .before .before .before .before .before .before .before .if2 .left))
+    (c .before .before .before .before .before .if3 .left)
+    (c .before .before .before .before .edge-of .ensures .0)
+    (told-yes-not _ _ (c .before .before .before .ranges-ok .ensures) (c .before .before .if4 .left))
+    (told-no-not _ _ (c .before .has-room .ensures) (c .if5 .taken))
 
 top-requires : tie.Need-top-requires
 top-requires c κs = sure _ _ (c .before .before .before .before .before .before .before .before .before .before .is .ensures) (c .before .before .before .before .before .before .before .before .before .if1 .left)
 
 over-check-requires : tie.Need-over-check-requires
-over-check-requires c κs = in-plane _ (told-yes-not _ _ (c .before .before .before .before .before .before .before .before .before .sizes-ok .ensures) (c .before .before .before .before .before .before .before .before .if2 .left)) (c .before .before .before .before .before .before .if3 .left) (told-yes-not _ _ (c .before .before .before .before .ranges-ok .ensures) (c .before .before .before .if4 .left)) (told-yes-not _ _ (c .before .before .has-room .ensures) (c .before .if5 .left))
+over-check-requires c κs =
+    in-plane _
+    (told-yes-not _ _ (c .before .before .before .before .before .before .before .before .before .sizes-ok .ensures) (c .before .before .before .before .before .before .before .before .if2 .left))
+    (c .before .before .before .before .before .before .if3 .left)
+    (told-yes-not _ _ (c .before .before .before .before .ranges-ok .ensures) (c .before .before .before .if4 .left))
+    (told-yes-not _ _ (c .before .before .has-room .ensures) (c .before .if5 .left))
 
 returns-6 : tie.Need-returns-6
-returns-6 c = room-passed _ _ (told-yes-not _ _ (c .before .before .before .before .before .before .before .before .before .before .before .before .is .ensures) (c .before .before .before .before .before .before .before .before .before .before .before .if1 .left)) (told-yes-not _ _ (c .before .before .before .before .before .before .before .before .before .before .sizes-ok .ensures) (c .before .before .before .before .before .before .before .before .before .if2 .left)) (c .before .before .before .before .before .before .before .if3 .left) (c .before .before .before .before .before .before .edge-of .ensures .0) (told-yes-not _ _ (c .before .before .before .before .before .ranges-ok .ensures) (c .before .before .before .before .if4 .left)) (told-yes-not _ _ (c .before .before .before .has-room .ensures) (c .before .before .if5 .left)) (c .before .top .ensures) (c .over-check .ensures)
+returns-6 c =
+    room-passed _ _
+    (told-yes-not _ _ (c .before .before .before .before .before .before .before .before .before .before .before .before .is .ensures) (c .before .before .before .before .before .before .before .before .before .before .before .if1 .left))
+    (told-yes-not _ _ (c .before .before .before .before .before .before .before .before .before .before .sizes-ok .ensures) (c .before .before .before .before .before .before .before .before .before .if2 .left))
+    (c .before .before .before .before .before .before .before .if3 .left)
+    (c .before .before .before .before .before .before .edge-of .ensures .0)
+    (told-yes-not _ _ (c .before .before .before .before .before .ranges-ok .ensures) (c .before .before .before .before .if4 .left))
+    (told-yes-not _ _ (c .before .before .before .has-room .ensures) (c .before .before .if5 .left))
+    (c .before .top .ensures)
+    (c .over-check .ensures)
 
 pub lone-check-spec : {M : Type 1} → statement M
 lone-check-spec =

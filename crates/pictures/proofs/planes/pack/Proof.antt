@@ -48,7 +48,9 @@ loop-less c = search packing
 loop-again : tie.Need-loop-again Inv-loop μ-loop
 loop-again c =
     let i = c .before .before .before .before .before .before .before .before .before .before .loop .inv in
-    let h : Holds (c .before .before .before .before .before .before .before .before .before .before .before .before .args .s) (c .before .before .before .before .before .before .before .before .before .before .before .before .args .plane .now) (c .before .before .before .before .before .before .before .before .before .before .loop .r) = at-row (c .before .before .before .before .before .before .before .before .before .before .before .before .args .s) (c .before .before .before .before .before .before .before .before .before .before .before .before .args .plane .now) _ _ _ (c .before .before .before .before .before .before .if2 .left) (i .3) (i .4) in (
+    let h : Holds (c .before .before .before .before .before .before .before .before .before .before .before .before .args .s) (c .before .before .before .before .before .before .before .before .before .before .before .before .args .plane .now) (c .before .before .before .before .before .before .before .before .before .before .loop .r) =
+    at-row (c .before .before .before .before .before .before .before .before .before .before .before .before .args .s) (c .before .before .before .before .before .before .before .before .before .before .before .before .args .plane .now) _ _ _ (c .before .before .before .before .before .before .if2 .left) (i .3) (i .4)
+    in (
       search needs,
       search needs,
       search needs,

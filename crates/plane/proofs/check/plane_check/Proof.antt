@@ -40,7 +40,12 @@ enum-known-table c = search needs
 
 returns-4 : tie.Need-returns-4
 unfolding planeCheck
-returns-4 c = go-on _ _ _ (unless-good _ _ (told-yes-not _ _ (c .before .before .before .before .before .before .before .before .before .is .ensures) (c .before .before .before .before .before .before .before .before .if1 .left))) (go-on _ _ _ (unless-good _ _ (told-yes-not _ _ (c .before .before .before .before .before .before .before .sizes-ok .ensures) (c .before .before .before .before .before .before .if2 .left))) (go-on _ _ _ (unless-good _ _ (told-yes-not _ _ (c .before .before .before .before .before .lengths-ok .ensures) (c .before .before .before .before .if3 .left))) (stop-by _ _ _ (c .before .before .before .steps-check .ensures) (search needs))))
+returns-4 c =
+    go-on _ _ _
+    (unless-good _ _ (told-yes-not _ _ (c .before .before .before .before .before .before .before .before .before .is .ensures) (c .before .before .before .before .before .before .before .before .if1 .left)))
+    (go-on _ _ _
+    (unless-good _ _ (told-yes-not _ _ (c .before .before .before .before .before .before .before .sizes-ok .ensures) (c .before .before .before .before .before .before .if2 .left)))
+    (go-on _ _ _ (unless-good _ _ (told-yes-not _ _ (c .before .before .before .before .before .lengths-ok .ensures) (c .before .before .before .before .if3 .left))) (stop-by _ _ _ (c .before .before .before .steps-check .ensures) (search needs))))
 
 enum-told : tie.Need-enum-told
 enum-told c = search needs
@@ -53,17 +58,58 @@ enum-known-deltas c = search needs
 
 returns-5 : tie.Need-returns-5
 unfolding planeCheck
-returns-5 c = go-on _ _ _ (unless-good _ _ (told-yes-not _ _ (c .before .before .before .before .before .before .before .before .before .before .before .before .before .before .is .ensures) (c .before .before .before .before .before .before .before .before .before .before .before .before .before .if1 .left))) (go-on _ _ _ (unless-good _ _ (told-yes-not _ _ (c .before .before .before .before .before .before .before .before .before .before .before .before .sizes-ok .ensures) (c .before .before .before .before .before .before .before .before .before .before .before .if2 .left))) (go-on _ _ _ (unless-good _ _ (told-yes-not _ _ (c .before .before .before .before .before .before .before .before .before .before .lengths-ok .ensures) (c .before .before .before .before .before .before .before .before .before .if3 .left))) (go-on _ _ _ (accepted-by _ _ (c .before .before .before .before .before .before .before .before .steps-check .ensures) (search needs)) (stop-by _ _ _ (rw (toZ-ofZ {w = w32} {z = c .before .before .before .before .before .before .before .before .before .before .before .before .before .before .before .before .before .before .before .before .before .before .args .s .deltaq} (record { sfits = c .before .before .before .before .struct-told2 .given .1 .1 .1 .1 .1 .1 .1 .1 .1 .0 .1 }), toZ-ofZ {w = w32} {z = c .before .before .before .before .before .before .before .before .before .before .before .before .before .before .before .before .before .before .before .before .before .before .args .s .deltaside} (record { sfits = c .before .before .before .before .struct-told2 .given .1 .1 .1 .1 .1 .1 .1 .1 .1 .1 .0 .1 })) at (c .before .before .before .deltas-check .ensures)) (search needs)))))
+returns-5 c =
+    go-on _ _ _
+    (unless-good _ _ (told-yes-not _ _ (c .before .before .before .before .before .before .before .before .before .before .before .before .before .before .is .ensures) (c .before .before .before .before .before .before .before .before .before .before .before .before .before .if1 .left)))
+    (go-on _ _ _
+    (unless-good _ _ (told-yes-not _ _ (c .before .before .before .before .before .before .before .before .before .before .before .before .sizes-ok .ensures) (c .before .before .before .before .before .before .before .before .before .before .before .if2 .left)))
+    (go-on _ _ _
+    (unless-good _ _ (told-yes-not _ _ (c .before .before .before .before .before .before .before .before .before .before .lengths-ok .ensures) (c .before .before .before .before .before .before .before .before .before .if3 .left)))
+    (go-on _ _ _
+    (accepted-by _ _ (c .before .before .before .before .before .before .before .before .steps-check .ensures) (search needs))
+    (stop-by _ _ _
+    (rw (
+      toZ-ofZ {w = w32} {z = c .before .before .before .before .before .before .before .before .before .before .before .before .before .before .before .before .before .before .before .before .before .before .args .s .deltaq} (record { sfits = c .before .before .before .before .struct-told2 .given .1 .1 .1 .1 .1 .1 .1 .1 .1 .0 .1 }),
+      toZ-ofZ {w = w32} {z = c .before .before .before .before .before .before .before .before .before .before .before .before .before .before .before .before .before .before .before .before .before .before .args .s .deltaside} (record { sfits = c .before .before .before .before .struct-told2 .given .1 .1 .1 .1 .1 .1 .1 .1 .1 .1 .0 .1 }),
+    )
+    at
+    (c .before .before .before .deltas-check .ensures))
+    (search needs)))))
 
 enum-told-2 : tie.Need-enum-told-2
 enum-told-2 c = search needs
 
 grid-check-requires : tie.Need-grid-check-requires
-grid-check-requires c κs = sized-by _ _ _ _ _ (c .before .before .before .before .before .before .before .before .before .before .before .before .before .is .ensures) (c .before .before .before .before .before .before .before .before .before .before .before .before .if1 .left) (c .before .before .before .before .before .before .before .before .before .before .before .sizes-ok .ensures) (c .before .before .before .before .before .before .before .before .before .before .if2 .left) (c .before .before .before .before .before .before .before .before .before .lengths-ok .ensures) (c .before .before .before .before .before .before .before .before .if3 .left)
+grid-check-requires c κs =
+    sized-by _ _ _ _ _
+    (c .before .before .before .before .before .before .before .before .before .before .before .before .before .is .ensures)
+    (c .before .before .before .before .before .before .before .before .before .before .before .before .if1 .left)
+    (c .before .before .before .before .before .before .before .before .before .before .before .sizes-ok .ensures)
+    (c .before .before .before .before .before .before .before .before .before .before .if2 .left)
+    (c .before .before .before .before .before .before .before .before .before .lengths-ok .ensures)
+    (c .before .before .before .before .before .before .before .before .if3 .left)
 
 returns-6 : tie.Need-returns-6
 unfolding planeCheck gridCheck
-returns-6 c = go-on _ _ _ (unless-good _ _ (told-yes-not _ _ (c .before .before .before .before .before .before .before .before .before .before .before .before .before .before .is .ensures) (c .before .before .before .before .before .before .before .before .before .before .before .before .before .if1 .left))) (go-on _ _ _ (unless-good _ _ (told-yes-not _ _ (c .before .before .before .before .before .before .before .before .before .before .before .before .sizes-ok .ensures) (c .before .before .before .before .before .before .before .before .before .before .before .if2 .left))) (go-on _ _ _ (unless-good _ _ (told-yes-not _ _ (c .before .before .before .before .before .before .before .before .before .before .lengths-ok .ensures) (c .before .before .before .before .before .before .before .before .before .if3 .left))) (go-on _ _ _ (accepted-by _ _ (c .before .before .before .before .before .before .before .before .steps-check .ensures) (search needs)) (go-on _ _ _ (accepted-by _ _ (rw (toZ-ofZ {w = w32} {z = c .before .before .before .before .before .before .before .before .before .before .before .before .before .before .before .before .before .before .before .before .before .before .args .s .deltaq} (record { sfits = c .before .before .before .before .struct-told2 .given .1 .1 .1 .1 .1 .1 .1 .1 .1 .0 .1 }), toZ-ofZ {w = w32} {z = c .before .before .before .before .before .before .before .before .before .before .before .before .before .before .before .before .before .before .before .before .before .before .args .s .deltaside} (record { sfits = c .before .before .before .before .struct-told2 .given .1 .1 .1 .1 .1 .1 .1 .1 .1 .1 .0 .1 })) at (c .before .before .before .deltas-check .ensures)) (search needs)) (c .grid-check .ensures _)))))
+returns-6 c =
+    go-on _ _ _
+    (unless-good _ _ (told-yes-not _ _ (c .before .before .before .before .before .before .before .before .before .before .before .before .before .before .is .ensures) (c .before .before .before .before .before .before .before .before .before .before .before .before .before .if1 .left)))
+    (go-on _ _ _
+    (unless-good _ _ (told-yes-not _ _ (c .before .before .before .before .before .before .before .before .before .before .before .before .sizes-ok .ensures) (c .before .before .before .before .before .before .before .before .before .before .before .if2 .left)))
+    (go-on _ _ _
+    (unless-good _ _ (told-yes-not _ _ (c .before .before .before .before .before .before .before .before .before .before .lengths-ok .ensures) (c .before .before .before .before .before .before .before .before .before .if3 .left)))
+    (go-on _ _ _
+    (accepted-by _ _ (c .before .before .before .before .before .before .before .before .steps-check .ensures) (search needs))
+    (go-on _ _ _
+    (accepted-by _ _
+    (rw (
+      toZ-ofZ {w = w32} {z = c .before .before .before .before .before .before .before .before .before .before .before .before .before .before .before .before .before .before .before .before .before .before .args .s .deltaq} (record { sfits = c .before .before .before .before .struct-told2 .given .1 .1 .1 .1 .1 .1 .1 .1 .1 .0 .1 }),
+      toZ-ofZ {w = w32} {z = c .before .before .before .before .before .before .before .before .before .before .before .before .before .before .before .before .before .before .before .before .before .before .args .s .deltaside} (record { sfits = c .before .before .before .before .struct-told2 .given .1 .1 .1 .1 .1 .1 .1 .1 .1 .1 .0 .1 }),
+    )
+    at
+    (c .before .before .before .deltas-check .ensures))
+    (search needs))
+    (c .grid-check .ensures _)))))
 
 pub plane-check-spec : {M : Type 1} → statement M
 plane-check-spec =

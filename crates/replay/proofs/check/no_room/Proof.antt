@@ -34,7 +34,17 @@ has-room-requires : tie.Need-has-room-requires Inv-loop μ-loop
 has-room-requires c κs = (pair-below _ _ (let e = c .before .before .before .before .before .before .pre .0 in omega arith) (c .entry .ensures .0) (c .before .before .before .before .before .before .pre .2), c .entry .ensures .1, c .entry .ensures .2)
 
 returns : tie.Need-returns Inv-loop μ-loop
-returns c = entry-found _ (hasRoom (4 * (c .before .before .before .before .before .before .before .before .args .s .cols)) (4 * (c .before .before .before .before .before .before .before .before .args .s .rows))) _ (c .before .before .before .before .before .before .loop .inv .1) _ (c .before .before .before .before .before .before .before .before .pre .0) (c .before .before .entry .ensures .0) (c .before .has-room .ensures) (c .if1 .taken) (omega arith)
+returns c =
+    entry-found _
+    (hasRoom (4 * (c .before .before .before .before .before .before .before .before .args .s .cols)) (4 * (c .before .before .before .before .before .before .before .before .args .s .rows)))
+    _
+    (c .before .before .before .before .before .before .loop .inv .1)
+    _
+    (c .before .before .before .before .before .before .before .before .pre .0)
+    (c .before .before .entry .ensures .0)
+    (c .before .has-room .ensures)
+    (c .if1 .taken)
+    (omega arith)
 
 add-k : tie.Need-add-k Inv-loop μ-loop
 add-k c = omega arith

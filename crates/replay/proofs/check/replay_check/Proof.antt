@@ -40,16 +40,36 @@ enum-known-a : tie.Need-enum-known-a
 enum-known-a c = search needs
 
 returns-4 : tie.Need-returns-4
-returns-4 c = record-refused _ _ _ (told-yes-not _ _ (c .before .before .before .before .before .before .before .before .before .before .is .ensures) (c .before .before .before .before .before .before .before .before .before .if1 .left)) (told-yes-not _ _ (c .before .before .before .before .before .before .before .before .sizes-ok .ensures) (c .before .before .before .before .before .before .before .if2 .left)) (c .before .before .before .before .if3 .left) (c .before .before .before .record-check .ensures) (search needs)
+returns-4 c =
+    record-refused _ _ _
+    (told-yes-not _ _ (c .before .before .before .before .before .before .before .before .before .before .is .ensures) (c .before .before .before .before .before .before .before .before .before .if1 .left))
+    (told-yes-not _ _ (c .before .before .before .before .before .before .before .before .sizes-ok .ensures) (c .before .before .before .before .before .before .before .if2 .left))
+    (c .before .before .before .before .if3 .left)
+    (c .before .before .before .record-check .ensures)
+    (search needs)
 
 enum-told : tie.Need-enum-told
 enum-told c = search needs
 
 room-check-requires : tie.Need-room-check-requires
-room-check-requires c κs = roomy-by _ _ (c .before .before .before .before .before .before .before .before .before .before .before .before .args .plane .now) (told-yes-not _ _ (c .before .before .before .before .before .before .before .before .before .is .ensures) (c .before .before .before .before .before .before .before .before .if1 .left)) (told-yes-not _ _ (c .before .before .before .before .before .before .before .sizes-ok .ensures) (c .before .before .before .before .before .before .if2 .left)) (c .before .before .before .if3 .left) (c .before .before .record-check .ensures) (search needs)
+room-check-requires c κs =
+    roomy-by _ _
+    (c .before .before .before .before .before .before .before .before .before .before .before .before .args .plane .now)
+    (told-yes-not _ _ (c .before .before .before .before .before .before .before .before .before .is .ensures) (c .before .before .before .before .before .before .before .before .if1 .left))
+    (told-yes-not _ _ (c .before .before .before .before .before .before .before .sizes-ok .ensures) (c .before .before .before .before .before .before .if2 .left))
+    (c .before .before .before .if3 .left)
+    (c .before .before .record-check .ensures)
+    (search needs)
 
 returns-5 : tie.Need-returns-5
-returns-5 c = replay-passed _ _ _ (told-yes-not _ _ (c .before .before .before .before .before .before .before .before .before .before .is .ensures) (c .before .before .before .before .before .before .before .before .before .if1 .left)) (told-yes-not _ _ (c .before .before .before .before .before .before .before .before .sizes-ok .ensures) (c .before .before .before .before .before .before .before .if2 .left)) (c .before .before .before .before .if3 .left) (c .before .before .before .record-check .ensures) (search needs) (c .room-check .ensures)
+returns-5 c =
+    replay-passed _ _ _
+    (told-yes-not _ _ (c .before .before .before .before .before .before .before .before .before .before .is .ensures) (c .before .before .before .before .before .before .before .before .before .if1 .left))
+    (told-yes-not _ _ (c .before .before .before .before .before .before .before .before .sizes-ok .ensures) (c .before .before .before .before .before .before .before .if2 .left))
+    (c .before .before .before .before .if3 .left)
+    (c .before .before .before .record-check .ensures)
+    (search needs)
+    (c .room-check .ensures)
 
 pub replay-check-spec : {M : Type 1} → statement M
 replay-check-spec =

@@ -42,7 +42,19 @@ loop-less : tie.Need-loop-less Inv-loop μ-loop
 loop-less c = omega arith
 
 loop-again : tie.Need-loop-again Inv-loop μ-loop
-loop-again c = (omega arith, replayed-more (c .before .before .before .before .before .before .before .before .before .before .before .before .args .s) _ _ _ (c .before .before .before .before .before .before .before .before .loop .inv .1) (c .before .before .before .entry .ensures .0) (c .before .before .before .before .before .before .before .before .before .before .before .before .pre .top-is) (c .before .before .filter-edge .ensures), search needs)
+loop-again c = (
+  omega arith,
+  replayed-more
+      (c .before .before .before .before .before .before .before .before .before .before .before .before .args .s)
+      _
+      _
+      _
+      (c .before .before .before .before .before .before .before .before .loop .inv .1)
+      (c .before .before .before .entry .ensures .0)
+      (c .before .before .before .before .before .before .before .before .before .before .before .before .pre .top-is)
+      (c .before .before .filter-edge .ensures),
+  search needs,
+)
 
 same-length : tie.Need-same-length Inv-loop μ-loop
 same-length c = search needs

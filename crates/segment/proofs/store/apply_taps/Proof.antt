@@ -50,13 +50,27 @@ weighted-requires : tie.Need-weighted-requires
 weighted-requires c κs = search needs
 
 both-sides-requires : tie.Need-both-sides-requires
-both-sides-requires c κs = (c .weighted .ensures .1, c .before .before .before .before .before .before .before .before .before .pre .1 .after-most, c .before .before .before .before .before .before .before .before .before .pre .1 .step-some, omega (arith, ap (λ (x : ℕ). x * c .before .before .before .before .before .before .before .before .before .args .step) (c .before .before .if1 .taken)), c .before .before .before .before .before .before .before .before .before .pre .1 .high)
+both-sides-requires c κs = (
+  c .weighted .ensures .1,
+  c .before .before .before .before .before .before .before .before .before .pre .1 .after-most,
+  c .before .before .before .before .before .before .before .before .before .pre .1 .step-some,
+  omega (arith, ap (λ (x : ℕ). x * c .before .before .before .before .before .before .before .before .before .args .step) (c .before .before .if1 .taken)),
+  c .before .before .before .before .before .before .before .before .before .pre .1 .high,
+)
 
 same-length : tie.Need-same-length
 same-length c = search needs
 
 returns : tie.Need-returns
-returns c = line-equal _ _ _ _ _ _ _ _ _ _ _ (c .before .before .before .before .before .before .before .before .before .before .before .before .args .plane .now) _ (c .before .before .before .before .before .if1 .taken) (c .before .before .before .before .before .before .before .before .before .before .before .before .pre .0) (c .before .before .before .before .before .before .limited .ensures .0) (c .before .before .before .weighted .ensures .0) (c .before .before .both-sides .ensures)
+returns c =
+    line-equal _ _ _ _ _ _ _ _ _ _ _
+    (c .before .before .before .before .before .before .before .before .before .before .before .before .args .plane .now)
+    _
+    (c .before .before .before .before .before .if1 .taken)
+    (c .before .before .before .before .before .before .before .before .before .before .before .before .pre .0)
+    (c .before .before .before .before .before .before .limited .ensures .0)
+    (c .before .before .before .weighted .ensures .0)
+    (c .before .before .both-sides .ensures)
 
 weighted-requires-2 : tie.Need-weighted-requires-2
 weighted-requires-2 c κs = search needs
@@ -74,7 +88,26 @@ same-length-2 : tie.Need-same-length-2
 same-length-2 c = search needs
 
 returns-2 : tie.Need-returns-2
-returns-2 c = line-both _ _ _ _ _ _ _ _ _ _ _ _ (c .before .before .before .before .before .before .before .before .before .before .before .before .before .before .before .before .before .args .plane .now) _ (c .before .before .before .before .before .before .before .before .before .before .before .before .before .before .before .before .before .pre .0) (c .before .before .before .before .before .before .before .before .before .before .before .limited .ensures .0) (c .before .before .before .before .before .before .before .before .weighted2 .ensures .0) (c .before .before .before .weighted3 .ensures .0) (sides-then _ _ _ _ (c .before .before .before .before .before .before .before .before .before .before .before .before .before .before .before .before .before .args .w) (c .before .before .before .before .before .before .before .before .weighted2 .result) (c .before .before .before .weighted3 .result) _ (c .before .before .before .before .before .before .before .before .before .before .before .before .before .before .before .before .before .args .plane .now) _ _ (c .before .before .before .before .before .before .before .before .before .before .before .before .before .before .before .before .before .pre .1 .step-some) (c .before .before .before .before .before .before .before .before .before .before .before .before .before .before .before .before .before .pre .1 .low) (c .before .before .before .before .before .before .before .side-before .ensures) (c .before .before .side-after .ensures))
+returns-2 c =
+    line-both _ _ _ _ _ _ _ _ _ _ _ _
+    (c .before .before .before .before .before .before .before .before .before .before .before .before .before .before .before .before .before .args .plane .now)
+    _
+    (c .before .before .before .before .before .before .before .before .before .before .before .before .before .before .before .before .before .pre .0)
+    (c .before .before .before .before .before .before .before .before .before .before .before .limited .ensures .0)
+    (c .before .before .before .before .before .before .before .before .weighted2 .ensures .0)
+    (c .before .before .before .weighted3 .ensures .0)
+    (sides-then _ _ _ _
+    (c .before .before .before .before .before .before .before .before .before .before .before .before .before .before .before .before .before .args .w)
+    (c .before .before .before .before .before .before .before .before .weighted2 .result)
+    (c .before .before .before .weighted3 .result)
+    _
+    (c .before .before .before .before .before .before .before .before .before .before .before .before .before .before .before .before .before .args .plane .now)
+    _
+    _
+    (c .before .before .before .before .before .before .before .before .before .before .before .before .before .before .before .before .before .pre .1 .step-some)
+    (c .before .before .before .before .before .before .before .before .before .before .before .before .before .before .before .before .before .pre .1 .low)
+    (c .before .before .before .before .before .before .before .side-before .ensures)
+    (c .before .before .side-after .ensures))
 
 pub apply-taps-spec : {M : Type 1} → statement M
 apply-taps-spec =

@@ -54,7 +54,19 @@ loop-less : tie.Need-loop-less Inv-loop μ-loop
 loop-less c = search needs
 
 loop-again : tie.Need-loop-again Inv-loop μ-loop
-loop-again c = let inv = c .before .before .before .loop .inv in (omega arith, simp length-set (inv .1), before-more _ _ _ _ _ _ (c .before .before .before .before .before .args .plane .now) (c .before .before .before .before .before .pre .2) _ _ (before-in (c .before .before .before .loop .i) (c .before .before .before .before .before .args .s) (c .before .before .before .before .before .args .step) (c .before .before .before .before .before .args .at) (c .before .before .loop-test .taken) (c .before .before .before .before .before .pre .3)) (inv .2) (c .move-before .ensures))
+loop-again c =
+    let inv = c .before .before .before .loop .inv in (
+      omega arith,
+      simp length-set (inv .1),
+      before-more _ _ _ _ _ _
+          (c .before .before .before .before .before .args .plane .now)
+          (c .before .before .before .before .before .pre .2)
+          _
+          _
+          (before-in (c .before .before .before .loop .i) (c .before .before .before .before .before .args .s) (c .before .before .before .before .before .args .step) (c .before .before .before .before .before .args .at) (c .before .before .loop-test .taken) (c .before .before .before .before .before .pre .3))
+          (inv .2)
+          (c .move-before .ensures),
+    )
 
 same-length : tie.Need-same-length Inv-loop μ-loop
 same-length c = search needs

@@ -38,7 +38,19 @@ same-length-5 : tie.Need-same-length-5
 same-length-5 c = search needs
 
 returns-3 : tie.Need-returns-3
-returns-3 c = (c .before .before .before .before .before .before .before .before .setting .ensures .0, line-known _ _ _ _ _ (c .before .before .before .before .before .before .before .before .before .before .before .before .before .before .before .before .before .before .before .spaces .ensures .0) _ _ (c .before .before .before .before .before .before .before .before .before .before .before .before .before .before .before .before .before .before .if1 .left) (c .before .before .before .before .before .before .before .before .before .before .before .before .before .before .before .before .before .read-word .ensures .0) (c .before .before .before .before .before .before .before .before .before .before .before .before .before .before .before .before .kind .ensures .0) _ (c .before .before .before .before .before .before .before .before .before .before .before .before .before .before .before .if2 .left) (c .before .before .before .before .before .before .before .before .setting .ensures .1))
+returns-3 c = (
+  c .before .before .before .before .before .before .before .before .setting .ensures .0,
+  line-known _ _ _ _ _
+      (c .before .before .before .before .before .before .before .before .before .before .before .before .before .before .before .before .before .before .before .spaces .ensures .0)
+      _
+      _
+      (c .before .before .before .before .before .before .before .before .before .before .before .before .before .before .before .before .before .before .if1 .left)
+      (c .before .before .before .before .before .before .before .before .before .before .before .before .before .before .before .before .before .read-word .ensures .0)
+      (c .before .before .before .before .before .before .before .before .before .before .before .before .before .before .before .before .kind .ensures .0)
+      _
+      (c .before .before .before .before .before .before .before .before .before .before .before .before .before .before .before .if2 .left)
+      (c .before .before .before .before .before .before .before .before .setting .ensures .1),
+)
 
 pub line-spec : {M : Type 1} → statement M
 line-spec =

@@ -12,7 +12,8 @@ use Rattle.settings.proofs.text.parse.Statement.{statement}
 use Rattle.settings.proofs.text.parse.Tie as tie
 
 abbrev Inv-loop : tie.InvT-loop
-Inv-loop text numbers₀ shorts₀ steps₀ flags₀ offsets₀ places₀ n at₀ l₀ numbers shorts steps flags offsets places at l = (n ≡ length text) × (at ≤ n + 1) × (l ≤ at + 1) × Kept (lists numbers₀ shorts₀ steps₀ flags₀ offsets₀) (lists numbers shorts steps flags offsets) × (walk text (n + 1 - l) at l (state numbers shorts steps flags offsets places) ≡ walk text (n + 1 - l₀) at₀ l₀ (state numbers₀ shorts₀ steps₀ flags₀ offsets₀ places₀))
+Inv-loop text numbers₀ shorts₀ steps₀ flags₀ offsets₀ places₀ n at₀ l₀ numbers shorts steps flags offsets places at l =
+    (n ≡ length text) × (at ≤ n + 1) × (l ≤ at + 1) × Kept (lists numbers₀ shorts₀ steps₀ flags₀ offsets₀) (lists numbers shorts steps flags offsets) × (walk text (n + 1 - l) at l (state numbers shorts steps flags offsets places) ≡ walk text (n + 1 - l₀) at₀ l₀ (state numbers₀ shorts₀ steps₀ flags₀ offsets₀ places₀))
 
 abbrev μ-loop : tie.MeasureT-loop
 μ-loop text numbers₀ shorts₀ steps₀ flags₀ offsets₀ places₀ n at₀ l₀ numbers shorts steps flags offsets places at l = n + 1 - at
@@ -45,7 +46,10 @@ same-length-5 : tie.Need-same-length-5 Inv-loop μ-loop
 same-length-5 c = let b = c .before .before .before .before .before .before .before .before .before in let t = b .before .before .before .before .before .before .before in let i = t .before .before .before .loop .inv in (kept-then (i .3) (b .line .ensures .0)) .offsets
 
 returns : tie.Need-returns Inv-loop μ-loop
-returns c = let b = c .before .before .before .before .before .before .before .before .before in let t = b .before .before .before .before .before .before .before in let i = t .before .before .before .loop .inv in (kept-then (i .3) (b .line .ensures .0), walk-start _ _ _ (i .0) (walk-bad _ _ _ _ _ _ (i .0) (i .4) _ _ _ _ (t .before .before .loop-test .taken) (i .2) (t .before .line-end .ensures .0) (t .content-end .ensures .0) (b .line .ensures .1) _ (c .if1 .taken) (omega arith)))
+returns c =
+    let b = c .before .before .before .before .before .before .before .before .before in
+    let t = b .before .before .before .before .before .before .before in
+    let i = t .before .before .before .loop .inv in (kept-then (i .3) (b .line .ensures .0), walk-start _ _ _ (i .0) (walk-bad _ _ _ _ _ _ (i .0) (i .4) _ _ _ _ (t .before .before .loop-test .taken) (i .2) (t .before .line-end .ensures .0) (t .content-end .ensures .0) (b .line .ensures .1) _ (c .if1 .taken) (omega arith)))
 
 add-at : tie.Need-add-at Inv-loop μ-loop
 add-at c = let b = c .before .before .before .before .before .before .before .before .before in let t = b .before .before .before .before .before .before .before in let i = t .before .before .before .loop .inv in omega (arith, i .0, i .2, t .before .before .loop-test .taken, t .before .line-end .ensures .1)
@@ -57,7 +61,16 @@ loop-less : tie.Need-loop-less Inv-loop μ-loop
 loop-less c = let b = c .before .before .before .before .before .before .before .before .before in let t = b .before .before .before .before .before .before .before in let i = t .before .before .before .loop .inv in omega (arith, i .0, i .2, t .before .before .loop-test .taken, t .before .line-end .ensures .1)
 
 loop-again : tie.Need-loop-again Inv-loop μ-loop
-loop-again c = let b = c .before .before .before .before .before .before .before .before .before in let t = b .before .before .before .before .before .before .before in let i = t .before .before .before .loop .inv in (i .0, omega (arith, i .0, i .2, t .before .before .loop-test .taken, t .before .line-end .ensures .1), omega (arith, i .0, i .2, t .before .before .loop-test .taken, t .before .line-end .ensures .1), kept-then (i .3) (b .line .ensures .0), walk-on _ _ _ _ _ _ (i .0) (i .4) _ _ _ _ (t .before .before .loop-test .taken) (i .2) (t .before .line-end .ensures .0) (t .content-end .ensures .0) (b .line .ensures .1) _ _ (c .if1 .left) (omega arith) (omega arith))
+loop-again c =
+    let b = c .before .before .before .before .before .before .before .before .before in
+    let t = b .before .before .before .before .before .before .before in
+    let i = t .before .before .before .loop .inv in (
+      i .0,
+      omega (arith, i .0, i .2, t .before .before .loop-test .taken, t .before .line-end .ensures .1),
+      omega (arith, i .0, i .2, t .before .before .loop-test .taken, t .before .line-end .ensures .1),
+      kept-then (i .3) (b .line .ensures .0),
+      walk-on _ _ _ _ _ _ (i .0) (i .4) _ _ _ _ (t .before .before .loop-test .taken) (i .2) (t .before .line-end .ensures .0) (t .content-end .ensures .0) (b .line .ensures .1) _ _ (c .if1 .left) (omega arith) (omega arith),
+    )
 
 missing-requires : tie.Need-missing-requires Inv-loop μ-loop
 missing-requires c κs = search needs

@@ -32,7 +32,14 @@ same-length-5 : tie.Need-same-length-5
 same-length-5 c = search needs
 
 returns-2 : tie.Need-returns-2
-returns-2 c = (c .before .before .before .before .before .before .before .before .fill .ensures .0, setting-on _ _ _ _ _ _ (c .before .before .before .before .before .before .before .before .before .before .before .before .before .before .before .before .too-soon .ensures) _ (c .before .before .before .before .before .before .before .before .before .before .before .before .before .before .before .if1 .left) (c .before .before .before .before .before .before .before .before .fill .ensures .1))
+returns-2 c = (
+  c .before .before .before .before .before .before .before .before .fill .ensures .0,
+  setting-on _ _ _ _ _ _
+      (c .before .before .before .before .before .before .before .before .before .before .before .before .before .before .before .before .too-soon .ensures)
+      _
+      (c .before .before .before .before .before .before .before .before .before .before .before .before .before .before .before .if1 .left)
+      (c .before .before .before .before .before .before .before .before .fill .ensures .1),
+)
 
 pub setting-spec : {M : Type 1} → statement M
 setting-spec =
