@@ -2,12 +2,15 @@
  *
  * Each function takes any numbers and lists of any length. A list is a pointer and the number of its entries; the pointer must lead
  * to that many, a list that is not const overlaps no other, and an empty list may be NULL.
- * A function does its work, or answers minus the number of a refusal and leaves all lent memory as it was, but for one list: `place` is
- * where the place of the refusal goes, and the one list that a refusal writes (a frame refused by 7 or 8 has built its grids too).
+ * A function does its work, or answers minus the number of a refusal and leaves all lent memory as it was, but for two lists: `place`, where
+ * the place of the refusal goes, and `counts`, where zeros go (a frame refused by 7 or 8 has built its grids too).
  * Where several refusals hold, the answer is the first in the order 1, 2, 3, 4, 5, 9, 11, 12, 13, 6, 7, 8, 10; enum bihargesh_refusal names them.
  *
  * The functions with a list `place` put the place of a refusal into its first entry, if it has one: the first bad step, cell, leaf,
  * entry of a record or sample, counted from 0, and 0 for a refusal that has no place. `place` is left as lent where the answer is no refusal.
+ * The functions with a list `counts`, those that deblock, put into its first entry how many samples they stored and into its second how many of
+ * these stores gave a place another sample than it had, as many of the two as it has entries: 0 and 0 for a refusal. A sample that several edges
+ * store counts at each. Of n edges stored is at most 64 n, and changed at most stored.
  * The functions with a list `settings` take their settings as numbers in a fixed order, named by an enum with each; numbers beyond those
  * are not looked at, and a list with fewer is refused by 3 before all else, since nothing else can be read. A number below 0 where a count
  * stands is out of its range.
@@ -22,7 +25,7 @@
 extern "C" {
 #endif
 
-#define BIHARGESH_VERSION "1.0.0"
+#define BIHARGESH_VERSION "2.0.0"
 
 /* Why a call is refused; the answer is minus this. */
 enum bihargesh_refusal {
@@ -54,7 +57,8 @@ int32_t bihargesh_thresholds(uint16_t curr, uint16_t prev, int32_t delta_q, int3
 /* Filters one segment in place and answers how many samples after the edge were filtered: 0, 1, 2, 3, 4, 6 or 8.
  * window is four lines of eighteen samples, each p8..p0 then q0..q8, two bytes a sample, low first (144 bytes; 3 if not);
  * pair is 0..7, q 0..2048, side 0..839. Only samples within the widths change. Refusals 1, 3, 5, 8, in this order. */
-int32_t bihargesh_segment(uint8_t *window, size_t window_len, uint32_t depth, uint32_t pair, uint32_t q, uint32_t side);
+int32_t bihargesh_segment(uint8_t *window, size_t window_len, uint32_t depth, uint32_t pair, uint32_t q, uint32_t side,
+                          size_t *counts, size_t counts_len);
 
 /* Where a plane's settings stand. */
 enum bihargesh_plane_setting {
@@ -82,7 +86,7 @@ enum bihargesh_plane_setting {
 int32_t bihargesh_plane(uint16_t *plane, size_t plane_len, const uint8_t *vedge, size_t vedge_len, const uint8_t *hedge, size_t hedge_len,
                         const uint8_t *sqw, size_t sqw_len, const uint8_t *sqh, size_t sqh_len, const uint16_t *qindex, size_t qindex_len,
                         const uint32_t *steps, size_t steps_len, const int32_t *settings, size_t settings_len,
-                        size_t *place, size_t place_len);
+                        size_t *place, size_t place_len, size_t *counts, size_t counts_len);
 
 /* Filters a plane as bihargesh_plane does, writes a record of every edge into the beginning of `record`, and answers the record's length in bytes.
  * The record: the three bytes `EDG`, the version 1 in two bytes, and ten bytes for each marked edge in the order in which they are filtered: x and y
@@ -94,7 +98,7 @@ int32_t bihargesh_record_plane(uint16_t *plane, size_t plane_len, uint8_t *recor
                                const uint8_t *vedge, size_t vedge_len, const uint8_t *hedge, size_t hedge_len,
                                const uint8_t *sqw, size_t sqw_len, const uint8_t *sqh, size_t sqh_len, const uint16_t *qindex, size_t qindex_len,
                                const uint32_t *steps, size_t steps_len, const int32_t *settings, size_t settings_len,
-                               size_t *place, size_t place_len);
+                               size_t *place, size_t place_len, size_t *counts, size_t counts_len);
 
 /* Where the settings of a plane stand on which a record is run. */
 enum bihargesh_replay_setting {
@@ -109,9 +113,11 @@ enum bihargesh_replay_setting {
  * lent to it give the plane that it left. Any whole record is run: an edge may stand in it twice, and x and y need not be multiples of 4.
  * plane has rows of stride samples; direction is 0 or 1, the length pair 0..7, q 0..2048, side 0..839, and x and y are anything with room in the plane.
  * settings, four numbers: cols and rows (cells each way, 1..1024), stride (4*cols..8192), depth. Refusals 1, 2, 3, 11, 12, 13, 7, 8, in this order: 12 with
- * the number of the cut entry, 13 and 7 with that of the first bad one; 8 over 4*cols by 4*rows samples. A short record is refused by 11 or 12, never by 3. */
+ * the number of the cut entry, 13 and 7 with that of the first bad one; 8 over 4*cols by 4*rows samples. A short record is refused by 11 or 12, never by 3.
+ * The counts are sums modulo 2^64, which a record of 2^58 edges may reach. */
 int32_t bihargesh_replay(uint16_t *plane, size_t plane_len, const uint8_t *record, size_t record_len,
-                         const int32_t *settings, size_t settings_len, size_t *place, size_t place_len);
+                         const int32_t *settings, size_t settings_len, size_t *place, size_t place_len,
+                         size_t *counts, size_t counts_len);
 
 /* Where a TU grid's settings stand. */
 enum bihargesh_tx_grid_setting {
@@ -199,7 +205,7 @@ int32_t bihargesh_frame(uint16_t *y, size_t y_len, uint16_t *u, size_t u_len, ui
                         const uint32_t *steps, size_t steps_len, const uint16_t *superblocks, size_t superblocks_len,
                         const uint16_t *leaves, size_t leaves_len, const uint16_t *chroma_leaves, size_t chroma_leaves_len,
                         const uint16_t *skips, size_t skips_len, const int32_t *settings, size_t settings_len,
-                        size_t *place, size_t place_len);
+                        size_t *place, size_t place_len, size_t *counts, size_t counts_len);
 
 /* Where CCSO's settings stand. */
 enum bihargesh_ccso_setting {

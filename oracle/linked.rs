@@ -4,7 +4,7 @@
 //!
 //! The cases are the oracle's, with its answers: the Rust's where a case is accepted, document 01's refusals where not. Here they are lent as C
 //! lends them, with a settings list that is sometimes too short or longer than needed, flags that are none, and bytes too few or too many.
-//! Every lent list is compared whole afterwards, those for reading too.
+//! Every lent list is compared whole afterwards, those for reading too; the counts of stored and changed samples are those of the Rust, watched store by store.
 
 #[path = "src/ccso.rs"]
 mod ccso;
@@ -47,11 +47,19 @@ use random::Random;
 use std::fmt::Debug;
 use std::process::exit;
 
-/// What a case is due: 0 or the number of a refusal, with its place.
+/// What a case is due: 0 or the number of a refusal, with its place, and how many samples are stored and changed.
 #[derive(Clone, Copy)]
 struct Due {
     no: i32,
     place: usize,
+    counts: [usize; 2],
+}
+
+impl Due {
+    /// A refusal that has no place.
+    fn refused(no: i32) -> Due {
+        Due { no, place: 0, counts: [0, 0] }
+    }
 }
 
 /// The number that was due, or what differs.
@@ -85,8 +93,18 @@ impl Numbers<'_> {
         self.some(n)
     }
 
+    fn size(&mut self) -> usize {
+        self.one::<u64>() as usize
+    }
+
     fn due(&mut self) -> Due {
-        Due { no: self.one(), place: self.one::<u64>() as usize }
+        Due { no: self.one(), place: self.size(), counts: [0, 0] }
+    }
+
+    /// The same of a case that filters.
+    fn counted(&mut self) -> Due {
+        let due = self.due();
+        Due { counts: [self.size(), self.size()], ..due }
     }
 }
 
@@ -151,11 +169,11 @@ fn settings(random: &Random, all: Vec<i32>, due: Due, flags: &[usize]) -> (Vec<i
     match random.below(40) {
         0 => {
             list.truncate(random.one_of(&[0, 1, most / 2, most - 1]));
-            return (list, Due { no: 3, place: 0 });
+            return (list, Due::refused(3));
         }
         1 if !flags.is_empty() => {
             list[random.one_of(flags)] = random.one_of(&[2, 3, -1, i32::MIN, i32::MAX]);
-            return (list, if due.no == 1 { due } else { Due { no: 2, place: 0 } });
+            return (list, if due.no == 1 { due } else { Due::refused(2) });
         }
         2..=5 => list.extend([i32::MIN, -1, 7]),
         _ => (),
@@ -170,6 +188,14 @@ fn places(random: &Random, due: Due) -> (Vec<usize>, Vec<usize>) {
     if due.no != 0 && !after.is_empty() {
         after[0] = due.place;
     }
+    (lent, after)
+}
+
+/// A lent list for the counts, and what is due in it: as many of the two as it has entries.
+fn tallies(random: &Random, due: Due) -> (Vec<usize>, Vec<usize>) {
+    let lent = vec![usize::MAX; random.one_of(&[0, 1, 2, 2, 2, 2, 3])];
+    let mut after = lent.clone();
+    after.iter_mut().zip(due.counts).for_each(|(entry, count)| *entry = count);
     (lent, after)
 }
 
@@ -205,17 +231,19 @@ fn of_segment(random: &Random, made: &Made) -> Compared {
     let mut n = Numbers::of(made);
     let [_, _, _, depth, q, side, pair, _, _, _]: [u32; 10] = n.some(10).try_into().expect("ten numbers");
     let plane: Vec<u16> = n.list();
-    let Due { mut no, place: width } = n.due();
+    let mut due = n.counted();
     let bytes = |samples: &[u16]| -> Vec<u8> { samples.iter().flat_map(|s| s.to_le_bytes()).collect() };
     let mut window = bytes(&plane);
-    if miscounted(random, &mut window) && no != 1 {
-        no = 3;
+    if miscounted(random, &mut window) && due.no != 1 {
+        due = Due::refused(3);
     }
-    let after = if no == 0 { bytes(&n.some::<u16>(72)) } else { window.clone() };
-    let answer = unsafe { raw::bihargesh_segment(window.as_mut_ptr(), window.len(), depth, pair, q, side) };
-    same("the answer", answer, if no == 0 { width as i32 } else { -no })?;
+    let after = if due.no == 0 { bytes(&n.some::<u16>(72)) } else { window.clone() };
+    let (mut counts, counts_after) = tallies(random, due);
+    let answer = unsafe { raw::bihargesh_segment(window.as_mut_ptr(), window.len(), depth, pair, q, side, counts.as_mut_ptr(), counts.len()) };
+    same("the answer", answer, if due.no == 0 { due.place as i32 } else { -due.no })?;
     same("the window", window, after)?;
-    Ok(no)
+    same("the counts", counts, counts_after)?;
+    Ok(due.no)
 }
 
 /// The numbers of a plane's case, up to the plane.
@@ -242,20 +270,23 @@ impl PlaneCase {
 fn of_plane(random: &Random, made: &Made) -> Compared {
     let mut n = Numbers::of(made);
     let PlaneCase { all, grid, qindex, mut plane, steps } = PlaneCase::of(made, &mut n);
-    let due = n.due();
+    let due = n.counted();
     let (settings, due) = settings(random, all, due, &[7]);
     let after = if due.no == 0 { n.some(plane.len()) } else { plane.clone() };
     let (mut place, place_after) = places(random, due);
+    let (mut counts, counts_after) = tallies(random, due);
     let lent = (grid.clone(), qindex.clone(), steps.clone(), settings.clone());
     let [v, h, w, t] = &grid;
     let answer = unsafe {
         raw::bihargesh_plane(
             plane.as_mut_ptr(), plane.len(), v.as_ptr(), v.len(), h.as_ptr(), h.len(), w.as_ptr(), w.len(), t.as_ptr(), t.len(),
             qindex.as_ptr(), qindex.len(), steps.as_ptr(), steps.len(), settings.as_ptr(), settings.len(), place.as_mut_ptr(), place.len(),
+            counts.as_mut_ptr(), counts.len(),
         )
     };
     same("the answer", answer, -due.no)?;
     same("the place", place, place_after)?;
+    same("the counts", counts, counts_after)?;
     same("the plane", plane, after)?;
     same("a list for reading", (grid, qindex, steps, settings), lent)?;
     Ok(due.no)
@@ -266,10 +297,11 @@ fn of_record_plane(random: &Random, made: &Made) -> Compared {
     let mut n = Numbers::of(made);
     let PlaneCase { all, grid, qindex, mut plane, steps } = PlaneCase::of(made, &mut n);
     let mut record: Vec<u8> = n.list();
-    let due = n.due();
+    let due = n.counted();
     let (settings, due) = settings(random, all, due, &[7]);
     let after = if due.no == 0 { (n.some(plane.len()), n.some(record.len())) } else { (plane.clone(), record.clone()) };
     let (mut place, place_after) = places(random, due);
+    let (mut counts, counts_after) = tallies(random, due);
     let lent = (grid.clone(), qindex.clone(), steps.clone(), settings.clone());
     let [v, h, w, t] = &grid;
     let answer = unsafe {
@@ -277,10 +309,12 @@ fn of_record_plane(random: &Random, made: &Made) -> Compared {
             plane.as_mut_ptr(), plane.len(), record.as_mut_ptr(), record.len(), v.as_ptr(), v.len(), h.as_ptr(), h.len(),
             w.as_ptr(), w.len(), t.as_ptr(), t.len(), qindex.as_ptr(), qindex.len(), steps.as_ptr(), steps.len(),
             settings.as_ptr(), settings.len(), place.as_mut_ptr(), place.len(),
+            counts.as_mut_ptr(), counts.len(),
         )
     };
     same("the answer", answer, if due.no == 0 { due.place as i32 } else { -due.no })?;
     same("the place", place, place_after)?;
+    same("the counts", counts, counts_after)?;
     same("the plane", plane, after.0)?;
     same("the record", record, after.1)?;
     same("a list for reading", (grid, qindex, steps, settings), lent)?;
@@ -292,23 +326,26 @@ fn of_replay(random: &Random, made: &Made) -> Compared {
     let mut n = Numbers::of(made);
     let all = n.some(4);
     let (record, mut plane): (Vec<u8>, Vec<u16>) = (n.list(), n.list());
-    let due = n.due();
+    let due = n.counted();
     let (settings, due) = settings(random, all, due, &[]);
     let after = if due.no == 0 { n.some(plane.len()) } else { plane.clone() };
     let (mut place, place_after) = places(random, due);
+    let (mut counts, counts_after) = tallies(random, due);
     let lent = (record.clone(), settings.clone());
-    let answer = replay(&mut plane, &record, &settings, &mut place);
+    let answer = replay(&mut plane, &record, &settings, &mut place, &mut counts);
     same("the answer", answer, -due.no)?;
     same("the place", place, place_after)?;
+    same("the counts", counts, counts_after)?;
     same("the plane", plane, after)?;
     same("a list for reading", (record, settings), lent)?;
     Ok(due.no)
 }
 
-fn replay(plane: &mut [u16], record: &[u8], settings: &[i32], place: &mut [usize]) -> i32 {
+fn replay(plane: &mut [u16], record: &[u8], settings: &[i32], place: &mut [usize], counts: &mut [usize]) -> i32 {
     unsafe {
         raw::bihargesh_replay(
             plane.as_mut_ptr(), plane.len(), record.as_ptr(), record.len(), settings.as_ptr(), settings.len(), place.as_mut_ptr(), place.len(),
+            counts.as_mut_ptr(), counts.len(),
         )
     }
 }
@@ -323,24 +360,25 @@ fn of_round_trip(_: &Random, made: &Made) -> Compared {
     let mut n = Numbers::of(made);
     let PlaneCase { all, grid, qindex, plane: lent, steps } = PlaneCase::of(made, &mut n);
     let mut bytes: Vec<u8> = n.list();
-    let due = n.due();
+    let due = n.counted();
     let after: Vec<u16> = n.some(lent.len());
-    let (mut plane, mut place) = (lent.clone(), [77]);
+    let (mut plane, mut place, mut counts) = (lent.clone(), [77], [[77; 2]; 2]);
     let [v, h, w, t] = &grid;
     let length = unsafe {
         raw::bihargesh_record_plane(
             plane.as_mut_ptr(), plane.len(), bytes.as_mut_ptr(), bytes.len(), v.as_ptr(), v.len(), h.as_ptr(), h.len(),
             w.as_ptr(), w.len(), t.as_ptr(), t.len(), qindex.as_ptr(), qindex.len(), steps.as_ptr(), steps.len(),
-            all.as_ptr(), all.len(), place.as_mut_ptr(), place.len(),
+            all.as_ptr(), all.len(), place.as_mut_ptr(), place.len(), counts[0].as_mut_ptr(), 2,
         )
     };
     same("the length", length, due.place as i32)?;
     same("the recorded plane", &plane, &after)?;
     let mut again = lent;
-    let answer = replay(&mut again, &bytes[..length as usize], &[all[0], all[1], all[2], all[8]], &mut place);
+    let answer = replay(&mut again, &bytes[..length as usize], &[all[0], all[1], all[2], all[8]], &mut place, &mut counts[1]);
     same("the answer", answer, 0)?;
     same("the plane", again, plane)?;
     same("the place", place, [77])?;
+    same("the counts, both times", counts, [due.counts; 2])?;
     Ok(due.no)
 }
 
@@ -475,13 +513,14 @@ fn of_frame(random: &Random, made: &Made) -> Compared {
     let mut planes: [Vec<u16>; 3] = [n.list(), n.list(), n.list()];
     let mut grids = [Grid::lent(&mut n), Grid::lent(&mut n)];
     let steps = made.steps.clone().unwrap_or_default();
-    let due = n.due();
+    let due = n.counted();
     let left = if due.no == 0 { [0, 1, 2].map(|k: usize| n.some(planes[k].len())) } else { planes.clone() };
     let built = if [0, 7, 8].contains(&due.no) { [0, 1].map(|k: usize| Grid::left(&mut n, &grids[k])) } else { grids.clone() };
     let (settings, now) = settings(random, all, due, &[4, 5]);
     // a fault of the settings list stands before all that the case is due
     let (left, built) = if now.no == due.no { (left, built) } else { (planes.clone(), grids.clone()) };
     let (mut place, place_after) = places(random, now);
+    let (mut counts, counts_after) = tallies(random, now);
     let lent = (read.clone(), steps.clone(), settings.clone());
     let [superblocks, leaves, chroma_leaves, skips] = &read;
     let ([y, u, v], [luma, chroma]) = (&mut planes, &mut grids);
@@ -496,10 +535,12 @@ fn of_frame(random: &Random, made: &Made) -> Compared {
             steps.as_ptr(), steps.len(), superblocks.as_ptr(), superblocks.len(), leaves.as_ptr(), leaves.len(),
             chroma_leaves.as_ptr(), chroma_leaves.len(), skips.as_ptr(), skips.len(),
             settings.as_ptr(), settings.len(), place.as_mut_ptr(), place.len(),
+            counts.as_mut_ptr(), counts.len(),
         )
     };
     same("the answer", answer, -now.no)?;
     same("the place", place, place_after)?;
+    same("the counts", counts, counts_after)?;
     same("a plane", planes, left)?;
     same("a grid", grids, built)?;
     same("a list for reading", (read, steps, settings), lent)?;

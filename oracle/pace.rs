@@ -4,7 +4,8 @@
 //!     pace time SIZE KIND                  medians of 31 runs of each on fresh copies, in nanoseconds: the Rust's, then ours
 //!     pace same SIZE KIND                  both once: how many edges and changed samples; fails where the planes differ
 //!
-//! KIND is the size index of all blocks, or `dark`: index 1, and every qindex 0, so that every threshold is 0.
+//! KIND is the size index of all blocks, or `dark`: index 1, and every qindex 0, so that every threshold is 0; or `recorded`: index 1, and ours
+//! is `bihargesh_record_plane` with a buffer that the record just fills, beside the Rust's run, which writes none.
 
 #[path = "src/random.rs"]
 mod random;
@@ -38,6 +39,21 @@ extern "C" {
         steps: *const u32, steps_len: usize,
         settings: *const i32, settings_len: usize,
         place: *mut usize, place_len: usize,
+        counts: *mut usize, counts_len: usize,
+    ) -> i32;
+
+    fn bihargesh_record_plane(
+        plane: *mut u16, plane_len: usize,
+        record: *mut u8, record_len: usize,
+        vedge: *const u8, vedge_len: usize,
+        hedge: *const u8, hedge_len: usize,
+        sqw: *const u8, sqw_len: usize,
+        sqh: *const u8, sqh_len: usize,
+        qindex: *const u16, qindex_len: usize,
+        steps: *const u32, steps_len: usize,
+        settings: *const i32, settings_len: usize,
+        place: *mut usize, place_len: usize,
+        counts: *mut usize, counts_len: usize,
     ) -> i32;
 }
 
@@ -51,6 +67,8 @@ struct Scene {
     qindex: Vec<u16>,
     steps: Vec<u32>,
     samples: Vec<u16>,
+    /// Whether ours writes a record.
+    recorded: bool,
 }
 
 /// Cells of nearly even samples, with small steps from cell to cell, so that every width occurs.
@@ -63,8 +81,8 @@ fn samples(random: &Random, size: usize) -> Vec<u16> {
 
 impl Scene {
     fn new(size: usize, kind: &str) -> Scene {
-        let dark = kind == "dark";
-        let index: usize = if dark { 1 } else { kind.parse().expect("an index") };
+        let (dark, recorded) = (kind == "dark", kind == "recorded");
+        let index: usize = if dark || recorded { 1 } else { kind.parse().expect("an index") };
         let random = Random::new(13);
         let cells = size / 4;
         let room = |k: usize| (k > 0 && 4 * k >= REACH[index] && 4 * k + REACH[index] <= size) as u8;
@@ -77,7 +95,13 @@ impl Scene {
             qindex: (0..cells * cells).map(|_| if dark { 0 } else { random.size(120, 215) as u16 }).collect(),
             steps: rust::quant::steps(),
             samples: samples(&random, size),
+            recorded,
         }
+    }
+
+    /// A buffer that the record just fills; an empty one where none is written.
+    fn buffer(&self) -> Vec<u8> {
+        vec![0; if self.recorded { 5 + 10 * self.edges() } else { 0 }]
     }
 
     fn edges(&self) -> usize {
@@ -129,13 +153,42 @@ fn run_rust(s: &Scene, f: &mut Floats) {
     deblock_plane(black_box(&mut config), black_box(&layout), true, true);
 }
 
+/// Cells each way, stride, width and height, superblock size in cells, chroma, depth, both deltas.
+fn settings(s: &Scene) -> Vec<i32> {
+    [s.cells, s.cells, s.size, s.size, s.size, SUPERBLOCK, SUPERBLOCK, 0, DEPTH as usize, 0, 0].iter().map(|&n| n as i32).collect()
+}
+
 #[inline(never)]
-fn run_ours(s: &Scene, plane: &mut [u16]) {
-    // cells each way, stride, width and height, superblock size in cells, chroma, depth, both deltas
-    let numbers = [s.cells, s.cells, s.size, s.size, s.size, SUPERBLOCK, SUPERBLOCK, 0, DEPTH as usize, 0, 0];
-    let settings: Vec<i32> = numbers.iter().map(|&n| n as i32).collect();
-    let mut place = [0usize];
-    // SAFETY: each pointer is that of a live list, beside its length.
+fn run_recorded(s: &Scene, plane: &mut [u16], record: &mut [u8]) {
+    let settings = settings(s);
+    let (mut place, mut counts) = ([0usize], [0usize; 2]);
+    // SAFETY: each pointer is that of a live list, beside its length; so below.
+    let answer = unsafe {
+        bihargesh_record_plane(
+            plane.as_mut_ptr(), plane.len(),
+            record.as_mut_ptr(), record.len(),
+            s.vertical.as_ptr(), s.vertical.len(),
+            s.horizontal.as_ptr(), s.horizontal.len(),
+            s.sizes.as_ptr(), s.sizes.len(),
+            s.sizes.as_ptr(), s.sizes.len(),
+            s.qindex.as_ptr(), s.qindex.len(),
+            s.steps.as_ptr(), s.steps.len(),
+            settings.as_ptr(), settings.len(),
+            place.as_mut_ptr(), place.len(),
+            counts.as_mut_ptr(), counts.len(),
+        )
+    };
+    black_box(counts);
+    assert!(answer == record.len() as i32, "the record of {} bytes was answered by {answer} at {}", record.len(), place[0]);
+}
+
+#[inline(never)]
+fn run_ours(s: &Scene, plane: &mut [u16], record: &mut [u8]) {
+    if s.recorded {
+        return run_recorded(s, plane, record);
+    }
+    let settings = settings(s);
+    let (mut place, mut counts) = ([0usize], [0usize; 2]);
     let answer = unsafe {
         bihargesh_plane(
             plane.as_mut_ptr(), plane.len(),
@@ -147,8 +200,10 @@ fn run_ours(s: &Scene, plane: &mut [u16]) {
             s.steps.as_ptr(), s.steps.len(),
             settings.as_ptr(), settings.len(),
             place.as_mut_ptr(), place.len(),
+            counts.as_mut_ptr(), counts.len(),
         )
     };
+    black_box(counts);
     assert!(answer == 0, "the plane was refused by {} at {}", -answer, place[0]);
 }
 
@@ -156,12 +211,13 @@ fn run_ours(s: &Scene, plane: &mut [u16]) {
 fn once(s: &Scene, side: &str) {
     let mut floats = black_box(Floats::new(s));
     let mut plane = black_box(s.samples.clone());
+    let mut record = black_box(s.buffer());
     match side {
         "rust" => run_rust(s, &mut floats),
-        "ours" => run_ours(s, &mut plane),
+        "ours" => run_ours(s, &mut plane, &mut record),
         _ => {}
     }
-    black_box((&floats.samples, &plane));
+    black_box((&floats.samples, &plane, &record));
 }
 
 fn median(mut times: Vec<u128>) -> u128 {
@@ -181,17 +237,17 @@ fn time(s: &Scene) {
     for _ in 0..RUNS {
         let mut floats = Floats::new(s);
         theirs.push(nanoseconds(|| run_rust(s, &mut floats)));
-        let mut plane = s.samples.clone();
-        ours.push(nanoseconds(|| run_ours(s, &mut plane)));
+        let (mut plane, mut record) = (s.samples.clone(), s.buffer());
+        ours.push(nanoseconds(|| run_ours(s, &mut plane, &mut record)));
     }
     println!("{} {}", median(theirs), median(ours));
 }
 
 fn same(s: &Scene) {
     let mut floats = Floats::new(s);
-    let mut plane = s.samples.clone();
+    let (mut plane, mut record) = (s.samples.clone(), s.buffer());
     run_rust(s, &mut floats);
-    run_ours(s, &mut plane);
+    run_ours(s, &mut plane, &mut record);
     if let Some(at) = (0..plane.len()).find(|&i| plane[i] as f32 != floats.samples[i]) {
         eprintln!("the planes differ first at offset {at}: the Rust has {}, ours {}", floats.samples[at], plane[at]);
         exit(1);

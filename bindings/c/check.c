@@ -1,4 +1,4 @@
-/* Calls the functions of the static library from C and holds them to document 01's figures and refusals. */
+/* Calls the functions of the static library from C and holds them to document 01's figures and refusals, and to ticket 4's counts. */
 #include "bihargesh.h"
 #include <stdio.h>
 #include <string.h>
@@ -55,6 +55,7 @@ static void thresholds(void) {
 }
 
 static uint8_t window[144];
+static size_t counts[2];
 
 /* four lines, nine samples of a and nine of b */
 static void flat(unsigned a, unsigned b) {
@@ -74,26 +75,38 @@ static void segments(void) {
   static const unsigned uneven[18] = {100, 100, 100, 101, 101, 102, 103, 103, 104, 104, 105, 105, 106, 106, 107, 107, 108, 108};
   for (int i = 0; i < 5; i++) {
     flat(100, 108);
-    same("width at 18,18", bihargesh_segment(window, sizeof window, 8, 3, qs[i], 40), ws[i]);
+    same("width at 18,18", bihargesh_segment(window, sizeof window, 8, 3, qs[i], 40, counts, 2), ws[i]);
+    same("stored at 18,18", (long long)counts[0], 8 * ws[i]);
   }
   flat(100, 108);
-  same("width at 8,8", bihargesh_segment(window, sizeof window, 8, 1, 6, 40), 3);
+  same("width at 8,8", bihargesh_segment(window, sizeof window, 8, 1, 6, 40, counts, 2), 3);
   flat(100, 108);
-  bihargesh_segment(window, sizeof window, 8, 3, 8, 40);
+  bihargesh_segment(window, sizeof window, 8, 3, 8, 40, counts, 2);
   for (int j = 0; j < 4; j++)
     for (int k = 0; k < 18; k++) same("sample at 18,18", at(j, k), wide[k]);
+  same("changed at 18,18", (long long)counts[1], 56);
   flat(100, 108);
-  bihargesh_segment(window, sizeof window, 8, 4, 8, 40);
+  bihargesh_segment(window, sizeof window, 8, 4, 8, 40, counts, 2);
   for (int j = 0; j < 4; j++)
     for (int k = 0; k < 18; k++) same("sample at 14,18", at(j, k), uneven[k]);
+  same("stored at 14,18", (long long)counts[0], 4 * (6 + 8));
+  same("changed at 14,18", (long long)counts[1], 4 * (6 + 7));
   flat(100, 92);
-  bihargesh_segment(window, sizeof window, 8, 3, 3, 40);
+  bihargesh_segment(window, sizeof window, 8, 3, 3, 40, counts, 2);
   same("p0 of 100 | 92", at(0, 8), 97);
   same("q0 of 100 | 92", at(3, 9), 95);
 }
 
+/* A refusal counts none; the list then holds other numbers again. */
+static void none(const char *what) {
+  same(what, (long long)counts[0], 0);
+  same(what, (long long)counts[1], 0);
+  counts[0] = counts[1] = 99;
+}
+
 static void refused(const char *what, int32_t got, int32_t want, const uint8_t *before) {
   same(what, got, want);
+  none(what);
   same("the window as lent", memcmp(window, before, sizeof window), 0);
 }
 
@@ -101,17 +114,33 @@ static void refusals(void) {
   uint8_t before[144];
   flat(100, 300);
   memcpy(before, window, sizeof window);
-  refused("depth 11", bihargesh_segment(window, sizeof window, 11, 3, 8, 40), -1, before);
-  refused("143 bytes", bihargesh_segment(window, 143, 8, 3, 8, 40), -3, before);
-  refused("pair 8", bihargesh_segment(window, sizeof window, 8, 8, 8, 40), -5, before);
-  refused("q 2049", bihargesh_segment(window, sizeof window, 8, 3, 2049, 40), -5, before);
-  refused("side 840", bihargesh_segment(window, sizeof window, 8, 3, 8, 840), -5, before);
-  refused("sample 300", bihargesh_segment(window, sizeof window, 8, 3, 8, 40), -8, before);
-  same("300 at depth 10", bihargesh_segment(window, sizeof window, 10, 3, 0, 40), 0);
+  refused("depth 11", bihargesh_segment(window, sizeof window, 11, 3, 8, 40, counts, 2), -1, before);
+  refused("143 bytes", bihargesh_segment(window, 143, 8, 3, 8, 40, counts, 2), -3, before);
+  refused("pair 8", bihargesh_segment(window, sizeof window, 8, 8, 8, 40, counts, 2), -5, before);
+  refused("q 2049", bihargesh_segment(window, sizeof window, 8, 3, 2049, 40, counts, 2), -5, before);
+  refused("side 840", bihargesh_segment(window, sizeof window, 8, 3, 8, 840, counts, 2), -5, before);
+  refused("sample 300", bihargesh_segment(window, sizeof window, 8, 3, 8, 40, counts, 2), -8, before);
+  same("300 at depth 10", bihargesh_segment(window, sizeof window, 10, 3, 0, 40, counts, 2), 0);
+  none("300 at depth 10");
   flat(100, 108);
   window[1] = 255;
   memcpy(before, window, sizeof window);
-  same("p8 lies beyond every reach", bihargesh_segment(window, sizeof window, 8, 0, 0, 40), 0);
+  same("p8 lies beyond every reach", bihargesh_segment(window, sizeof window, 8, 0, 0, 40, counts, 2), 0);
+}
+
+/* Counts go as far as their list does. */
+static void short_counts(void) {
+  size_t list[3] = {7, 8, 9};
+  flat(100, 108);
+  same("no counts wanted", bihargesh_segment(window, sizeof window, 8, 3, 8, 40, NULL, 0), 8);
+  flat(100, 108);
+  same("one count wanted", bihargesh_segment(window, sizeof window, 8, 3, 8, 40, list, 1), 8);
+  same("stored alone", list[0] == 64 && list[1] == 8, 1);
+  flat(100, 100);
+  same("a flat window", bihargesh_segment(window, sizeof window, 8, 3, 8, 40, list, 3), 8);
+  same("stored, none changed, and an entry beyond", list[0] == 64 && list[1] == 0 && list[2] == 9, 1);
+  same("a refusal with one count", bihargesh_segment(window, sizeof window, 9, 3, 8, 40, list, 1), -1);
+  same("zero alone", list[0] == 0 && list[1] == 0 && list[2] == 9, 1);
 }
 
 #define LEN(list) (sizeof(list) / sizeof(list)[0])
@@ -151,12 +180,13 @@ static void plane_anew(void) {
 
 static int32_t run_plane(size_t settings_len) {
   return bihargesh_plane(plane, LEN(plane), vedge, LEN(vedge), hedge, LEN(hedge), sizes, LEN(sizes), sizes, LEN(sizes), qindex, LEN(qindex),
-                         table, LEN(table), plane_settings, settings_len, place, 1);
+                         table, LEN(table), plane_settings, settings_len, place, 1, counts, 2);
 }
 
 static void refused_plane(const char *what, size_t settings_len, int32_t want, size_t at) {
   memcpy(lent, plane, sizeof plane);
   same(what, run_plane(settings_len), want);
+  none(what);
   same(what, (long long)place[0], (long long)at);
   same("the plane as lent", memcmp(plane, lent, sizeof plane), 0);
   plane_anew();
@@ -167,6 +197,8 @@ static void planes(void) {
   plane_anew();
   same("plane", run_plane(11), 0);
   same("place as lent", (long long)place[0], 77);
+  same("stored in a plane", (long long)counts[0], 64);
+  same("changed in a plane", (long long)counts[1], 56);
   for (int k = 0; k < 96; k++) same("sample of a plane", plane[k], k % 24 < 18 ? wide[k % 24] : 108);
   plane_anew();
   refused_plane("ten numbers", 10, -BIHARGESH_BAD_LENGTH, 0);
@@ -203,7 +235,7 @@ static void planes(void) {
   plane_settings[8] = 9;
   same("no place wanted",
        bihargesh_plane(plane, LEN(plane), vedge, LEN(vedge), hedge, LEN(hedge), sizes, LEN(sizes), sizes, LEN(sizes), qindex, LEN(qindex), table,
-                       LEN(table), plane_settings, 11, NULL, 0),
+                       LEN(table), plane_settings, 11, NULL, 0, NULL, 0),
        -1);
 }
 
@@ -213,13 +245,14 @@ static uint8_t record[16], record_lent[16];
 
 static int32_t record_plane(uint8_t *into, size_t room, size_t settings_len) {
   return bihargesh_record_plane(plane, LEN(plane), into, room, vedge, LEN(vedge), hedge, LEN(hedge), sizes, LEN(sizes), sizes, LEN(sizes), qindex,
-                                LEN(qindex), table, LEN(table), plane_settings, settings_len, place, 1);
+                                LEN(qindex), table, LEN(table), plane_settings, settings_len, place, 1, counts, 2);
 }
 
 static void refused_record(const char *what, size_t room, size_t settings_len, int32_t want, size_t at) {
   memcpy(lent, plane, sizeof plane);
   memcpy(record_lent, record, sizeof record);
   same(what, record_plane(record, room, settings_len), want);
+  none(what);
   same(what, (long long)place[0], (long long)at);
   same("the plane as lent", memcmp(plane, lent, sizeof plane), 0);
   same("the record as lent", memcmp(record, record_lent, sizeof record), 0);
@@ -232,6 +265,7 @@ static void records(void) {
   plane_anew();
   memset(record, 9, sizeof record);
   same("a record of one edge", record_plane(record, 16, 11), 15);
+  same("stored and changed with a record", counts[0] == 64 && counts[1] == 56, 1);
   same("its bytes", memcmp(record, want, sizeof want), 0);
   same("place as lent", (long long)place[0], 77);
   memcpy(lent, plane, sizeof plane);
@@ -276,12 +310,13 @@ static void again_anew(void) {
 }
 
 static int32_t run_again(size_t length, size_t settings_len) {
-  return bihargesh_replay(plane, LEN(plane), again, length, replay_settings, settings_len, place, 1);
+  return bihargesh_replay(plane, LEN(plane), again, length, replay_settings, settings_len, place, 1, counts, 2);
 }
 
 static void refused_again(const char *what, size_t length, size_t settings_len, int32_t want, size_t at) {
   memcpy(lent, plane, sizeof plane);
   same(what, run_again(length, settings_len), want);
+  none(what);
   same(what, (long long)place[0], (long long)at);
   same("the plane as lent", memcmp(plane, lent, sizeof plane), 0);
   again_anew();
@@ -290,6 +325,7 @@ static void refused_again(const char *what, size_t length, size_t settings_len, 
 static void replays(void) {
   again_anew();
   same("the record of one edge", run_again(15, 4), 0);
+  same("stored and changed by a record", counts[0] == 64 && counts[1] == 56, 1);
   same("place as lent", (long long)place[0], 77);
   memcpy(lent, plane, sizeof plane);
   again_anew();
@@ -298,6 +334,7 @@ static void replays(void) {
   again_anew();
   memcpy(lent, plane, sizeof plane);
   same("a header alone", run_again(5, 4), 0);
+  none("a header alone");
   same("the plane as lent", memcmp(plane, lent, sizeof plane), 0);
   same("an edge twice", run_again(35, 4), 0);
   again_anew();
@@ -429,7 +466,7 @@ static int32_t run_frame(const int32_t *settings, size_t settings_len) {
   v[5] = 109;
   return bihargesh_frame(luma, LEN(luma), u, LEN(u), v, LEN(v), luma_grid[0], 12, luma_grid[1], 12, luma_grid[2], 12, luma_grid[3], 12, blocks_of,
                          LEN(blocks_of), chroma_grid[0], 8, chroma_grid[1], 8, chroma_grid[2], 8, chroma_grid[3], 8, chroma_blocks_of,
-                         LEN(chroma_blocks_of), table, LEN(table), blocks, 1, leaves, 8, leaves, 8, NULL, 0, settings, settings_len, place, 1);
+                         LEN(chroma_blocks_of), table, LEN(table), blocks, 1, leaves, 8, leaves, 8, NULL, 0, settings, settings_len, place, 1, counts, 2);
 }
 
 static void frames(void) {
@@ -437,22 +474,31 @@ static void frames(void) {
   static const int32_t luma_numbers[11] = {6, 2, 24, 24, 8, 16, 16, 0, 8, 0, 0}, chroma_numbers[11] = {4, 2, 16, 12, 4, 8, 8, 1, 8, 0, 0};
   uint16_t one[192], other[128];
   int32_t bad[15];
+  size_t of_frame[2], of_planes[2] = {0, 0};
   same("frame", run_frame(numbers, 15), 0);
+  memcpy(of_frame, counts, sizeof counts);
   for (int k = 0; k < 192; k++) one[k] = k % 24 < 8 ? 100 : 108;
-  for (int k = 0; k < 128; k++) other[k] = k % 16 < 4 ? 100 : 108;
-  other[5] = 109;
   same("luma alone", bihargesh_plane(one, 192, luma_grid[0], 12, luma_grid[1], 12, luma_grid[2], 12, luma_grid[3], 12, blocks_of, 12, table, 352,
-                                     luma_numbers, 11, place, 1), 0);
-  same("v alone", bihargesh_plane(other, 128, chroma_grid[0], 8, chroma_grid[1], 8, chroma_grid[2], 8, chroma_grid[3], 8, chroma_blocks_of, 8, table,
-                                  352, chroma_numbers, 11, place, 1), 0);
+                                     luma_numbers, 11, place, 1, counts, 2), 0);
+  for (int n = 0; n < 2; n++) of_planes[n] += counts[n];
+  for (int which = 0; which < 2; which++) {
+    for (int k = 0; k < 128; k++) other[k] = k % 16 < 4 ? 100 : 108;
+    if (which == 1) other[5] = 109;
+    same("u or v alone", bihargesh_plane(other, 128, chroma_grid[0], 8, chroma_grid[1], 8, chroma_grid[2], 8, chroma_grid[3], 8, chroma_blocks_of, 8,
+                                         table, 352, chroma_numbers, 11, place, 1, counts, 2), 0);
+    for (int n = 0; n < 2; n++) of_planes[n] += counts[n];
+  }
+  same("a frame's counts are its planes'", memcmp(of_frame, of_planes, sizeof of_frame), 0);
   same("luma as alone", memcmp(luma, one, sizeof one), 0);
   same("v as alone", memcmp(v, other, sizeof other), 0);
   same("luma was filtered", luma[7] > 100 && luma[8] < 108, 1);
   same("u was filtered", u[3] > 100 && u[4] < 108, 1);
   same("fourteen numbers", run_frame(numbers, 14), -BIHARGESH_BAD_LENGTH);
+  none("fourteen numbers");
   memcpy(bad, numbers, sizeof bad);
   bad[5] = 2;
   same("chroma_deblock 2", run_frame(bad, 15), -2);
+  none("chroma_deblock 2");
   bad[6] = 9;
   same("depth 9", run_frame(bad, 15), -1);
   same("luma as lent", luma[7], 100);
@@ -460,9 +506,11 @@ static void frames(void) {
   bad[4] = 0;
   bad[10] = -1;
   same("no chroma", run_frame(bad, 15), 0);
+  same("stored without chroma", counts[0] < of_frame[0], 1);
   same("u as lent", u[3], 100);
   bad[13] = 3;
   same("chroma's cap still counts", run_frame(bad, 15), -5);
+  none("chroma's cap");
 }
 
 /* ---- offsets: document 01's c = 600 at depth 10 with b 2 and classes 2, 1 */
@@ -522,6 +570,7 @@ int main(void) {
   thresholds();
   segments();
   refusals();
+  short_counts();
   planes();
   records();
   replays();

@@ -27,7 +27,7 @@ int main(void) {
       [BIHARGESH_FRAME_DEPTH] = 8,            [BIHARGESH_FRAME_LUMA_STRIDE] = SIZE,     [BIHARGESH_FRAME_CHROMA_STRIDE] = CHROMA,
       [BIHARGESH_FRAME_CAP_WIDTH] = 4,        [BIHARGESH_FRAME_CAP_HEIGHT] = 4,         [BIHARGESH_FRAME_CHROMA_CAP_WIDTH] = 4,
       [BIHARGESH_FRAME_CHROMA_CAP_HEIGHT] = 4};
-  size_t place = 0;
+  size_t place = 0, counts[2];
   halves(y, SIZE);
   halves(u, CHROMA);
   halves(v, CHROMA);
@@ -35,7 +35,8 @@ int main(void) {
   int32_t answer = bihargesh_frame(
       y, SIZE * SIZE, u, CHROMA * CHROMA, v, CHROMA * CHROMA, luma.vedge, CELLS, luma.hedge, CELLS, luma.sqw, CELLS, luma.sqh, CELLS,
       luma.qindex, CELLS, chroma.vedge, CHROMA_CELLS, chroma.hedge, CHROMA_CELLS, chroma.sqw, CHROMA_CELLS, chroma.sqh, CHROMA_CELLS,
-      chroma.qindex, CHROMA_CELLS, steps, 352, superblocks, 1, leaves, 4, leaves, 4, NULL, 0, settings, BIHARGESH_FRAME_SETTINGS, &place, 1);
+      chroma.qindex, CHROMA_CELLS, steps, 352, superblocks, 1, leaves, 4, leaves, 4, NULL, 0, settings, BIHARGESH_FRAME_SETTINGS, &place, 1,
+      counts, 2);
   if (answer != 0) {
     printf("the frame: refused by %d at place %zu\n", -answer, place);
     return 1;
@@ -44,6 +45,7 @@ int main(void) {
   for (int k = SIZE / 2 - 4; k < SIZE / 2 + 4; k++) printf(" %d", y[k]);
   printf(", u");
   for (int k = CHROMA / 2 - 4; k < CHROMA / 2 + 4; k++) printf(" %d", u[k]);
-  printf("\n");
+  printf("; %zu samples stored, %zu of them changed\n", counts[0], counts[1]);
+  if (counts[1] == 0 || counts[1] > counts[0]) return 1;
   return y[SIZE / 2 - 1] > 100 && y[SIZE / 2] < 108 && u[CHROMA / 2 - 1] > 100 && v[CHROMA / 2] < 108 ? 0 : 1;
 }

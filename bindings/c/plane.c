@@ -15,34 +15,36 @@ static int said(const char *what, int32_t answer, size_t place) {
   return answer;
 }
 
-static int32_t deblock(size_t *place) {
+static int32_t deblock(size_t *place, size_t counts[2]) {
   const int32_t settings[BIHARGESH_PLANE_SETTINGS] = {
       [BIHARGESH_PLANE_COLS] = COLS,        [BIHARGESH_PLANE_ROWS] = ROWS,        [BIHARGESH_PLANE_STRIDE] = STRIDE,
       [BIHARGESH_PLANE_WIDTH] = STRIDE,     [BIHARGESH_PLANE_HEIGHT] = 4 * ROWS,  [BIHARGESH_PLANE_SB_WIDTH] = 16,
       [BIHARGESH_PLANE_SB_HEIGHT] = 16,     [BIHARGESH_PLANE_CHROMA] = 0,         [BIHARGESH_PLANE_DEPTH] = 8};
   return bihargesh_plane(plane, SAMPLES, vedge, CELLS, hedge, CELLS, sqw, CELLS, sqh, CELLS, qindex, CELLS, steps, 352, settings,
-                         BIHARGESH_PLANE_SETTINGS, place, 1);
+                         BIHARGESH_PLANE_SETTINGS, place, 1, counts, 2);
 }
 
 int main(void) {
   /* one leaf of 8 by 8 cells, cut into TUs of 4 by 4 cells; one superblock, of qindex 200 */
   const uint16_t leaves[4] = {0, 0, 8, 8}, superblocks[1] = {200};
   const int32_t tx[6] = {COLS, ROWS, 0, 0, 4, 4}, q[5] = {COLS, ROWS, 0, 0, 1};
-  size_t place = 0;
+  size_t place = 0, counts[2];
   if (said("the TU grid", bihargesh_tx_grid(leaves, 4, NULL, 0, vedge, CELLS, hedge, CELLS, sqw, CELLS, sqh, CELLS, tx, 6, &place, 1), place)) return 1;
   if (said("the qindex grid", bihargesh_qindex_grid(superblocks, 1, qindex, CELLS, q, 5, &place, 1), place)) return 1;
 
   /* 100 in the left half, 108 in the right */
   for (int k = 0; k < SAMPLES; k++) plane[k] = k % STRIDE < STRIDE / 2 ? 100 : 108;
   if (said("the steps", bihargesh_steps(steps, 352), place)) return 1;
-  if (said("the plane", deblock(&place), place)) return 1;
+  if (said("the plane", deblock(&place, counts), place)) return 1;
   printf("C, a plane:");
   for (int k = 8; k < 24; k++) printf(" %d", plane[k]);
-  printf("\n");
+  printf("; %zu samples stored, %zu of them changed\n", counts[0], counts[1]);
+  if (counts[1] == 0 || counts[1] > counts[0]) return 1;
   if (plane[15] <= 100 || plane[16] >= 108) return 1;
 
-  /* a sample that is too large is refused with its place, and the plane stays as it was */
+  /* a sample that is too large is refused with its place, the plane stays as it was, and none are counted */
   plane[70] = 256;
   memcpy(lent, plane, sizeof lent);
-  return deblock(&place) == -BIHARGESH_BAD_SAMPLE && place == 70 && memcmp(lent, plane, sizeof lent) == 0 ? 0 : 1;
+  if (deblock(&place, counts) != -BIHARGESH_BAD_SAMPLE || place != 70 || counts[0] != 0 || counts[1] != 0) return 1;
+  return memcmp(lent, plane, sizeof lent) == 0 ? 0 : 1;
 }

@@ -13,6 +13,7 @@ enum { COLS = 12, ROWS = 8, CELLS = COLS * ROWS, WIDTH = 4 * COLS, HEIGHT = 4 * 
 static const char *folder;
 static uint16_t plane[SAMPLES];
 static uint8_t record[ROOM], bytes[ROOM];
+static size_t counts[2];
 
 /* A file of the folder as bytes; how many there are, or 0 where it can't be read or written. */
 static size_t file(const char *name, const char *mode, uint8_t *list, size_t count) {
@@ -58,7 +59,7 @@ static int32_t record_plane(void) {
   if (bihargesh_tx_grid(leaves, 12, NULL, 0, vedge, CELLS, hedge, CELLS, sqw, CELLS, sqh, CELLS, tx, 6, NULL, 0) != 0) return -1;
   if (bihargesh_qindex_grid(superblocks, 1, qindex, CELLS, q, 5, NULL, 0) != 0 || bihargesh_steps(steps, 352) != 0) return -1;
   return bihargesh_record_plane(plane, SAMPLES, record, ROOM, vedge, CELLS, hedge, CELLS, sqw, CELLS, sqh, CELLS, qindex, CELLS, steps, 352, settings,
-                                BIHARGESH_PLANE_SETTINGS, NULL, 0);
+                                BIHARGESH_PLANE_SETTINGS, NULL, 0, counts, 2);
 }
 
 /* The folder's files by a run here. */
@@ -74,17 +75,16 @@ static int write_files(void) {
 static int check_files(void) {
   static uint16_t before[SAMPLES], after[SAMPLES];
   const int32_t settings[BIHARGESH_REPLAY_SETTINGS] = {COLS, ROWS, WIDTH, 8};
-  size_t length = file("record.edg", "rb", bytes, ROOM);
+  size_t again[2], length = file("record.edg", "rb", bytes, ROOM);
   if (!picture("before.pgm", 0, before) || !picture("after.pgm", 0, after) || length < 5) return printf("the folder's files are not whole\n"), 1;
   memcpy(plane, before, sizeof plane);
-  if (bihargesh_replay(plane, SAMPLES, bytes, length, settings, BIHARGESH_REPLAY_SETTINGS, NULL, 0) != 0) return printf("the record was refused\n"), 1;
+  if (bihargesh_replay(plane, SAMPLES, bytes, length, settings, BIHARGESH_REPLAY_SETTINGS, NULL, 0, again, 2) != 0) return printf("the record was refused\n"), 1;
   if (memcmp(plane, after, sizeof plane) != 0) return printf("the record that is run again gives another plane\n"), 1;
   memcpy(plane, before, sizeof plane);
   if (record_plane() != (int32_t)length || memcmp(record, bytes, length) != 0) return printf("the plane's record is another\n"), 1;
   if (memcmp(plane, after, sizeof plane) != 0) return printf("the recorded run gives another plane\n"), 1;
-  int changed = 0;
-  for (int k = 0; k < SAMPLES; k++) changed += before[k] != after[k];
-  printf("C, a record of another machine: %zu edges run again, %d samples changed\n", (length - 5) / 10, changed);
+  if (memcmp(counts, again, sizeof counts) != 0) return printf("the record that is run again has other counts\n"), 1;
+  printf("C, a record of another machine: %zu edges run again, %zu samples stored, %zu of them changed\n", (length - 5) / 10, counts[0], counts[1]);
   return 0;
 }
 

@@ -2,10 +2,10 @@
 
 use crate::grid::{self, size, SUBSAMPLINGS};
 use crate::line::Line;
-use crate::plane::tuples;
+use crate::plane::{self, tuples};
 use crate::random::Random;
 use crate::refusals::{self, Layout};
-use crate::rust::deblock::{self, Frame, Marks};
+use crate::rust::deblock::{self, Counts, Frame, Marks};
 use crate::thresholds::{delta, DEPTHS};
 use crate::{damage, picture, rust, made::Made};
 
@@ -63,6 +63,29 @@ impl Case {
         Grid {
             marks: deblock::tx_grid(&tuples(leaves), &tuples(&self.skips), size(cells), size(sub), size(cap)),
             qindex: deblock::qindex_grid(&self.entries, sb_cols, size(cells), size(sub)),
+        }
+    }
+
+    /// One of the planes as a case of its own, over the grid that is built for it.
+    fn alone(&self, k: usize) -> plane::Case {
+        let chroma = k > 0;
+        let built = self.build(chroma);
+        let (size, cells) = (self.layout(&built, chroma).size, if chroma { self.chroma_cells() } else { self.luma_cells() });
+        let sub = if chroma { self.sub } else { (0, 0) };
+        let delta = if chroma { self.deltas.1 } else { self.deltas.0 };
+        plane::Case {
+            cells,
+            stride: if chroma { self.strides.1 } else { self.strides.0 },
+            size,
+            superblock: (16 >> sub.0, 16 >> sub.1),
+            chroma,
+            depth: self.depth,
+            delta_q: delta,
+            delta_side: delta,
+            marks: built.marks,
+            qindex: built.qindex,
+            plane: self.planes[k].clone(),
+            steps: self.steps.clone(),
         }
     }
 
@@ -136,7 +159,28 @@ fn good(random: &Random) -> Case {
     };
     fill_luma(random, &mut c);
     fill_chroma(random, &mut c);
+    match random.below(12) {
+        0 => light(random, &mut c, |random, stride, n, depth| picture::still(random, stride, n, depth, 0)),
+        1 => light(random, &mut c, picture::saturated),
+        _ => (),
+    }
     c
+}
+
+/// Planes of a kind, with both thresholds of every edge on.
+fn light(random: &Random, c: &mut Case, plane: fn(&Random, usize, usize, u64) -> Vec<u16>) {
+    c.entries.iter_mut().for_each(|q| *q = picture::lit(random));
+    c.deltas = (0, 0);
+    redraw(random, c, plane);
+}
+
+/// Every plane that is lent, drawn anew.
+fn redraw(random: &Random, c: &mut Case, plane: fn(&Random, usize, usize, u64) -> Vec<u16>) {
+    for (k, stride) in [c.strides.0, c.strides.1, c.strides.1].into_iter().enumerate() {
+        if !c.planes[k].is_empty() {
+            c.planes[k] = plane(random, stride as usize, c.planes[k].len(), c.depth);
+        }
+    }
 }
 
 fn fill_luma(random: &Random, c: &mut Case) {
@@ -257,11 +301,7 @@ pub fn make(random: &Random, refused: bool, _: Option<&[u32]>) -> Made {
 /// As `make`, on pictures of bins.
 pub fn make_bins(random: &Random, refused: bool, _: Option<&[u32]>) -> Made {
     let mut c = good(random);
-    for (k, stride) in [c.strides.0, c.strides.1, c.strides.1].into_iter().enumerate() {
-        if !c.planes[k].is_empty() {
-            c.planes[k] = picture::bin(random, stride as usize, c.planes[k].len(), c.depth);
-        }
-    }
+    redraw(random, &mut c, picture::bin);
     finished(random, refused, c)
 }
 
@@ -291,6 +331,18 @@ fn filtered(c: &Case) -> [Vec<u16>; 3] {
         skips: &skips,
     };
     deblock::frame(&frame, &c.planes)
+}
+
+/// The Rust's planes, and its stores: those of each filtered plane, which must be the same when it is run alone over the built grid.
+fn watched(c: &Case) -> ([Vec<u16>; 3], Counts) {
+    let planes = filtered(c);
+    let mut counts = Counts::default();
+    for k in 0..if c.uses_chroma() { 3 } else { 1 } {
+        let (plane, more) = plane::filtered(&c.alone(k));
+        assert!(plane == planes[k], "a plane of a frame is another when it is run alone");
+        counts.add(more);
+    }
+    (planes, counts)
 }
 
 fn write_grid(line: &mut Line, g: &Grid) {
@@ -324,19 +376,17 @@ fn answered(c: Case) -> Made {
     }
     write_grid(&mut line, &c.luma_grid);
     write_grid(&mut line, &c.chroma_grid);
+    let done = refusal.is_none().then(|| watched(&c));
+    let counts = done.as_ref().map(|d| d.1);
     let (no, place) = refusal.map_or((0, 0), |r| (r.no, r.place));
-    line.unsigned(&[no, place]);
-    let mut changed = false;
-    if refusal.is_none() {
-        let planes = filtered(&c);
-        changed = planes != c.planes;
-        for plane in &planes {
-            line.entries(plane);
-        }
+    line.unsigned(&[no, place]).unsigned(&counts.map_or([0, 0], |n| [n.stored, n.changed]));
+    let changed = done.as_ref().is_some_and(|d| d.0 != c.planes);
+    for plane in done.iter().flat_map(|d| &d.0) {
+        line.entries(plane);
     }
     if refusal.is_none_or(|r| r.no == 7 || r.no == 8) {
         write_built(&mut line, &c, false);
         write_built(&mut line, &c, true);
     }
-    Made { line, refusal, width: None, changed, steps: Some(c.steps) }
+    Made { line, refusal, width: None, changed, counts, steps: Some(c.steps) }
 }

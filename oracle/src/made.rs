@@ -3,6 +3,7 @@
 use crate::line::Line;
 use crate::random::Random;
 use crate::refusals::Refusal;
+use crate::rust::deblock::Counts;
 
 /// A case with its answer.
 pub struct Made {
@@ -11,6 +12,8 @@ pub struct Made {
     pub width: Option<usize>,
     /// Whether some lent sample or grid entry ends otherwise than it was.
     pub changed: bool,
+    /// What an accepted case of a filter stores.
+    pub counts: Option<Counts>,
     /// The step table that the case is asked with, where its part has one.
     pub steps: Option<Vec<u32>>,
 }

@@ -68,7 +68,7 @@ fn run(make: Make, n: u64, seed: u64, only: Option<bool>, out: &mut impl Write) 
     while left > 0 {
         let refused = only.unwrap_or_else(|| random.once_in(3));
         let made = make(&random, refused, last.as_deref());
-        last = made.steps.clone();
+        last.clone_from(&made.steps);
         if only.is_some_and(|wanted| wanted != made.refusal.is_some()) {
             continue;
         }
@@ -76,11 +76,11 @@ fn run(make: Make, n: u64, seed: u64, only: Option<bool>, out: &mut impl Write) 
             let steps = made.steps.as_deref().unwrap_or(&[]);
             out.write_all(&Line::new(1).list(steps).text())?;
             out.write_all(b"\n")?;
-            written = made.steps;
+            written.clone_from(&made.steps);
         }
         out.write_all(&made.line.text())?;
         out.write_all(b"\n")?;
-        summary.count(made.refusal, made.width, made.changed);
+        summary.count(&made);
         left -= 1;
     }
     out.flush()?;

@@ -108,6 +108,37 @@ pub fn samples(random: &Random, stride: usize, rows: usize, depth: u64, spare: u
     plane
 }
 
+/// A plane that filtering leaves as it is though every edge stores: one level, or cells that are a step of 1 apart. The list has `n` samples in rows of `stride`.
+pub fn still(random: &Random, stride: usize, n: usize, depth: u64, step: u16) -> Vec<u16> {
+    let top = refusals::top(depth) as u16;
+    let level = random.one_of(&[0, 1, top / 2, top - 1, random.below(top as u64) as u16]);
+    (0..n).map(|i| level + step * (((i / stride) / 4 + (i % stride) / 4) % 2) as u16).collect()
+}
+
+/// Blocks at the ends of the range: each at 0 or top or a little inside, level or leaning, so that what an edge would store often lies beyond the range.
+pub fn saturated(random: &Random, stride: usize, n: usize, depth: u64) -> Vec<u16> {
+    let top = refusals::top(depth) as i64;
+    let unit = 1i64 << (depth - 8);
+    let block = random.one_of(&[4, 8, 16]);
+    let across = stride.div_ceil(block);
+    let (end, both) = (random.once_in(2), random.once_in(3));
+    let blocks: Vec<(bool, i64, i64)> = (0..across * n.div_ceil(stride).div_ceil(block))
+        .map(|_| (end != (both && random.once_in(3)), random.one_of(&[0, 0, 1, unit, 3 * unit]), random.within(-1, 1)))
+        .collect();
+    let sample = |i: usize| {
+        let (y, x) = (i / stride, i % stride);
+        let (high, inside, lean) = blocks[y / block * across + x / block];
+        let from_end = (inside + lean * (x % block + y % block) as i64).clamp(0, top);
+        if high { top - from_end } else { from_end }
+    };
+    (0..n).map(|i| sample(i) as u16).collect()
+}
+
+/// A qindex at which both thresholds are on, at every depth and without deltas.
+pub fn lit(random: &Random) -> u16 {
+    random.size(170, 250) as u16
+}
+
 /// A bin on the scale as a coder leaves it: light that falls off over the picture, round fruit, each block at a coarse level of its own, and
 /// over these a bright tag with thin dark bars. The list has `n` samples in rows of `stride`.
 pub fn bin(random: &Random, stride: usize, n: usize, depth: u64) -> Vec<u16> {

@@ -3,9 +3,9 @@
 use crate::line::Line;
 use crate::random::Random;
 use crate::refusals::{self, Layout};
-use crate::rust::deblock::{self, Leaf, Marks, Settings};
+use crate::rust::deblock::{self, Counts, Leaf, Marks, Settings};
 use crate::thresholds::{delta, DEPTHS};
-use crate::{damage, picture, rust, made::Made};
+use crate::{damage, made::Made, picture, record, replay, rust};
 
 pub struct Case {
     pub cells: (u64, u64),
@@ -126,9 +126,37 @@ fn good(random: &Random) -> Case {
         plane: picture::samples(random, stride as usize, 4 * cells.1 as usize, depth, spare),
         steps: rust::quant::steps(),
     };
+    match random.below(12) {
+        0 => still(random, &mut c),
+        1 => saturate(random, &mut c),
+        _ => (),
+    }
     lengthen(random, &mut c.marks);
     wild_padding(random, &mut c);
     c
+}
+
+/// Both thresholds of every edge are on.
+fn light(random: &Random, c: &mut Case) {
+    c.qindex.iter_mut().for_each(|q| *q = picture::lit(random));
+    (c.delta_q, c.delta_side) = (0, 0);
+}
+
+/// Every edge stores, and no store changes its sample; a step of 1 is too small for the narrowest blocks.
+fn still(random: &Random, c: &mut Case) {
+    let step = random.below(2) as u16;
+    if step == 1 {
+        c.marks.width.fill(0);
+        c.marks.height.fill(0);
+    }
+    light(random, c);
+    c.plane = picture::still(random, c.stride as usize, c.plane.len(), c.depth, step);
+}
+
+/// Samples at both ends of the range.
+fn saturate(random: &Random, c: &mut Case) {
+    light(random, c);
+    c.plane = picture::saturated(random, c.stride as usize, c.plane.len(), c.depth);
 }
 
 /// Lists longer than needed, with anything in what is not used.
@@ -223,7 +251,7 @@ pub fn make_dark(random: &Random, refused: bool, _: Option<&[u32]>) -> Made {
         c.plane[(y * c.stride + x) as usize] = random.one_of(&[refusals::top(c.depth) + 1, 65535]) as u16;
     }
     let made = answered(c);
-    assert!(!made.changed, "a dark plane was changed");
+    assert!(!made.changed && made.counts.is_none_or(|counts| counts.stored == 0), "a dark plane was stored to");
     made
 }
 
@@ -254,14 +282,22 @@ pub fn asked(c: &Case, kind: u64) -> Line {
     line
 }
 
+/// The Rust's plane, and its stores: those of its segments in document 01's order, which must leave the same plane.
+pub fn filtered(c: &Case) -> (Vec<u16>, Counts) {
+    let plane = deblock::plane(&c.settings(), &c.marks, &c.qindex, &c.plane);
+    let (seen, counts) = replay::run(record::entries(c), c.stride, c.depth, &c.plane);
+    assert!(seen == plane, "the segments that were watched left another plane");
+    (plane, counts)
+}
+
 fn answered(c: Case) -> Made {
     let refusal = refusals::of_plane(&c);
     let mut line = asked(&c, 2);
     if let Some(r) = refusal {
-        line.unsigned(&[r.no, r.place]);
-        return Made { line, refusal, width: None, changed: false, steps: Some(c.steps) };
+        line.unsigned(&[r.no, r.place, 0, 0]);
+        return Made { line, refusal, width: None, changed: false, counts: None, steps: Some(c.steps) };
     }
-    let plane = deblock::plane(&c.settings(), &c.marks, &c.qindex, &c.plane);
-    line.unsigned(&[0, 0]).entries(&plane);
-    Made { line, refusal, width: None, changed: plane != c.plane, steps: Some(c.steps) }
+    let (plane, counts) = filtered(&c);
+    line.unsigned(&[0, 0, counts.stored, counts.changed]).entries(&plane);
+    Made { line, refusal, width: None, changed: plane != c.plane, counts: Some(counts), steps: Some(c.steps) }
 }

@@ -84,12 +84,12 @@ fn recorded(c: plane::Case, refusal: Option<Refusal>, written: Vec<u8>, buffer: 
     let mut line = plane::asked(&c, 3);
     line.list(&buffer);
     if let Some(r) = refusal {
-        line.unsigned(&[r.no, r.place]);
-        return Made { line, refusal, width: None, changed: false, steps: Some(c.steps) };
+        line.unsigned(&[r.no, r.place, 0, 0]);
+        return Made { line, refusal, width: None, changed: false, counts: None, steps: Some(c.steps) };
     }
-    let plane = deblock::plane(&c.settings(), &c.marks, &c.qindex, &c.plane);
+    let (plane, counts) = plane::filtered(&c);
     let mut after = buffer;
     after[..written.len()].copy_from_slice(&written);
-    line.unsigned(&[0, written.len() as u64]).entries(&plane).entries(&after);
-    Made { line, refusal, width: None, changed: plane != c.plane, steps: Some(c.steps) }
+    line.unsigned(&[0, written.len() as u64, counts.stored, counts.changed]).entries(&plane).entries(&after);
+    Made { line, refusal, width: None, changed: plane != c.plane, counts: Some(counts), steps: Some(c.steps) }
 }

@@ -5,7 +5,7 @@ use crate::plane;
 use crate::random::Random;
 use crate::record::{record, Entry};
 use crate::refusals::{self, has_room, Edge, Refusal, PAIRS};
-use crate::rust::deblock::{self, Span};
+use crate::rust::deblock::{Counts, Span, Watched};
 use crate::thresholds::DEPTHS;
 use crate::{damage, made::Made, picture};
 
@@ -133,25 +133,33 @@ pub fn make(random: &Random, refused: bool, _: Option<&[u32]>) -> Made {
         bytes: record(&edges(random, cells, refused && random.once_in(3))),
         plane: picture::samples(random, stride as usize, 4 * cells.1 as usize, depth, spare),
     };
+    match random.below(12) {
+        0 => c.plane = picture::still(random, stride as usize, c.plane.len(), depth, 0),
+        1 => c.plane = picture::saturated(random, stride as usize, c.plane.len(), depth),
+        _ => (),
+    }
     if refused && !random.once_in(4) {
         damaged(random, &mut c);
     }
     replayed(c)
 }
 
-/// The segments of the published Rust, one after the other.
+/// The segments of the published Rust, one after the other: the plane that they leave, and what they stored.
+pub fn run(edges: impl IntoIterator<Item = Entry>, stride: u64, depth: u64, plane: &[u16]) -> (Vec<u16>, Counts) {
+    let mut watched = Watched::new(plane);
+    edges.into_iter().for_each(|e| watched.segment(&e.span(stride as usize), e.q as i64, e.side as i64, depth));
+    watched.end()
+}
+
 fn replayed(c: Case) -> Made {
     let refusal = refusal_of(&c);
     let mut line = Line::new(4);
     line.unsigned(&[c.cells.0, c.cells.1, c.stride, c.depth]).list(&c.bytes).list(&c.plane);
     if let Some(r) = refusal {
-        line.unsigned(&[r.no, r.place]);
-        return Made { line, refusal, width: None, changed: false, steps: None };
+        line.unsigned(&[r.no, r.place, 0, 0]);
+        return Made { line, refusal, width: None, changed: false, counts: None, steps: None };
     }
-    let mut plane = c.plane.clone();
-    for e in c.bytes[5..].chunks_exact(10).map(Entry::read) {
-        plane = deblock::segment(&plane, &e.span(c.stride as usize), e.q as i64, e.side as i64, c.depth);
-    }
-    line.unsigned(&[0, 0]).entries(&plane);
-    Made { line, refusal, width: None, changed: plane != c.plane, steps: None }
+    let (plane, counts) = run(c.bytes[5..].chunks_exact(10).map(Entry::read), c.stride, c.depth, &c.plane);
+    line.unsigned(&[0, 0, counts.stored, counts.changed]).entries(&plane);
+    Made { line, refusal, width: None, changed: plane != c.plane, counts: Some(counts), steps: None }
 }

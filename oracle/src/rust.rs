@@ -70,6 +70,14 @@ pub mod deblock {
         pub lengths: (i64, i64),
     }
 
+    impl Span {
+        /// The places of nine samples on each side of the edge, on the four lines; those of a list that is so long.
+        fn places(&self, length: usize) -> Vec<usize> {
+            let at = |line: usize, k: isize| (self.base + line * self.line) as isize + k * self.perp as isize;
+            (0..4).flat_map(|line| (-9..9).map(move |k| at(line, k))).filter(|&p| 0 <= p && p < length as isize).map(|p| p as usize).collect()
+        }
+    }
+
     /// The width that the Rust chooses.
     pub fn width(plane: &[u16], at: &Span, q: i64, side: i64) -> usize {
         let floats = to_floats(plane);
@@ -81,8 +89,13 @@ pub mod deblock {
     /// The plane after the Rust filtered one segment.
     pub fn segment(plane: &[u16], at: &Span, q: i64, side: i64, depth: u64) -> Vec<u16> {
         let mut floats = to_floats(plane);
+        run_segment(&mut floats, at, q, side, depth);
+        to_samples(&floats)
+    }
+
+    fn run_segment(floats: &mut [f32], at: &Span, q: i64, side: i64, depth: u64) {
         filter_segment(
-            &mut floats,
+            floats,
             at.base as isize,
             at.perp as isize,
             at.line as isize,
@@ -92,7 +105,71 @@ pub mod deblock {
             side as i32,
             (1 << depth) - 1,
         );
-        to_samples(&floats)
+    }
+
+    /// What the Rust did to a plane's samples.
+    #[derive(Clone, Copy, Default, PartialEq, Debug)]
+    pub struct Counts {
+        /// How many samples it stored.
+        pub stored: u64,
+        /// How many of these stores left another sample than was there.
+        pub changed: u64,
+        /// How many would have left the range but for its limits; no answer has it.
+        pub limited: u64,
+    }
+
+    impl Counts {
+        pub fn add(&mut self, more: Counts) {
+            self.stored += more.stored;
+            self.changed += more.changed;
+            self.limited += more.limited;
+        }
+    }
+
+    /// A plane on which every store of the Rust is seen: each sample lies a half above its number. The Rust cuts what it reads to whole
+    /// numbers and stores whole ones, so a sample whose half is gone was stored.
+    pub struct Watched {
+        floats: Vec<f32>,
+        counts: Counts,
+    }
+
+    impl Watched {
+        pub fn new(plane: &[u16]) -> Watched {
+            Watched { floats: plane.iter().map(|&s| s as f32 + 0.5).collect(), counts: Counts::default() }
+        }
+
+        /// The Rust's segment; what it stored is counted and lies a half above its number again.
+        pub fn segment(&mut self, at: &Span, q: i64, side: i64, depth: u64) {
+            let places = at.places(self.floats.len());
+            let before: Vec<f32> = places.iter().map(|&place| self.floats[place]).collect();
+            run_segment(&mut self.floats, at, q, side, depth);
+            let free = unlimited(&before, at, q, side);
+            for (k, &place) in places.iter().enumerate() {
+                let new = self.floats[place];
+                if new.fract() == 0.0 {
+                    let limited = free.get(k).is_some_and(|&f| f != new);
+                    self.counts.add(Counts { stored: 1, changed: (new != before[k].floor()) as u64, limited: limited as u64 });
+                    self.floats[place] = new + 0.5;
+                }
+            }
+        }
+
+        /// The plane, and what was counted; a store anywhere else would have left a sample without its half.
+        pub fn end(self) -> (Vec<u16>, Counts) {
+            assert!(self.floats.iter().all(|f| f.fract() == 0.5), "the Rust stored a sample that no segment reaches");
+            (self.floats.iter().map(|f| f.floor() as u16).collect(), self.counts)
+        }
+    }
+
+    /// What a segment stores where no limit acts: nine samples on each side of four lines, filtered far from both ends of a wide range. None where the plane ends nearer.
+    fn unlimited(samples: &[f32], at: &Span, q: i64, side: i64) -> Vec<f32> {
+        if samples.len() < 72 {
+            return Vec::new();
+        }
+        let far = 8192.0;
+        let mut floats: Vec<f32> = samples.iter().map(|f| f + far).collect();
+        run_segment(&mut floats, &Span { base: 9, perp: 1, line: 18, lengths: at.lengths }, q, side, 20);
+        floats.iter().map(|f| f.floor() - far).collect()
     }
 
     /// A plane's four grid lists.

@@ -3,7 +3,7 @@
 use crate::line::Line;
 use crate::random::Random;
 use crate::refusals::{self, reach, Edge, PAIRS};
-use crate::rust::deblock::{self, Span};
+use crate::rust::deblock::{self, Counts, Span, Watched};
 use crate::thresholds::DEPTHS;
 use crate::{damage, made::Made};
 
@@ -40,6 +40,16 @@ impl Case {
 
     fn width(&self, q: u64, side: u64) -> usize {
         deblock::width(&self.plane, &self.span(), q as i64, side as i64)
+    }
+
+    /// The Rust's plane, and its stores, seen in a second run that must leave the same plane.
+    fn filtered(&self) -> (Vec<u16>, Counts) {
+        let plane = deblock::segment(&self.plane, &self.span(), self.q as i64, self.side as i64, self.depth);
+        let mut watched = Watched::new(&self.plane);
+        watched.segment(&self.span(), self.q as i64, self.side as i64, self.depth);
+        let (seen, counts) = watched.end();
+        assert!(seen == plane, "the segment that was watched left another plane");
+        (plane, counts)
     }
 }
 
@@ -101,9 +111,28 @@ struct Pattern {
     odd: Option<(bool, u64, i64)>,
 }
 
+/// One level on both sides: nothing changes, whatever is stored.
+fn even(random: &Random, top: i64) -> Pattern {
+    let level = random.one_of(&[0, top / 2, top, random.within(0, top)]);
+    Pattern { levels: (level, level), slopes: (0, 0), noise: 0, odd: None }
+}
+
+/// Both sides at one end of the range or at both, with a sample inside it that moves others beyond.
+fn at_an_end(random: &Random, top: i64, unit: i64) -> Pattern {
+    let (end, other) = (random.one_of(&[0, top]), random.one_of(&[0, top]));
+    let by = random.within(1, 6 * unit);
+    let odd = (random.once_in(2), random.below(2), if end == 0 { by } else { -by });
+    Pattern { levels: (end, if random.once_in(4) { other } else { end }), slopes: (0, 0), noise: 0, odd: Some(odd) }
+}
+
 fn pattern(random: &Random, depth: u64) -> Pattern {
     let top = refusals::top(depth) as i64;
     let unit = 1 << (depth - 8);
+    match random.below(12) {
+        0 => return even(random, top),
+        1 => return at_an_end(random, top, unit),
+        _ => (),
+    }
     let level = random.one_of(&[0, unit, top / 2, top - unit, top, random.within(0, top)]);
     let step = random.one_of(&[0, 1, -1, unit, -unit, random.within(-24 * unit, 24 * unit), random.within(-top, top)]);
     let slope = random.one_of(&[0, 0, 0, 1, -1, unit, random.within(-4 * unit, 4 * unit)]);
@@ -302,11 +331,13 @@ fn answered(c: Case) -> Made {
     let mut line = Line::new(1);
     line.unsigned(&[c.columns, c.rows, c.stride, c.depth, c.q, c.side, c.pair, c.direction, c.x, c.y]).list(&c.plane);
     if let Some(r) = refusal {
-        line.unsigned(&[r.no, r.place]);
-        return Made { line, refusal, width: None, changed: false, steps: None };
+        line.unsigned(&[r.no, r.place, 0, 0]);
+        return Made { line, refusal, width: None, changed: false, counts: None, steps: None };
     }
     let width = c.width(c.q, c.side);
-    let plane = deblock::segment(&c.plane, &c.span(), c.q as i64, c.side as i64, c.depth);
-    line.unsigned(&[0, width as u64]).entries(&plane);
-    Made { line, refusal, width: Some(width), changed: plane != c.plane, steps: None }
+    let (plane, counts) = c.filtered();
+    let before = width.min(PAIRS[c.pair as usize].0 as usize / 2 - 1);
+    assert!(counts.stored == 4 * (before + width) as u64, "the Rust stored {} samples at width {width}", counts.stored);
+    line.unsigned(&[0, width as u64, counts.stored, counts.changed]).entries(&plane);
+    Made { line, refusal, width: Some(width), changed: plane != c.plane, counts: Some(counts), steps: None }
 }

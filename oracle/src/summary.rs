@@ -1,6 +1,7 @@
 //! What a run reached, for standard error.
 
-use crate::refusals::Refusal;
+use crate::made::Made;
+use crate::rust::deblock::Counts;
 
 #[derive(Default)]
 pub struct Summary {
@@ -9,18 +10,26 @@ pub struct Summary {
     changed: u64,
     refused: [u64; 21],
     widths: [u64; 9],
+    counts: Counts,
+    still: u64,
+    limited: u64,
 }
 
 impl Summary {
-    pub fn count(&mut self, refusal: Option<Refusal>, width: Option<usize>, changed: bool) {
+    pub fn count(&mut self, made: &Made) {
         self.cases += 1;
-        self.changed += changed as u64;
-        match refusal {
+        self.changed += made.changed as u64;
+        match made.refusal {
             None => self.accepted += 1,
             Some(r) => self.refused[r.no as usize] += 1,
         }
-        if let Some(w) = width {
+        if let Some(w) = made.width {
             self.widths[w] += 1;
+        }
+        if let Some(n) = made.counts {
+            self.counts.add(n);
+            self.still += (n.stored > 0 && n.changed == 0) as u64;
+            self.limited += (n.limited > 0) as u64;
         }
     }
 
@@ -30,6 +39,9 @@ impl Summary {
             if *n > 0 {
                 eprintln!("  refused by {no}: {n}");
             }
+        }
+        if self.counts.stored > 0 {
+            eprintln!("  stored {}, changed {}; stored but changed nothing: {} cases; limited to the range: {} samples in {} cases", self.counts.stored, self.counts.changed, self.still, self.counts.limited, self.limited);
         }
         for (w, n) in self.widths.iter().enumerate() {
             if *n > 0 {

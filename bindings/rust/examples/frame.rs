@@ -47,8 +47,9 @@ fn main() -> Result<(), Refusal> {
         chroma_cap_height: 4,
         ..Frame::default()
     };
-    deblock_frame(Planes { y: &mut y, u: &mut u, v: &mut v }, luma.lent(), chroma.lent(), &bihargesh::steps(), blocks, settings)?;
-    println!("Rust, a frame: luma {:?}, u {:?}", &y[SIZE / 2 - 4..SIZE / 2 + 4], &u[CHROMA / 2 - 4..CHROMA / 2 + 4]);
+    let counts = deblock_frame(Planes { y: &mut y, u: &mut u, v: &mut v }, luma.lent(), chroma.lent(), &bihargesh::steps(), blocks, settings)?;
+    println!("Rust, a frame: luma {:?}, u {:?}; {} samples stored, {} of them changed", &y[SIZE / 2 - 4..SIZE / 2 + 4], &u[CHROMA / 2 - 4..CHROMA / 2 + 4], counts.stored, counts.changed);
+    assert!(0 < counts.changed && counts.changed <= counts.stored, "the counts are bad");
     assert!(y[SIZE / 2 - 1] > 100 && v[CHROMA / 2] < 108, "the edges were not filtered");
     Ok(())
 }

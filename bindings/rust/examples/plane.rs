@@ -38,9 +38,10 @@ fn main() {
     let mut plane: Vec<u16> = (0..STRIDE * 4 * ROWS).map(|k| if k % STRIDE < STRIDE / 2 { 100 } else { 108 }).collect();
     let steps = bihargesh::steps();
     let grid = Grid { vedge: &vedge, hedge: &hedge, sqw: &sqw, sqh: &sqh, qindex: &qindex };
-    assert_eq!(deblock_plane(&mut plane, grid, &steps, settings()), Ok(()));
+    let counts = deblock_plane(&mut plane, grid, &steps, settings()).expect("the plane was refused");
     let row = &plane[..STRIDE];
-    println!("Rust, a plane: {:?}", &row[8..24]);
+    println!("Rust, a plane: {:?}; {} samples stored, {} of them changed", &row[8..24], counts.stored, counts.changed);
+    assert!(0 < counts.changed && counts.changed <= counts.stored, "the counts are bad");
     assert!(row.windows(2).all(|w| w[0] <= w[1]), "the step became no ramp");
     assert!(row[15] > 100 && row[16] < 108, "the edge was not filtered");
 

@@ -5,7 +5,7 @@
 //! include/bihargesh.h says what each number means and which are accepted.
 //!
 //! ```
-//! use bihargesh::{segment, thresholds, Reason, Thresholds};
+//! use bihargesh::{segment, thresholds, Counts, Reason, Thresholds};
 //!
 //! // both thresholds of the edge between two blocks of qindex 200, with the published steps
 //! let steps: Vec<u8> = bihargesh::steps().iter().flat_map(|s| s.to_le_bytes()).collect();
@@ -14,8 +14,12 @@
 //! // a step from 100 to 108 on four lines of eighteen samples, two bytes a sample
 //! let line = [[100u16; 9], [108; 9]].concat();
 //! let mut window: Vec<u8> = line.repeat(4).iter().flat_map(|s| s.to_le_bytes()).collect();
-//! assert_eq!(segment(&mut window, 8, 3, q, side)?, 8);
+//! let (width, counts) = segment(&mut window, 8, 3, q, side)?;
+//! assert_eq!(width, 8);
 //! assert_eq!(window[16], 104);
+//!
+//! // how many samples were stored, and how many of those differ from before: the outermost of a line stays here
+//! assert_eq!(counts, Counts { stored: 64, changed: 56 });
 //!
 //! // what can't be done is refused, and the window stays as it was
 //! assert_eq!(segment(&mut window, 9, 3, q, side), Err(Reason::Depth));
@@ -136,6 +140,13 @@ impl Error for Refusal {}
 pub struct Thresholds {
     pub q: u32,
     pub side: u32,
+}
+
+/// How many samples were stored, and how many of those stores gave a place another sample than it had.
+#[derive(Clone, Copy, Debug, Default, PartialEq, Eq)]
+pub struct Counts {
+    pub stored: usize,
+    pub changed: usize,
 }
 
 /// Settings of a plane.
@@ -278,7 +289,17 @@ fn told(answer: i32, place: [usize; 1]) -> Result<(), Refusal> {
     counted(answer, place).map(|_| ())
 }
 
-/// A count, or the refusal with its place.
+/// Both counts, or the refusal with its place.
+fn filtered(answer: i32, place: [usize; 1], counts: [usize; 2]) -> Result<Counts, Refusal> {
+    counted(answer, place).map(|_| both(counts))
+}
+
+/// Both counts from their list.
+fn both([stored, changed]: [usize; 2]) -> Counts {
+    Counts { stored, changed }
+}
+
+/// A count of bytes, or the refusal with its place.
 fn counted(answer: i32, place: [usize; 1]) -> Result<usize, Refusal> {
     if answer < 0 {
         return Err(Refusal { reason: Reason::of(answer), place: place[0] });
@@ -311,51 +332,54 @@ pub fn thresholds(curr: u16, prev: u16, delta_q: i32, delta_side: i32, depth: u3
     Ok(Thresholds { q: answer as u32 >> 16, side: answer as u32 & 65535 })
 }
 
-/// Filters one segment on a window of 144 bytes; how many samples after the edge were filtered.
-pub fn segment(window: &mut [u8], depth: u32, pair: u32, q: u32, side: u32) -> Result<usize, Reason> {
+/// Filters one segment on a window of 144 bytes; how many samples after the edge were filtered, and both counts.
+pub fn segment(window: &mut [u8], depth: u32, pair: u32, q: u32, side: u32) -> Result<(usize, Counts), Reason> {
+    let mut counts = [0; 2];
     // SAFETY: as above.
-    let answer = unsafe { bihargesh_segment(window.as_mut_ptr(), window.len(), depth, pair, q, side) };
+    let answer = unsafe { bihargesh_segment(window.as_mut_ptr(), window.len(), depth, pair, q, side, counts.as_mut_ptr(), counts.len()) };
     if answer < 0 {
         return Err(Reason::of(answer));
     }
-    Ok(answer as usize)
+    Ok((answer as usize, both(counts)))
 }
 
-/// Filters every marked edge of a plane.
-pub fn deblock_plane(plane: &mut [u16], grid: Grid, steps: &[u32], s: Plane) -> Result<(), Refusal> {
+/// Filters every marked edge of a plane; how many samples were stored and changed.
+pub fn deblock_plane(plane: &mut [u16], grid: Grid, steps: &[u32], s: Plane) -> Result<Counts, Refusal> {
     let settings = plane_settings(s);
-    let mut place = [0];
+    let (mut place, mut counts) = ([0], [0; 2]);
     // SAFETY: as above.
     let answer = unsafe {
         bihargesh_plane(
             plane.as_mut_ptr(), plane.len(), grid.vedge.as_ptr(), grid.vedge.len(), grid.hedge.as_ptr(), grid.hedge.len(),
             grid.sqw.as_ptr(), grid.sqw.len(), grid.sqh.as_ptr(), grid.sqh.len(), grid.qindex.as_ptr(), grid.qindex.len(),
             steps.as_ptr(), steps.len(), settings.as_ptr(), settings.len(), place.as_mut_ptr(), place.len(),
+            counts.as_mut_ptr(), counts.len(),
         )
     };
-    told(answer, place)
+    filtered(answer, place, counts)
 }
 
-/// Filters every marked edge of a plane and writes the record of these edges into the beginning of a buffer; how many bytes it takes.
+/// Filters every marked edge of a plane and writes the record of these edges into the beginning of a buffer; how many bytes it takes, and both counts.
 /// `5 + 20 * cols * rows` bytes are always enough.
 ///
 /// ```
-/// use bihargesh::{record_plane, Grid, Plane, Reason, Refusal};
+/// use bihargesh::{record_plane, Counts, Grid, Plane, Reason, Refusal};
 ///
 /// // three cells in a row, with a vertical edge at the second: the pair of lengths is 4, 4
 /// let grid = Grid { vedge: &[0, 1, 0], hedge: &[0; 3], sqw: &[0; 3], sqh: &[0; 3], qindex: &[0; 3] };
 /// let settings = Plane { cols: 3, rows: 1, stride: 12, width: 12, height: 4, superblock_width: 8, superblock_height: 8, depth: 8, ..Plane::default() };
 /// let (mut plane, mut record) = ([100; 48], [7; 16]);
-/// assert_eq!(record_plane(&mut plane, &mut record, grid, &bihargesh::steps(), settings)?, 15);
+/// let (length, counts) = record_plane(&mut plane, &mut record, grid, &bihargesh::steps(), settings)?;
+/// assert_eq!((length, counts), (15, Counts { stored: 0, changed: 0 }));
 /// assert_eq!(record, [b'E', b'D', b'G', 1, 0, 4, 0, 0, 0, 0, 0, 0, 0, 0, 0, 7]);
 ///
 /// let refusal = record_plane(&mut plane, &mut record[..14], grid, &bihargesh::steps(), settings).unwrap_err();
 /// assert_eq!(refusal, Refusal { reason: Reason::Buffer, place: 0 });
 /// # Ok::<(), Refusal>(())
 /// ```
-pub fn record_plane(plane: &mut [u16], record: &mut [u8], grid: Grid, steps: &[u32], s: Plane) -> Result<usize, Refusal> {
+pub fn record_plane(plane: &mut [u16], record: &mut [u8], grid: Grid, steps: &[u32], s: Plane) -> Result<(usize, Counts), Refusal> {
     let settings = plane_settings(s);
-    let mut place = [0];
+    let (mut place, mut counts) = ([0], [0; 2]);
     // SAFETY: as above.
     let answer = unsafe {
         bihargesh_record_plane(
@@ -363,21 +387,23 @@ pub fn record_plane(plane: &mut [u16], record: &mut [u8], grid: Grid, steps: &[u
             grid.hedge.as_ptr(), grid.hedge.len(), grid.sqw.as_ptr(), grid.sqw.len(), grid.sqh.as_ptr(), grid.sqh.len(),
             grid.qindex.as_ptr(), grid.qindex.len(), steps.as_ptr(), steps.len(),
             settings.as_ptr(), settings.len(), place.as_mut_ptr(), place.len(),
+            counts.as_mut_ptr(), counts.len(),
         )
     };
-    counted(answer, place)
+    counted(answer, place).map(|length| (length, both(counts)))
 }
 
-/// Runs the edges of a record on a plane, one after the other; `record_plane`'s record, on the plane as it was lent there, gives the plane that it left.
+/// Runs the edges of a record on a plane, one after the other; how many samples were stored and changed.
+/// `record_plane`'s record, on the plane as it was lent there, gives the plane that it left, and its counts.
 ///
 /// ```
-/// use bihargesh::{replay, Reason, Refusal, Replay};
+/// use bihargesh::{replay, Counts, Reason, Refusal, Replay};
 ///
 /// // an edge at x 8, pair 1, q 20, side 40, on a step from 100 to 108
 /// let record = [b'E', b'D', b'G', 1, 0, 8, 0, 0, 0, 0, 1, 20, 0, 40, 0];
 /// let settings = Replay { cols: 4, rows: 1, stride: 16, depth: 8 };
 /// let mut plane: Vec<u16> = [[100; 8], [108; 8]].concat().repeat(4);
-/// replay(&mut plane, &record, settings)?;
+/// assert_eq!(replay(&mut plane, &record, settings)?, Counts { stored: 24, changed: 24 });
 /// assert_eq!(plane[4..12], [100, 101, 102, 103, 105, 106, 107, 108]);
 ///
 /// let refusal = replay(&mut plane, &record[..14], settings).unwrap_err();
@@ -385,16 +411,17 @@ pub fn record_plane(plane: &mut [u16], record: &mut [u8], grid: Grid, steps: &[u
 /// assert_eq!(refusal.to_string(), "the record ends within an entry, at place 0");
 /// # Ok::<(), Refusal>(())
 /// ```
-pub fn replay(plane: &mut [u16], record: &[u8], s: Replay) -> Result<(), Refusal> {
+pub fn replay(plane: &mut [u16], record: &[u8], s: Replay) -> Result<Counts, Refusal> {
     let settings = [s.cols, s.rows, s.stride, s.depth];
-    let mut place = [0];
+    let (mut place, mut counts) = ([0], [0; 2]);
     // SAFETY: as above.
     let answer = unsafe {
         bihargesh_replay(
             plane.as_mut_ptr(), plane.len(), record.as_ptr(), record.len(), settings.as_ptr(), settings.len(), place.as_mut_ptr(), place.len(),
+            counts.as_mut_ptr(), counts.len(),
         )
     };
-    told(answer, place)
+    filtered(answer, place, counts)
 }
 
 /// Builds a plane's marks and size indices from its leaves and skip leaves, four numbers a leaf.
@@ -471,13 +498,13 @@ pub fn build_qindex_grid(superblocks: &[u16], qindex: &mut [u16], s: QindexGrid)
     told(answer, place)
 }
 
-/// Filters a whole frame; a refusal of `Room` or `Sample` leaves the grids built, every other leaves them as lent.
-pub fn deblock_frame(planes: Planes, luma: BuiltGrid, chroma: BuiltGrid, steps: &[u32], b: Blocks, s: Frame) -> Result<(), Refusal> {
+/// Filters a whole frame; how many samples of its planes were stored and changed. A refusal of `Room` or `Sample` leaves the grids built, every other leaves them as lent.
+pub fn deblock_frame(planes: Planes, luma: BuiltGrid, chroma: BuiltGrid, steps: &[u32], b: Blocks, s: Frame) -> Result<Counts, Refusal> {
     let settings = [
         s.width, s.height, s.ssx, s.ssy, s.has_chroma as i32, s.chroma_deblock as i32, s.depth, s.delta_luma, s.delta_chroma, s.luma_stride,
         s.chroma_stride, s.cap_width, s.cap_height, s.chroma_cap_width, s.chroma_cap_height,
     ];
-    let mut place = [0];
+    let (mut place, mut counts) = ([0], [0; 2]);
     // SAFETY: as above.
     let answer = unsafe {
         bihargesh_frame(
@@ -491,9 +518,10 @@ pub fn deblock_frame(planes: Planes, luma: BuiltGrid, chroma: BuiltGrid, steps: 
             steps.as_ptr(), steps.len(), b.superblocks.as_ptr(), b.superblocks.len(), b.leaves.as_ptr(), b.leaves.len(),
             b.chroma_leaves.as_ptr(), b.chroma_leaves.len(), b.skips.as_ptr(), b.skips.len(),
             settings.as_ptr(), settings.len(), place.as_mut_ptr(), place.len(),
+            counts.as_mut_ptr(), counts.len(),
         )
     };
-    told(answer, place)
+    filtered(answer, place, counts)
 }
 
 /// Adds the gated CCSO offsets to a plane.

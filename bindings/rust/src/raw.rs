@@ -14,20 +14,23 @@ pub struct Leaf {
 extern "C" {
     pub fn bihargesh_steps(steps: *mut u32, steps_len: usize) -> i32;
     pub fn bihargesh_thresholds(curr: u16, prev: u16, delta_q: i32, delta_side: i32, depth: u32, steps: *const u8, steps_len: usize) -> i32;
-    pub fn bihargesh_segment(window: *mut u8, window_len: usize, depth: u32, pair: u32, q: u32, side: u32) -> i32;
+    pub fn bihargesh_segment(window: *mut u8, window_len: usize, depth: u32, pair: u32, q: u32, side: u32, counts: *mut usize, counts_len: usize) -> i32;
     pub fn bihargesh_plane(
         plane: *mut u16, plane_len: usize, vedge: *const u8, vedge_len: usize, hedge: *const u8, hedge_len: usize,
         sqw: *const u8, sqw_len: usize, sqh: *const u8, sqh_len: usize, qindex: *const u16, qindex_len: usize,
         steps: *const u32, steps_len: usize, settings: *const i32, settings_len: usize, place: *mut usize, place_len: usize,
+        counts: *mut usize, counts_len: usize,
     ) -> i32;
     pub fn bihargesh_record_plane(
         plane: *mut u16, plane_len: usize, record: *mut u8, record_len: usize, vedge: *const u8, vedge_len: usize, hedge: *const u8, hedge_len: usize,
         sqw: *const u8, sqw_len: usize, sqh: *const u8, sqh_len: usize, qindex: *const u16, qindex_len: usize,
         steps: *const u32, steps_len: usize, settings: *const i32, settings_len: usize, place: *mut usize, place_len: usize,
+        counts: *mut usize, counts_len: usize,
     ) -> i32;
     pub fn bihargesh_replay(
         plane: *mut u16, plane_len: usize, record: *const u8, record_len: usize,
         settings: *const i32, settings_len: usize, place: *mut usize, place_len: usize,
+        counts: *mut usize, counts_len: usize,
     ) -> i32;
     pub fn bihargesh_tx_grid(
         leaves: *const u16, leaves_len: usize, skips: *const u16, skips_len: usize, vedge: *mut u8, vedge_len: usize,
@@ -52,6 +55,7 @@ extern "C" {
         steps: *const u32, steps_len: usize, superblocks: *const u16, superblocks_len: usize, leaves: *const u16, leaves_len: usize,
         chroma_leaves: *const u16, chroma_leaves_len: usize, skips: *const u16, skips_len: usize,
         settings: *const i32, settings_len: usize, place: *mut usize, place_len: usize,
+        counts: *mut usize, counts_len: usize,
     ) -> i32;
     pub fn bihargesh_ccso(
         luma: *const u16, luma_len: usize, target: *mut u16, target_len: usize, flags: *const u8, flags_len: usize,

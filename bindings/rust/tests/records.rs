@@ -1,6 +1,6 @@
 //! The record in bindings/records, written on an x86-64 machine: run again it gives the plane that was written beside it.
 
-use bihargesh::{replay, Reason, Refusal, Replay};
+use bihargesh::{replay, Counts, Reason, Refusal, Replay};
 use std::fs;
 
 const SETTINGS: Replay = Replay { cols: 12, rows: 8, stride: 48, depth: 8 };
@@ -21,8 +21,25 @@ fn picture(name: &str) -> Vec<u16> {
 fn run_again() {
     let (mut plane, after) = (picture("before.pgm"), picture("after.pgm"));
     assert_ne!(plane, after);
-    assert_eq!(replay(&mut plane, &file("record.edg"), SETTINGS), Ok(()));
+    let counts = replay(&mut plane, &file("record.edg"), SETTINGS).unwrap();
     assert_eq!(plane, after);
+    assert_eq!(counts, Counts { stored: 1256, changed: 1162 });
+}
+
+/// Each edge in a record of its own: its changed samples are those that differ, and the sums are the whole record's counts.
+#[test]
+fn counts_are_sums() {
+    let (mut plane, record) = (picture("before.pgm"), file("record.edg"));
+    let whole = replay(&mut plane.clone(), &record, SETTINGS).unwrap();
+    let mut sums = Counts::default();
+    for entry in record[5..].chunks(10) {
+        let before = plane.clone();
+        let counts = replay(&mut plane, &[&record[..5], entry].concat(), SETTINGS).unwrap();
+        assert_eq!(counts.changed, plane.iter().zip(&before).filter(|(a, b)| a != b).count());
+        assert!(counts.changed <= counts.stored && counts.stored <= 64 && counts.stored % 4 == 0);
+        sums = Counts { stored: sums.stored + counts.stored, changed: sums.changed + counts.changed };
+    }
+    assert_eq!(sums, whole);
 }
 
 #[test]
@@ -35,7 +52,7 @@ fn cut_anywhere() {
         match n {
             0..=4 => assert_eq!(got, refused(Reason::Header, 0)),
             _ if (n - 5) % 10 != 0 => assert_eq!(got, refused(Reason::Cut, (n - 5) / 10)),
-            _ => assert_eq!(got, Ok(())),
+            _ => assert!(got.is_ok()),
         }
         assert!(got.is_ok() || plane == before, "a refusal changed the plane");
     }

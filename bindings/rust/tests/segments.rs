@@ -1,6 +1,6 @@
 //! Calls document 01's two exported functions from Rust, and holds them to a plain reading of it on many random inputs.
 
-use bihargesh::{segment, thresholds, Reason, Thresholds};
+use bihargesh::{segment, thresholds, Counts, Reason, Thresholds};
 
 /// splitmix64
 struct Random(u64);
@@ -83,23 +83,30 @@ fn choice(a: &Line, b: &Line, n: i64, p: i64, q: i64, side: i64) -> i64 {
     8
 }
 
-/// "Taps", on one line.
-fn taps(l: &mut Line, n: i64, w: i64, q: i64, top: i64) {
+/// "Taps", on one line, each store counted.
+fn taps(l: &mut Line, n: i64, w: i64, q: i64, top: i64, counts: &mut Counts) {
     const M: [i64; 8] = [32, 25, 19, 19, 18, 18, 17, 17];
     const W: [i64; 8] = [85, 51, 37, 28, 23, 20, 17, 15];
     let most = q * M[w as usize - 1];
     let d = (4 * (3 * (l.q[0] - l.p[0]) - (l.q[1] - l.p[1]))).clamp(-most, most);
     let moved = |s: i64, i: i64| (d * W[s as usize - 1] * (s - i) + 1024).div_euclid(2048);
+    let mut store = |place: &mut i64, v: i64| {
+        counts.stored += 1;
+        counts.changed += (*place != v) as usize;
+        *place = v;
+    };
     for i in 0..n {
-        l.p[i as usize] = (l.p[i as usize] + moved(n, i)).clamp(0, top);
+        let v = (l.p[i as usize] + moved(n, i)).clamp(0, top);
+        store(&mut l.p[i as usize], v);
     }
     for i in 0..w {
-        l.q[i as usize] = (l.q[i as usize] - moved(w, i)).clamp(0, top);
+        let v = (l.q[i as usize] - moved(w, i)).clamp(0, top);
+        store(&mut l.q[i as usize], v);
     }
 }
 
-/// What document 01 answers and leaves in the window.
-fn plain_segment(window: &mut [u8], depth: u32, pair: u32, q: u32, side: u32) -> Result<usize, Reason> {
+/// What document 01 answers and leaves in the window, and ticket 4's counts.
+fn plain_segment(window: &mut [u8], depth: u32, pair: u32, q: u32, side: u32) -> Result<(usize, Counts), Reason> {
     if ![8, 10, 12].contains(&depth) {
         return Err(Reason::Depth);
     }
@@ -124,9 +131,10 @@ fn plain_segment(window: &mut [u8], depth: u32, pair: u32, q: u32, side: u32) ->
         .collect();
     let n = before / 2 - 1;
     let w = choice(&lines[0], &lines[3], n, after / 2 - 1, q as i64, side as i64);
+    let mut counts = Counts::default();
     if w > 0 {
         for l in &mut lines {
-            taps(l, n.min(w), w, q as i64, top);
+            taps(l, n.min(w), w, q as i64, top, &mut counts);
         }
     }
     for (j, l) in lines.iter().enumerate() {
@@ -136,7 +144,7 @@ fn plain_segment(window: &mut [u8], depth: u32, pair: u32, q: u32, side: u32) ->
             window[2 * (18 * j + k) + 1] = (v / 256) as u8;
         }
     }
-    Ok(w as usize)
+    Ok((w as usize, counts))
 }
 
 /// A window that looks like a picture: flat, ramp, step or noise, now and then with a sample over top.
@@ -174,7 +182,7 @@ fn as_the_plain_reading() {
             failures += 1;
             println!("segment: depth {depth} pair {pair} q {q} side {side}: got {got:?}, want {want:?}");
         }
-        if let Ok(w) = want {
+        if let Ok((w, _)) = want {
             widths[w] += 1;
         }
     }

@@ -1,6 +1,6 @@
 -- What C is answered: a number that the machine holds, and the answer of a check in its terms.
 -- Assumes nothing.
-use mathlib.Core.Path.{_≡_, refl, ap, _∙_}
+use mathlib.Core.Path.{_≡_, refl, ap, ap₂, _∙_}
 use mathlib.Core.List.{List, [], _∷_}
 use Prim.Native.Nat.{ℕ, zero, suc, _≤_, _<_}
 use native.Mathlib.Omega.{arith}
@@ -15,6 +15,7 @@ use Rattle.rules.specs.declared.refusals.Refusal.{Refusal}
 use Rattle.rules.specs.declared.refusals.Refusal.the-variants.{Length}
 use Rattle.rules.specs.declared.refusals.Answer.{Answer}
 use Rattle.rules.specs.declared.refusals.Answer.the-variants.{Accepted, Refused}
+use Rattle.rules.specs.declared.refusals.PlaneAnswer.{PlaneAnswer}
 use Rattle.rules.specs.declared.refusals.Recorded.{Recorded}
 use Rattle.rules.specs.declared.refusals.Recorded.the-variants.{Bytes, Refused as «NoRecord»}
 use Rattle.rules.specs.Refusals.{numberOf, placeOf, settle}
@@ -22,7 +23,7 @@ use Rattle.rules.specs.Record.{answerBytes}
 use Rattle.rules.specs.CSide.{cAnswer}
 use Rattle.rules.proofs.Numbered.{number-most}
 use Rattle.scan.proofs.Checks.{stop, go-on, unless-bad, unless-good, settle-refused}
-use Rattle.answers.specs.Told.{placed, Counted, Told, Few, refusalIn, bytesIn, listed, Handed, Reported}
+use Rattle.answers.specs.Told.{placed, tallied, Counted, Told, Few, refusalIn, bytesIn, listed, Handed, Reported, Filtered, FilterTold}
 
 -- a count that the machine holds
 pub held : (z : ℤ) (n : ℕ) → z ≡ pos n → n < 2147483648 → toZ w32 (ofZ w32 z) ≡ pos n
@@ -72,10 +73,22 @@ answer-accepted a n e f = rw (← e) (ap pos f)
 
 -- ---- an answer and the place of a refusal
 
--- an empty list takes no place
-pub empty-set : (l : List ℕ) (k : ℕ) → length l ≡ 0 → l ≡ set l 0 k
-empty-set [] k e = refl
-empty-set (x ∷ l) k e = absurd (omega arith)
+-- a list takes no number beyond its end
+pub set-beyond : (l : List ℕ) (at k : ℕ) → length l ≤ at → l ≡ set l at k
+set-beyond [] at k h = refl
+set-beyond (x ∷ l) zero k h = absurd (omega arith)
+set-beyond (x ∷ l) (suc at) k h = ap (λ (m : List ℕ). x ∷ m) (set-beyond l at k (omega arith))
+
+pub tallied-by : (stored changed : ℕ) (l : List ℕ) {m n : List ℕ} → m ≡ set l 0 stored → n ≡ set m 1 changed → n ≡ tallied stored changed l
+unfolding tallied
+tallied-by stored changed l e f = f ∙ ap (λ (m : List ℕ). set m 1 changed) e
+
+-- counts put twice are the last ones
+pub tallied-last : (a b c d : ℕ) (l : List ℕ) → tallied a b (tallied c d l) ≡ tallied a b l
+unfolding tallied
+tallied-last a b c d [] = refl
+tallied-last a b c d (x ∷ []) = refl
+tallied-last a b c d (x ∷ (y ∷ l)) = refl
 
 pub told-accepted : {a : Answer} (lent : List ℕ) → a ≡ Accepted → Told a lent (pos 0) lent
 unfolding cAnswer placed
@@ -142,3 +155,25 @@ module _ {A : Type 0} (n : ℕ) (settings : List ℤ) (check : Answer) (lent new
 
   pub long : n ≤ length settings → {a : Answer} {left : A} → a ≡ check → left ≡ settle check lent new → Handed (listed n settings check) lent new a left
   long h e f = handed-on lent new (long-is h) e f
+
+-- ---- counts beside an answer
+
+-- a refusal with none
+abbrev pub none : Refusal → PlaneAnswer
+none r = record { answer = Refused r; stored = 0; changed = 0 }
+
+module _ {A : Type 0} {check : Answer} (lent new : A) (stored changed : ℕ) where
+  pub filtered-refused : {r : Refusal} → Refused r ≡ check → Filtered check lent new stored changed (none r) lent
+  filtered-refused e = record { handed = handed-refused lent new e; stored-is = settle-refused _ _ _ e; changed-is = settle-refused _ _ _ e }
+
+  -- those of a check of the entry's own
+  pub filtered-on : {own : Answer} {a : PlaneAnswer} {left : A} → own ≡ check → a .answer ≡ own → left ≡ settle own lent new → a .stored ≡ settle own 0 stored → a .changed ≡ settle own 0 changed → Filtered check lent new stored changed a left
+  filtered-on e f g s c =
+      record { handed = handed-on lent new e f g; stored-is = s ∙ ap (λ (x : Answer). settle x 0 stored) e; changed-is = c ∙ ap (λ (x : Answer). settle x 0 changed) e }
+
+-- told to C
+pub filter-told : {A : Type 0} {check : Answer} {a : PlaneAnswer} {lent new left : A} {stored changed : ℕ} {p q k m : List ℕ} {z : ℤ}
+    → Filtered check lent new stored changed a left
+    → Told (a .answer) p z q × (m ≡ tallied (a .stored) (a .changed) k)
+    → FilterTold check lent new stored changed p k (toZ w32 (ofZ w32 z)) left q m
+filter-told {k = k} d t = record { reported = reported (d .handed) (t .0); counts-are = t .1 ∙ ap₂ (λ (s c : ℕ). tallied s c k) (d .stored-is) (d .changed-is) }

@@ -1,11 +1,12 @@
--- Two results that a statement allows are equal: what C is told, what an entry hands back, and both together.
+-- Two results that a statement allows are equal: what C is told, what an entry hands back, both together, and with counts.
 -- Assumes nothing.
 use mathlib.Core.Path.{_≡_, sym, _∙_}
 use mathlib.Core.List.{List}
 use Prim.Native.Nat.{ℕ}
 use lib.IntN.{ℤ}
 use Rattle.rules.specs.declared.refusals.Answer.{Answer}
-use Rattle.answers.specs.Told.{Counted, Told, Handed, Reported}
+use Rattle.rules.specs.declared.refusals.PlaneAnswer.{PlaneAnswer}
+use Rattle.answers.specs.Told.{Counted, Told, Handed, Reported, Filtered, FilterTold}
 
 pub counted-unique : {a : Answer} {count : ℕ} {lent : List ℕ} {n m : ℤ} {p q : List ℕ} → Counted a count lent n p → Counted a count lent m q → (n ≡ m) × (p ≡ q)
 counted-unique t u = (t .answer ∙ sym (u .answer), t .place-is ∙ sym (u .place-is))
@@ -21,3 +22,18 @@ module _ {A : Type 0} {check : Answer} {lent new : A} where
   reported-unique t u =
       let e = told-unique (t .told) (u .told) in
       (e .0, t .left-is ∙ sym (u .left-is), e .1)
+
+  module _ {stored changed : ℕ} where
+    pub filtered-unique : {a b : PlaneAnswer} {l m : A} → Filtered check lent new stored changed a l → Filtered check lent new stored changed b m
+        → (a .answer ≡ b .answer) × (l ≡ m) × (a .stored ≡ b .stored) × (a .changed ≡ b .changed)
+    filtered-unique t u =
+        let e = handed-unique (t .handed) (u .handed) in
+        (e .0, e .1, t .stored-is ∙ sym (u .stored-is), t .changed-is ∙ sym (u .changed-is))
+
+    pub filter-told-unique : {place counts : List ℕ} {n m : ℤ} {k l : A} {p q s t : List ℕ}
+        → FilterTold check lent new stored changed place counts n k p s
+        → FilterTold check lent new stored changed place counts m l q t
+        → (n ≡ m) × (k ≡ l) × (p ≡ q) × (s ≡ t)
+    filter-told-unique t u =
+        let e = reported-unique (t .reported) (u .reported) in
+        (e .0, e .1, e .2, t .counts-are ∙ sym (u .counts-are))

@@ -9,6 +9,7 @@ use lib.IntN.{ℤ}
 use Rattle.rules.specs.declared.refusals.Refusal.the-variants.{Length}
 use Rattle.rules.specs.declared.refusals.Answer.{Answer}
 use Rattle.rules.specs.declared.refusals.Answer.the-variants.{Accepted, Refused}
+use Rattle.rules.specs.declared.refusals.PlaneAnswer.{PlaneAnswer}
 use Rattle.rules.specs.declared.refusals.Recorded.{Recorded}
 use Rattle.rules.specs.declared.refusals.Recorded.the-variants.{Bytes, Refused as «NoRecord»}
 use Rattle.rules.specs.Refusals.{placeOf, orElse, unless, settle}
@@ -18,6 +19,10 @@ use Rattle.rules.specs.CSide.{cAnswer}
 unfoldable pub placed : Answer → List ℕ → List ℕ
 placed Accepted place = place
 placed (Refused r) place = set place 0 (placeOf r)
+
+-- ticket 4: stored and changed samples in the first two entries of a lent list, as many as it has
+unfoldable pub tallied : ℕ → ℕ → List ℕ → List ℕ
+tallied stored changed counts = set (set counts 0 stored) 1 changed
 
 -- a count or minus the refusal number, and the list of the place afterwards
 pub record Counted (a : Answer) (count : ℕ) (lent : List ℕ) (n : ℤ) (place : List ℕ) : Type 0 where
@@ -54,3 +59,16 @@ pub record Handed {A : Type 0} (check : Answer) (lent new : A) (a : Answer) (lef
 pub record Reported {A : Type 0} (check : Answer) (lent new : A) (place : List ℕ) (n : ℤ) (left : A) (placed : List ℕ) : Type 0 where
   pub told : Told check place n placed
   pub left-is : left ≡ settle check lent new
+
+-- ---- ticket 4: "A refusal reports zero for both."
+
+-- what an entry that filters hands back: stored and changed are its counts where it is accepted
+pub record Filtered {A : Type 0} (check : Answer) (lent new : A) (stored changed : ℕ) (a : PlaneAnswer) (left : A) : Type 0 where
+  pub handed : Handed check lent new (a .answer) left
+  pub stored-is : a .stored ≡ settle check 0 stored
+  pub changed-is : a .changed ≡ settle check 0 changed
+
+-- the same told to C
+pub record FilterTold {A : Type 0} (check : Answer) (lent new : A) (stored changed : ℕ) (place counts : List ℕ) (n : ℤ) (left : A) (placed tally : List ℕ) : Type 0 where
+  pub reported : Reported check lent new place n left placed
+  pub counts-are : tally ≡ tallied (settle check 0 stored) (settle check 0 changed) counts

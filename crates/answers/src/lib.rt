@@ -1,5 +1,7 @@
-// What C is answered: a number, or minus the number of a refusal, with its place beside it.
+// What C is answered: a number, or minus the number of a refusal, with its place and the counts of stored and changed samples beside it.
 use rules::refusals::Answer;
+use rules::refusals::PlaneAnswer;
+use rules::refusals::RecordAnswer;
 use rules::refusals::Recorded;
 use rules::refusals::Refusal;
 use rules::refusals::number;
@@ -9,7 +11,7 @@ ghost use Prim.Native.Nat.{_+_, _*_, _≤_, _<_};
 ghost use lib.IntN.{pos, negℤ};
 ghost use lib.ListN.{set};
 ghost use Rattle.rules.specs.Refusals.{numberOf};
-ghost use Rattle.answers.specs.Told.{Told, Counted, Few, bytesIn, refusalIn};
+ghost use Rattle.answers.specs.Told.{Told, Counted, Few, bytesIn, refusalIn, tallied};
 
 // Minus the number of a refusal.
 pub fn minus(r: Refusal) -> i32
@@ -18,14 +20,22 @@ pub fn minus(r: Refusal) -> i32
     0 - number(r) as i32
 }
 
-// A place in the first entry of a list, where it has one.
-fn put_place(list: &mut [usize], k: usize)
-    ensures { λ _. ⌜ now (list .exit) ≡ set (now (list .entry)) 0 k ⌝ }
+// A number at a place of a list, where it reaches so far.
+fn put(list: &mut [usize], at: usize, k: usize)
+    ensures { λ _. ⌜ now (list .exit) ≡ set (now (list .entry)) at k ⌝ }
 {
-    if list.len() == 0 {
+    if list.len() <= at {
         return;
     }
-    list[0] = k;
+    list[at] = k;
+}
+
+// How many samples were stored and changed, in the first two entries of a list, as many as it has.
+pub fn put_counts(counts: &mut [usize], stored: usize, changed: usize)
+    ensures { λ _. ⌜ now (counts .exit) ≡ tallied stored changed (now (counts .entry)) ⌝ }
+{
+    put(counts, 0, stored);
+    put(counts, 1, changed);
 }
 
 // 0, or minus the number of a refusal, whose place is put into a list.
@@ -35,7 +45,7 @@ pub fn told(a: Answer, place: &mut [usize]) -> i32
     match a {
         Answer::Accepted => 0,
         Answer::Refused(r) => {
-            put_place(place, place_of(r));
+            put(place, 0, place_of(r));
             minus(r)
         }
     }
@@ -49,10 +59,29 @@ pub fn told_bytes(a: Recorded, place: &mut [usize]) -> i32
     match a {
         Recorded::Bytes(n) => count(n),
         Recorded::Refused(r) => {
-            put_place(place, place_of(r));
+            put(place, 0, place_of(r));
             minus(r)
         }
     }
+}
+
+// What is told of an entry that filters, with its counts put into a list.
+pub fn told_counts(a: PlaneAnswer, place: &mut [usize], counts: &mut [usize]) -> i32
+    ensures { λ n. ⌜ Told (a .answer) (now (place .entry)) n (now (place .exit)) × (now (counts .exit) ≡ tallied (a .stored) (a .changed) (now (counts .entry))) ⌝ }
+{
+    put_counts(counts, a.stored, a.changed);
+    let answer = a.answer;
+    told(answer, place)
+}
+
+// The same of a plane whose edges are recorded.
+pub fn told_record(a: RecordAnswer, place: &mut [usize], counts: &mut [usize]) -> i32
+    requires { ⌜ Few (a .«record») ⌝ }
+    ensures { λ n. ⌜ Counted (refusalIn (a .«record»)) (bytesIn (a .«record»)) (now (place .entry)) n (now (place .exit)) × (now (counts .exit) ≡ tallied (a .stored) (a .changed) (now (counts .entry))) ⌝ }
+{
+    put_counts(counts, a.stored, a.changed);
+    let record = a.record;
+    told_bytes(record, place)
 }
 
 // Both thresholds in one number, q above side.

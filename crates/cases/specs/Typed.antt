@@ -40,5 +40,20 @@ toldAt text c = told (unsignedOf 20 (numberAt text c))
     told n = record {
       number = n .value;
       place = unsignedOf 4294967295 (numberAt text (n .rest)) .value;
+      stored = 0;
+      changed = 0;
       rest = unsignedOf 4294967295 (numberAt text (n .rest)) .rest;
+    }
+
+-- an answer with both counts after its place
+unfoldable pub countedAt : List ℕ → Cursor → Told
+countedAt text c = counted (toldAt text c)
+  where
+    counted : Told → Told
+    counted t = record {
+      number = t .number;
+      place = t .place;
+      stored = unsignedOf 4294967295 (numberAt text (t .rest)) .value;
+      changed = unsignedOf 4294967295 (numberAt text (unsignedOf 4294967295 (numberAt text (t .rest)) .rest)) .value;
+      rest = unsignedOf 4294967295 (numberAt text (unsignedOf 4294967295 (numberAt text (t .rest)) .rest)) .rest;
     }

@@ -3,7 +3,7 @@
 // Nothing public has a `requires`. A cursor that is not good stays so: a program reads a whole line and looks once.
 // a place in a line, and the number that stands there
 mod number;
-// a number as a type of its own: unsigned up to a limit, or an i32; an answer's two numbers
+// a number as a type of its own: unsigned up to a limit, or an i32; an answer's numbers
 mod typed;
 // lists of numbers, into lent lists or held against them
 mod lists;
@@ -34,6 +34,7 @@ pub use number::next_number;
 pub use typed::Signed;
 pub use typed::Told;
 pub use typed::Unsigned;
+pub use typed::read_counted;
 pub use typed::read_signed;
 pub use typed::read_told;
 pub use typed::read_unsigned;

@@ -1,9 +1,9 @@
-// The next number of a line as a type of its own, and the two numbers of an answer.
+// The next number of a line as a type of its own, and the numbers of an answer.
 ghost use mathlib.Core.Path.{_≡_};
 ghost use Prim.Native.Nat.{_≤_, _<_};
 ghost use lib.IntN.{pos, negℤ};
 ghost use Rattle.cases.specs.Numbers.{numberAt};
-ghost use Rattle.cases.specs.Typed.{failed, unsignedOf, belowZero, fromZero, signedOf, toldAt};
+ghost use Rattle.cases.specs.Typed.{failed, unsignedOf, belowZero, fromZero, signedOf, toldAt, countedAt};
 use crate::number::Cursor;
 use crate::number::next_number;
 
@@ -17,10 +17,12 @@ pub struct Signed {
     pub rest: Cursor,
 }
 
-// The answer that a line gives its case: the refusal's number, 0 for none, and its place.
+// The answer that a line gives its case: the refusal's number, 0 for none, its place, and how many samples are stored and changed, 0 where the line counts none.
 pub struct Told {
     pub number: usize,
     pub place: usize,
+    pub stored: usize,
+    pub changed: usize,
     pub rest: Cursor,
 }
 
@@ -136,6 +138,25 @@ pub fn read_told(text: &[u8], c: Cursor) -> Told
     Told {
         number: number.value,
         place: place.value,
+        stored: 0,
+        changed: 0,
+        rest,
+    }
+}
+
+// The answer of a line that counts samples: both counts stand after the place.
+pub fn read_counted(text: &[u8], c: Cursor) -> Told
+    ensures { λ r. ⌜ r ≡ countedAt (now (text .entry)) c ⌝ }
+{
+    let t = read_told(text, c);
+    let stored = read_unsigned(text, t.rest, 4294967295);
+    let changed = read_unsigned(text, stored.rest, 4294967295);
+    let rest = changed.rest;
+    Told {
+        number: t.number,
+        place: t.place,
+        stored: stored.value,
+        changed: changed.value,
         rest,
     }
 }

@@ -1,6 +1,6 @@
 -- One segment as C is answered it: from the lone segment's answer and plane on the samples that the bytes hold.
 -- Assumes nothing.
-use mathlib.Core.Path.{_≡_, refl, sym, ap, _∙_}
+use mathlib.Core.Path.{_≡_, refl, sym, ap, ap₂, _∙_}
 use mathlib.Core.Bool.{true, false}
 use mathlib.Core.List.{List}
 use Prim.Native.Nat.{ℕ, _≤_, _<_}
@@ -15,18 +15,21 @@ use Rattle.rules.specs.declared.refusals.Refusal.{Refusal}
 use Rattle.rules.specs.declared.refusals.Refusal.the-variants.{Depth, Length}
 use Rattle.rules.specs.declared.refusals.Answer.{Answer}
 use Rattle.rules.specs.declared.refusals.Answer.the-variants.{Accepted, Refused}
-use Rattle.rules.specs.declared.refusals.Width.{Width}
+use Rattle.rules.specs.declared.refusals.LoneAnswer.{LoneAnswer}
 use Rattle.rules.specs.declared.refusals.Width.the-variants.{Samples, Refused as «NoWidth»}
 use Rattle.rules.specs.Numbers.{depthOk}
 use Rattle.rules.specs.Refusals.{numberOf, orElse, unless, settle}
 use Rattle.rules.specs.Segment.{placeOf, windowOf, chosenOf, widthAt}
-use Rattle.rules.specs.Lone.{edgeOf, loneCheck, lonePlane, answerWidth, loneWidth}
+use Rattle.rules.specs.Lone.{edgeOf, loneCheck, answerWidth, loneWidth}
 use Rattle.rules.specs.CSide.{cAnswer, samplesIn, bytesOf, windowEdge, cSegmentCheck, cSegment, cWindow}
 use Rattle.lengths.proofs.Lengths.{pair-facts}
 use Rattle.width.proofs.Most.{pair-most}
-use Rattle.scan.proofs.Checks.{settle-refused, settle-accepted}
+use Rattle.scan.proofs.Checks.{stop, go-on, unless-bad, unless-good, settle-refused, settle-accepted}
+use Rattle.lone.specs.Stated.{Stated}
 use Rattle.lone.proofs.Accepted.{passed}
-use Rattle.answers.proofs.Numbers.{held, held-minus, answer-refused, answer-accepted}
+use Rattle.answers.specs.Told.{tallied}
+use Rattle.answers.proofs.Numbers.{held, held-minus, answer-refused, answer-accepted, tallied-last}
+use Rattle.cside.specs.Segment.{cStored, cChanged, SegmentTold}
 
 -- what an answer of either kind says of the check behind it
 from-samples : (a : Answer) (w : ℕ) {n : ℕ} → Samples n ≡ answerWidth a w → (Accepted ≡ a) × (n ≡ w)
@@ -47,14 +50,25 @@ width-most depth pair q side l h =
     omega (arith, pair-most (windowOf (placeOf 18 e) l) pair q side h, pair-facts pair h .after .most-8)
 
 module _ (depth pair q side : ℕ) (bytes : List ℕ) where
-  pub bad-depth : {z : ℤ} → z ≡ negℤ (pos (numberOf Depth)) → false ≡ depthOk depth → (toZ w32 (ofZ w32 z) ≡ cSegment depth pair q side bytes) × (bytes ≡ cWindow depth pair q side bytes)
-  unfolding cSegment cWindow cSegmentCheck orElse unless cAnswer settle
-  bad-depth {z} f e = (held-minus z Depth f ∙ rw (← e), rw (← e))
+  -- at a way out with a refusal, the counts as they were put first
+  refused-told : {r : Refusal} {z : ℤ} {counts tally : List ℕ} → Refused r ≡ cSegmentCheck depth pair q side bytes → z ≡ negℤ (pos (numberOf r)) → tally ≡ tallied 0 0 counts
+      → SegmentTold depth pair q side bytes counts (toZ w32 (ofZ w32 z)) bytes tally
+  unfolding cSegment cWindow cStored cChanged
+  refused-told {r} {z} {counts} a f t = record {
+    answer = held-minus z r f ∙ answer-refused _ _ a;
+    window-is = settle-refused _ _ _ a;
+    counts-are = t ∙ ap₂ (λ (s c : ℕ). tallied s c counts) (settle-refused _ _ _ a) (settle-refused _ _ _ a);
+  }
 
-  pub bad-length : {z : ℤ} → z ≡ negℤ (pos (numberOf Length)) → true ≡ depthOk depth → (length bytes ≡ 144 → ⊥)
-      → (toZ w32 (ofZ w32 z) ≡ cSegment depth pair q side bytes) × (bytes ≡ cWindow depth pair q side bytes)
-  unfolding cSegment cWindow cSegmentCheck orElse unless cAnswer settle
-  bad-length {z} f e n = (held-minus z Length f ∙ rw (← e, ne-eqb _ _ n), rw (← e, ne-eqb _ _ n))
+  pub bad-depth : {z : ℤ} {counts tally : List ℕ} → z ≡ negℤ (pos (numberOf Depth)) → tally ≡ tallied 0 0 counts → false ≡ depthOk depth
+      → SegmentTold depth pair q side bytes counts (toZ w32 (ofZ w32 z)) bytes tally
+  unfolding cSegmentCheck
+  bad-depth f t e = refused-told (stop _ _ (unless-bad _ _ e)) f t
+
+  pub bad-length : {z : ℤ} {counts tally : List ℕ} → z ≡ negℤ (pos (numberOf Length)) → tally ≡ tallied 0 0 counts → true ≡ depthOk depth → (length bytes ≡ 144 → ⊥)
+      → SegmentTold depth pair q side bytes counts (toZ w32 (ofZ w32 z)) bytes tally
+  unfolding cSegmentCheck
+  bad-length f t e n = refused-told (go-on _ _ _ (unless-good _ _ e) (stop _ _ (unless-bad _ _ (sym (ne-eqb _ _ n))))) f t
 
   module _ (d : true ≡ depthOk depth) (long : length bytes ≡ 144) where
     -- the C side's check is the lone segment's where depth and length are good
@@ -62,37 +76,38 @@ module _ (depth pair q side : ℕ) (bytes : List ℕ) where
     unfolding cSegmentCheck orElse unless
     check-is a e = rw (← d, eq-eqb _ _ long) e
 
-    module _ {l m : List ℕ} {w : Width} {s : Lone} (samples : l ≡ samplesIn bytes) (edge : s ≡ windowEdge depth pair q side) (told′ : w ≡ loneWidth s l) (left′ : m ≡ lonePlane s l) where
-      told : w ≡ loneWidth (windowEdge depth pair q side) (samplesIn bytes)
-      told = rw (edge, samples) at told′
+    module _ {l m : List ℕ} {a : LoneAnswer} {s : Lone} (samples : l ≡ samplesIn bytes) (edge : s ≡ windowEdge depth pair q side) (stated : Stated s l a m) where
+      here : Stated (windowEdge depth pair q side) (samplesIn bytes) a m
+      here = rw (edge, samples) at stated
 
-      left : m ≡ lonePlane (windowEdge depth pair q side) (samplesIn bytes)
-      left = rw (edge, samples) at left′
-
-      parts : {n : ℕ} → w ≡ Samples n → (Accepted ≡ loneCheck (windowEdge depth pair q side) (samplesIn bytes)) × (n ≡ widthAt 18 (edgeOf (windowEdge depth pair q side)) (samplesIn bytes))
+      parts : {n : ℕ} → a .width ≡ Samples n → (Accepted ≡ loneCheck (windowEdge depth pair q side) (samplesIn bytes)) × (n ≡ widthAt 18 (edgeOf (windowEdge depth pair q side)) (samplesIn bytes))
       unfolding loneWidth
-      parts e = from-samples _ _ (sym e ∙ told)
+      parts e = from-samples _ _ (sym e ∙ here .width)
 
-      pub width-range : {n : ℕ} → w ≡ Samples n → n ≤ 8
+      pub width-range : {n : ℕ} → a .width ≡ Samples n → n ≤ 8
       unfolding edgeOf
       width-range e =
           let p = parts e in
           let h = passed _ _ (sym (p .0)) .inside .pair-is in
           omega (arith, p .1, width-most depth pair q side (samplesIn bytes) h)
 
-      -- at the way out with a width: the number that the machine holds, and the bytes of what the segment left
-      pub told-width : {n : ℕ} {z : ℤ} {after : List ℕ} → w ≡ Samples n → z ≡ pos n → after ≡ bytesOf m
-          → (toZ w32 (ofZ w32 z) ≡ cSegment depth pair q side bytes) × (after ≡ cWindow depth pair q side bytes)
-      unfolding cSegment cWindow
-      told-width {n} {z} e f g =
+      -- at the way out with a width: the number that the machine holds, the bytes of what the segment left, and its counts
+      pub told-width : {n : ℕ} {z : ℤ} {after counts put tally : List ℕ} → a .width ≡ Samples n → z ≡ pos n → after ≡ bytesOf m → put ≡ tallied 0 0 counts → tally ≡ tallied (a .stored) (a .changed) put
+          → SegmentTold depth pair q side bytes counts (toZ w32 (ofZ w32 z)) after tally
+      unfolding cSegment cWindow cStored cChanged
+      told-width {n} {z} {after} {counts} e f g t u =
           let p = parts e in
-          let a = check-is Accepted (p .0) in
-          (held z n f (omega (arith, width-range e)) ∙ answer-accepted _ _ a (p .1), g ∙ settle-accepted _ _ _ (bytesOf m) a (ap bytesOf left))
+          let ok = check-is Accepted (p .0) in
+          record {
+            answer = held z n f (omega (arith, width-range e)) ∙ answer-accepted _ _ ok (p .1);
+            window-is = g ∙ settle-accepted _ _ _ (bytesOf m) ok (ap bytesOf (here .plane));
+            counts-are =
+                u ∙ ap (tallied (a .stored) (a .changed)) t ∙ tallied-last _ _ _ _ counts
+                ∙ ap₂ (λ (s c : ℕ). tallied s c counts) (settle-accepted _ _ _ _ ok (here .stored)) (settle-accepted _ _ _ _ ok (here .changed));
+          }
 
       -- at the way out with a refusal
-      pub told-refused : {r : Refusal} {z : ℤ} → w ≡ «NoWidth» r → z ≡ negℤ (pos (numberOf r))
-          → (toZ w32 (ofZ w32 z) ≡ cSegment depth pair q side bytes) × (bytes ≡ cWindow depth pair q side bytes)
-      unfolding cSegment cWindow loneWidth
-      told-refused {r} {z} e f =
-          let a = check-is (Refused r) (from-refused _ _ (sym e ∙ told)) in
-          (held-minus z r f ∙ answer-refused _ _ a, settle-refused _ _ _ a)
+      pub told-refused : {r : Refusal} {z : ℤ} {counts tally : List ℕ} → a .width ≡ «NoWidth» r → z ≡ negℤ (pos (numberOf r)) → tally ≡ tallied 0 0 counts
+          → SegmentTold depth pair q side bytes counts (toZ w32 (ofZ w32 z)) bytes tally
+      unfolding loneWidth
+      told-refused {r} e f t = refused-told (check-is (Refused r) (from-refused _ _ (sym e ∙ here .width))) f t

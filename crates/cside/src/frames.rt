@@ -1,11 +1,11 @@
-// A whole frame for C: its answer as a number, with the place of a refusal.
-use answers::told;
+// A whole frame for C: its answer as a number, with the place of a refusal and both counts.
+use answers::told_counts;
 use frame_entry::frames::filter;
 ghost use Rattle.rules.specs.Plane.{grid};
 ghost use Rattle.rules.specs.Frame.{planes, grids, lent, given};
-ghost use Rattle.frame_entry.specs.Listed.{cFrameOf, FrameTold};
+ghost use Rattle.frame_entry.specs.Listed.{FrameTold};
 
-// 0, or minus the refusal number with its place in the first entry of `place`.
+// 0, or minus the refusal number with its place in the first entry of `place`; stored and changed samples in `counts`.
 #[no_mangle]
 pub extern "C" fn bihargesh_frame(
     y: &mut [u16],
@@ -28,20 +28,22 @@ pub extern "C" fn bihargesh_frame(
     skips: &[u16],
     settings: &[i32],
     place: &mut [usize],
+    counts: &mut [usize],
 ) -> i32
     ensures { λ r. ⌜ FrameTold
-        (cFrameOf
         (now (settings .entry))
         (given (now (steps .entry)) (now (sbq .entry)) (now (leaves .entry)) (now (chromaleaves .entry)) (now (skips .entry)))
         (lent
         (planes (now (y .entry)) (now (u .entry)) (now (v .entry)))
-        (grids (grid (now (lv .entry)) (now (lh .entry)) (now (lw .entry)) (now (lt .entry)) (now (lq .entry))) (grid (now (cv .entry)) (now (ch .entry)) (now (cw .entry)) (now (ct .entry)) (now (cq .entry))))))
+        (grids (grid (now (lv .entry)) (now (lh .entry)) (now (lw .entry)) (now (lt .entry)) (now (lq .entry))) (grid (now (cv .entry)) (now (ch .entry)) (now (cw .entry)) (now (ct .entry)) (now (cq .entry)))))
         (now (place .entry))
+        (now (counts .entry))
         r
         (lent
         (planes (now (y .exit)) (now (u .exit)) (now (v .exit)))
         (grids (grid (now (lv .exit)) (now (lh .exit)) (now (lw .exit)) (now (lt .exit)) (now (lq .exit))) (grid (now (cv .exit)) (now (ch .exit)) (now (cw .exit)) (now (ct .exit)) (now (cq .exit)))))
-        (now (place .exit)) ⌝ }
+        (now (place .exit))
+        (now (counts .exit)) ⌝ }
 {
     let a = filter(
         y,
@@ -64,5 +66,5 @@ pub extern "C" fn bihargesh_frame(
         skips,
         settings,
     );
-    told(a, place)
+    told_counts(a, place, counts)
 }

@@ -1,12 +1,10 @@
-// A plane for C: its answer as a number, with the place of a refusal.
-use answers::told;
+// A plane for C: its answer as a number, with the place of a refusal and both counts.
+use answers::told_counts;
 use entries::planes::deblock;
-ghost use Rattle.rules.specs.Plane.{grid, runPlane};
-ghost use Rattle.answers.specs.Told.{Reported};
-ghost use Rattle.numbers.specs.Settings.{planeOf};
-ghost use Rattle.entries.specs.Planes.{cPlaneCheck};
+ghost use Rattle.rules.specs.Plane.{grid};
+ghost use Rattle.entries.specs.Planes.{PlaneTold};
 
-// 0, or minus the refusal number with its place in the first entry of `place`.
+// 0, or minus the refusal number with its place in the first entry of `place`; stored and changed samples in `counts`.
 #[no_mangle]
 pub extern "C" fn bihargesh_plane(
     plane: &mut [u16],
@@ -18,16 +16,20 @@ pub extern "C" fn bihargesh_plane(
     steps: &[u32],
     settings: &[i32],
     place: &mut [usize],
+    counts: &mut [usize],
 ) -> i32
-    ensures { λ r. ⌜ Reported
-        (cPlaneCheck (now (settings .entry)) (now (steps .entry)) (grid (now (vedge .entry)) (now (hedge .entry)) (now (sqw .entry)) (now (sqh .entry)) (now (qindex .entry))) (now (plane .entry)))
+    ensures { λ r. ⌜ PlaneTold
+        (now (settings .entry))
+        (now (steps .entry))
+        (grid (now (vedge .entry)) (now (hedge .entry)) (now (sqw .entry)) (now (sqh .entry)) (now (qindex .entry)))
         (now (plane .entry))
-        (runPlane (planeOf (now (settings .entry))) (now (steps .entry)) (grid (now (vedge .entry)) (now (hedge .entry)) (now (sqw .entry)) (now (sqh .entry)) (now (qindex .entry))) (now (plane .entry)))
         (now (place .entry))
+        (now (counts .entry))
         r
         (now (plane .exit))
-        (now (place .exit)) ⌝ }
+        (now (place .exit))
+        (now (counts .exit)) ⌝ }
 {
     let a = deblock(plane, vedge, hedge, sqw, sqh, qindex, steps, settings);
-    told(a, place)
+    told_counts(a, place, counts)
 }

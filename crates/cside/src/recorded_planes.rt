@@ -1,10 +1,10 @@
-// A plane whose edges are recorded, for C: the record's bytes as the answer, or a refusal's number with its place.
-use answers::told_bytes;
+// A plane whose edges are recorded, for C: the record's bytes as the answer, or a refusal's number with its place, and both counts.
+use answers::told_record;
 use entries::recorded_planes::write_record;
 ghost use Rattle.rules.specs.Plane.{grid};
 ghost use Rattle.entries.specs.Planes.{RecordTold};
 
-// How many bytes the record takes, or minus the refusal number with its place in the first entry of `place`.
+// How many bytes the record takes, or minus the refusal number with its place in the first entry of `place`; stored and changed samples in `counts`.
 #[no_mangle]
 pub extern "C" fn bihargesh_record_plane(
     plane: &mut [u16],
@@ -17,6 +17,7 @@ pub extern "C" fn bihargesh_record_plane(
     steps: &[u32],
     settings: &[i32],
     place: &mut [usize],
+    counts: &mut [usize],
 ) -> i32
     ensures { λ r. ⌜ RecordTold
         (now (settings .entry))
@@ -25,10 +26,12 @@ pub extern "C" fn bihargesh_record_plane(
         (now (plane .entry))
         (now (buffer .entry))
         (now (place .entry))
+        (now (counts .entry))
         r
         (now (plane .exit))
         (now (buffer .exit))
-        (now (place .exit)) ⌝ }
+        (now (place .exit))
+        (now (counts .exit)) ⌝ }
 {
     let a = write_record(
         plane,
@@ -41,5 +44,5 @@ pub extern "C" fn bihargesh_record_plane(
         steps,
         settings,
     );
-    told_bytes(a, place)
+    told_record(a, place, counts)
 }

@@ -8,7 +8,7 @@ use Rattle.rules.specs.declared.settings.Frame.{Frame}
 use Rattle.rules.specs.declared.settings.Plane.{Plane}
 use Rattle.rules.specs.declared.settings.TuGrid.{TuGrid}
 use Rattle.rules.specs.declared.settings.QindexGrid.{QindexGrid}
-use Rattle.rules.specs.declared.refusals.Recorded.{Recorded}
+use Rattle.rules.specs.declared.refusals.RecordAnswer.{RecordAnswer}
 use Rattle.rules.specs.Plane.{Grid, grid}
 use Rattle.rules.specs.TuGrid.{Marks, marks, txGridAfter}
 use Rattle.rules.specs.QindexGrid.{qGridAfter}
@@ -32,10 +32,10 @@ module _ (t : TuGrid) (q : QindexGrid) (leaves skips sbq : List ℕ) {v h w x i 
       ap (λ (m : Marks). withQ m i') (rw (z0, z1, z2, z3) at e)
       ∙ ap (λ (l : List ℕ). withQ (txGridAfter t leaves skips (marks zeros zeros zeros zeros)) l) (rw z4 at g)
 
-  pub noted-by : (s : Plane) (steps b : List ℕ) {l m c : List ℕ} {a : Recorded} {n : ℕ}
+  pub noted-by : (s : Plane) (steps b : List ℕ) {l m c : List ℕ} {a : RecordAnswer} {n : ℕ}
       → marks v' h' w' x' ≡ txGridAfter t leaves skips (marks v h w x) → i' ≡ qGridAfter q sbq i
       → v ≡ zeros → h ≡ zeros → w ≡ zeros → x ≡ zeros → i ≡ zeros → l ≡ dark
-      → Stated s steps (grid v' h' w' x' i') l b a m c → n ≡ bytesOf a
+      → Stated s steps (grid v' h' w' x' i') l b a m c → n ≡ bytesOf (a .«record»)
       → Noted s steps (gridBy t q leaves skips sbq) b n c
   noted-by s steps b {l = l} e g z0 z1 z2 z3 z4 is d k =
       let r = built e g z0 z1 z2 z3 z4 in

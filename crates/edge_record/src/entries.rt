@@ -66,7 +66,7 @@ fn noted(
     let mut qindex = indices();
     build_tx_grid(leaves, skips, &mut vedge, &mut hedge, &mut sqw, &mut sqh, t);
     build_qindex_grid(sbq, &mut qindex, q);
-    bytes_of(record_plane(
+    let a = record_plane(
         &mut plane,
         buffer,
         &vedge,
@@ -76,7 +76,9 @@ fn noted(
         &qindex,
         steps,
         s,
-    ))
+    );
+    let length = a.record;
+    bytes_of(length)
 }
 
 // Where a kind of plane has its leaves.

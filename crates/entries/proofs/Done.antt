@@ -17,20 +17,22 @@ use Rattle.rules.specs.declared.refusals.Refusal.{Refusal}
 use Rattle.rules.specs.declared.refusals.Refusal.the-variants.{Depth, Size, Length}
 use Rattle.rules.specs.declared.refusals.Answer.{Answer}
 use Rattle.rules.specs.declared.refusals.Answer.the-variants.{Accepted, Refused}
+use Rattle.rules.specs.declared.refusals.PlaneAnswer.{PlaneAnswer}
 use Rattle.rules.specs.Numbers.{depthOk}
-use Rattle.rules.specs.Plane.{Grid, planeAfter, runPlane}
-use Rattle.rules.specs.Replay.{replayCheck, replayOf, replayAfter}
+use Rattle.rules.specs.Refusals.{settle}
+use Rattle.rules.specs.Plane.{Grid, planeAfter, planeStored, planeChanged}
+use Rattle.rules.specs.Replay.{replayAfter, replayStored, replayChanged}
 use Rattle.rules.specs.TuGrid.{Marks, txGridCheck, txGridOf, txGridAfter}
 use Rattle.rules.specs.QindexGrid.{qGridCheck, qGridOf, qGridAfter}
 use Rattle.rules.specs.Ccso.{ccsoCheck, ccsoOf, ccsoAfter}
 use Rattle.scan.proofs.Checks.{stop, stop-by, go-on, go-on-by, unless-bad, unless-good, unless-true, else-parts}
 use Rattle.plane.specs.Checked.{Stated as «PlaneStated»}
-use Rattle.replay.specs.Fit.{Replayed}
+use Rattle.replay.specs.Fit.{inWord, Replayed}
 use Rattle.ccso.specs.Stated.{Stated as «OffsetsStated»}
 use Rattle.answers.specs.Told.{listed, Handed}
 use Rattle.numbers.specs.Settings.{countAt, planeOf, replaySettings, tuGridOf, qindexGridOf, offsetsOf}
-use Rattle.entries.specs.Planes.{listCheck, cPlaneCheck}
-use Rattle.answers.proofs.Numbers.{handed-refused, handed-on, long}
+use Rattle.entries.specs.Planes.{listCheck, cPlaneCheck, PlaneHanded, ReplayHanded}
+use Rattle.answers.proofs.Numbers.{none, long, long-is, filtered-refused, filtered-on}
 
 -- ---- a plane
 
@@ -69,24 +71,33 @@ module _ (settings : List ℤ) where
   list-long is e = leb-true 11 (length settings) (unless-true _ Length (else-parts _ _ (sym is ∙ e) .0))
 
 module _ (settings : List ℤ) (steps : List ℕ) (g : Grid) (l : List ℕ) {a : Answer} (is : a ≡ listCheck settings) where
-  pub plane-refused : {r : Refusal} → a ≡ Refused r → Handed (cPlaneCheck settings steps g l) l (runPlane (planeOf settings) steps g l) (Refused r) l
+  pub plane-refused : {r : Refusal} → a ≡ Refused r → PlaneHanded settings steps g l (none r) l
   unfolding cPlaneCheck
-  plane-refused e = handed-refused l _ (stop-by _ _ _ is e)
+  plane-refused e = filtered-refused l _ _ _ (stop-by _ _ _ is e)
 
-  pub plane-done : {s : Plane} {x : Answer} {m : List ℕ} → a ≡ Accepted → s ≡ planeOf settings → «PlaneStated» s steps g l x m → Handed (cPlaneCheck settings steps g l) l (runPlane (planeOf settings) steps g l) x m
-  unfolding cPlaneCheck planeAfter
+  pub plane-done : {s : Plane} {x : PlaneAnswer} {m : List ℕ} → a ≡ Accepted → s ≡ planeOf settings → «PlaneStated» s steps g l x m → PlaneHanded settings steps g l x m
+  unfolding cPlaneCheck planeAfter planeStored planeChanged
   plane-done {s} {x} {m} e read t =
       let w : «PlaneStated» (planeOf settings) steps g l x m = rw read at t in
-      handed-on l _ (go-on-by _ _ _ _ is e refl) (w .answer) (w .plane)
+      filtered-on l _ _ _ (go-on-by _ _ _ _ is e refl) (w .answer) (w .plane) (w .stored) (w .changed)
 
 -- ---- a record that is run again
 
-module _ (settings : List ℤ) (bytes l : List ℕ) (enough : 4 ≤ length settings) {s : Replay} (read : s ≡ replaySettings settings) where
-  pub replay-done : {a : Answer} {m : List ℕ} → Replayed s bytes l a m → Handed (listed 4 settings (replayCheck (replaySettings settings) bytes l)) l (replayOf (replaySettings settings) bytes l) a m
-  unfolding replayAfter
-  replay-done {a} {m} t =
-      let w : Replayed (replaySettings settings) bytes l a m = rw read at t in
-      long 4 settings _ l _ enough (w .answer) (w .plane)
+module _ (settings : List ℤ) (bytes l : List ℕ) where
+  pub replay-short : length settings < 4 → ReplayHanded settings bytes l (none Length) l
+  unfolding listed
+  replay-short h = filtered-refused l _ _ _ (stop _ _ (unless-bad _ _ (not-le 4 (length settings) h)))
+
+  word-kept : (a : Answer) (n : ℕ) → inWord (settle a 0 n) ≡ settle a 0 (inWord n)
+  unfolding settle
+  word-kept Accepted n = refl
+  word-kept (Refused r) n = refl
+
+  pub replay-done : {s : Replay} {x : PlaneAnswer} {m : List ℕ} → 4 ≤ length settings → s ≡ replaySettings settings → Replayed s bytes l x m → ReplayHanded settings bytes l x m
+  unfolding replayAfter replayStored replayChanged
+  replay-done {s} {x} {m} enough read t =
+      let w : Replayed (replaySettings settings) bytes l x m = rw read at t in
+      filtered-on l _ _ _ (long-is 4 settings _ l l enough) (w .answer) (w .plane) (w .stored ∙ word-kept _ _) (w .changed ∙ word-kept _ _)
 
 -- ---- the grids
 

@@ -5,30 +5,18 @@ use mathlib.Core.List.{List}
 use Prim.Native.Nat.{ℕ}
 use lib.IntN.{ℤ}
 use Rattle.rules.specs.declared.refusals.Answer.{Answer}
-use Rattle.rules.specs.declared.refusals.Recorded.{Recorded}
-use Rattle.rules.specs.Plane.{Grid, runPlane}
-use Rattle.rules.specs.Replay.{replayCheck, replayOf}
+use Rattle.rules.specs.declared.refusals.PlaneAnswer.{PlaneAnswer}
+use Rattle.rules.specs.declared.refusals.RecordAnswer.{RecordAnswer}
+use Rattle.rules.specs.Plane.{Grid}
 use Rattle.rules.specs.TuGrid.{Marks, txGridCheck, txGridOf}
 use Rattle.rules.specs.QindexGrid.{qGridCheck, qGridOf}
 use Rattle.rules.specs.Ccso.{ccsoCheck, ccsoOf}
 use Rattle.answers.specs.Told.{listed, Handed}
-use Rattle.answers.proofs.Unique.{handed-unique}
-use Rattle.numbers.specs.Settings.{planeOf, replaySettings, tuGridOf, qindexGridOf, offsetsOf}
-use Rattle.entries.specs.Planes.{cPlaneCheck, RecordHanded}
+use Rattle.answers.proofs.Unique.{handed-unique, filtered-unique}
+use Rattle.numbers.specs.Settings.{tuGridOf, qindexGridOf, offsetsOf}
+use Rattle.entries.specs.Planes.{PlaneHanded, ReplayHanded, RecordHanded}
 
 module _ {a b : Answer} (settings : List ℤ) where
-  pub deblock-unique : (steps l : List ℕ) (g : Grid) {m n : List ℕ}
-      → Handed (cPlaneCheck settings steps g l) l (runPlane (planeOf settings) steps g l) a m
-      → Handed (cPlaneCheck settings steps g l) l (runPlane (planeOf settings) steps g l) b n
-      → (a ≡ b) × (m ≡ n)
-  deblock-unique steps l g = handed-unique
-
-  pub run-again-unique : (bytes l : List ℕ) {m n : List ℕ}
-      → Handed (listed 4 settings (replayCheck (replaySettings settings) bytes l)) l (replayOf (replaySettings settings) bytes l) a m
-      → Handed (listed 4 settings (replayCheck (replaySettings settings) bytes l)) l (replayOf (replaySettings settings) bytes l) b n
-      → (a ≡ b) × (m ≡ n)
-  run-again-unique bytes l = handed-unique
-
   pub build-unique : (leaves skips : List ℕ) (g : Marks) {m n : Marks}
       → Handed (listed 6 settings (txGridCheck (tuGridOf settings) leaves skips g)) g (txGridOf (tuGridOf settings) leaves skips g) a m
       → Handed (listed 6 settings (txGridCheck (tuGridOf settings) leaves skips g)) g (txGridOf (tuGridOf settings) leaves skips g) b n
@@ -47,8 +35,18 @@ module _ {a b : Answer} (settings : List ℤ) where
       → (a ≡ b) × (m ≡ n)
   apply-unique luma flags t offsets = handed-unique
 
-pub record-unique : {settings : List ℤ} {steps : List ℕ} {g : Grid} {l b : List ℕ} {x y : Recorded} {m n c d : List ℕ}
+module _ (settings : List ℤ) {a b : PlaneAnswer} where
+  pub deblock-unique : (steps l : List ℕ) (g : Grid) {m n : List ℕ} → PlaneHanded settings steps g l a m → PlaneHanded settings steps g l b n
+      → (a .answer ≡ b .answer) × (m ≡ n) × (a .stored ≡ b .stored) × (a .changed ≡ b .changed)
+  deblock-unique steps l g = filtered-unique
+
+  pub run-again-unique : (bytes l : List ℕ) {m n : List ℕ} → ReplayHanded settings bytes l a m → ReplayHanded settings bytes l b n
+      → (a .answer ≡ b .answer) × (m ≡ n) × (a .stored ≡ b .stored) × (a .changed ≡ b .changed)
+  run-again-unique bytes l = filtered-unique
+
+pub record-unique : {settings : List ℤ} {steps : List ℕ} {g : Grid} {l b : List ℕ} {x y : RecordAnswer} {m n c d : List ℕ}
     → RecordHanded settings steps g l b x m c
     → RecordHanded settings steps g l b y n d
-    → (x ≡ y) × (m ≡ n) × (c ≡ d)
-record-unique t u = (t .answer ∙ sym (u .answer), t .plane ∙ sym (u .plane), t .buffer ∙ sym (u .buffer))
+    → (x .«record» ≡ y .«record») × (m ≡ n) × (c ≡ d) × (x .stored ≡ y .stored) × (x .changed ≡ y .changed)
+record-unique t u =
+    (t .answer ∙ sym (u .answer), t .plane ∙ sym (u .plane), t .buffer ∙ sym (u .buffer), t .stored ∙ sym (u .stored), t .changed ∙ sym (u .changed))

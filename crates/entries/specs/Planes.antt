@@ -1,4 +1,4 @@
--- A plane's checks, as C asks for them, and what is told of a recorded plane.
+-- What a plane's entries hand back and tell C: alone, with its record, and of a record that is run again.
 -- Assumes nothing.
 use mathlib.Core.Path.{_≡_}
 use mathlib.Core.List.{List}
@@ -8,13 +8,17 @@ use lib.ListN.{length}
 use lib.IntN.{ℤ}
 use Rattle.rules.specs.declared.refusals.Refusal.the-variants.{Depth, Size}
 use Rattle.rules.specs.declared.refusals.Answer.{Answer}
-use Rattle.rules.specs.declared.refusals.Recorded.{Recorded}
-use Rattle.rules.specs.Numbers.{depthOk}
+use Rattle.rules.specs.declared.refusals.PlaneAnswer.{PlaneAnswer}
+use Rattle.rules.specs.declared.refusals.RecordAnswer.{RecordAnswer}
+use Rattle.rules.specs.Numbers.{depthOk, topOf}
 use Rattle.rules.specs.Refusals.{orElse, unless, settle}
-use Rattle.rules.specs.Plane.{Grid, edgesOf, planeCheck, runPlane}
-use Rattle.rules.specs.Record.{recordOf, bufferAfter, recordedCheck, answerBytes}
-use Rattle.answers.specs.Told.{listed, Counted, Few}
-use Rattle.numbers.specs.Settings.{countAt, planeOf}
+use Rattle.rules.specs.Counts.{storedBy, changedBy}
+use Rattle.rules.specs.Plane.{Grid, edgesOf, planeCheck, runPlane, runStored, runChanged}
+use Rattle.rules.specs.Record.{edgesIn, recordOf, bufferAfter, recordedCheck, answerBytes}
+use Rattle.rules.specs.Replay.{replayCheck, replayOf}
+use Rattle.replay.specs.Fit.{inWord}
+use Rattle.answers.specs.Told.{listed, tallied, Counted, Few, Filtered, FilterTold}
+use Rattle.numbers.specs.Settings.{countAt, planeOf, replaySettings}
 
 -- a chroma other than 0 and 1 is refused by 2, after 1 as in document 01's order
 unfoldable pub listCheck : List ℤ → Answer
@@ -22,6 +26,18 @@ listCheck settings = listed 11 settings (orElse (unless (depthOk (countAt settin
 
 unfoldable pub cPlaneCheck : List ℤ → List ℕ → Grid → List ℕ → Answer
 cPlaneCheck settings steps g l = orElse (listCheck settings) (planeCheck (planeOf settings) steps g l)
+
+-- what is handed back: the answer a and the plane m
+abbrev pub PlaneHanded : List ℤ → List ℕ → Grid → List ℕ → PlaneAnswer → List ℕ → Type 0
+PlaneHanded settings steps g l a m =
+    let s = planeOf settings in
+    Filtered (cPlaneCheck settings steps g l) l (runPlane s steps g l) (runStored s steps g l) (runChanged s steps g l) a m
+
+-- the same told to C
+abbrev pub PlaneTold : List ℤ → List ℕ → Grid → List ℕ → List ℕ → List ℕ → ℤ → List ℕ → List ℕ → List ℕ → Type 0
+PlaneTold settings steps g l place counts n m placed tally =
+    let s = planeOf settings in
+    FilterTold (cPlaneCheck settings steps g l) l (runPlane s steps g l) (runStored s steps g l) (runChanged s steps g l) place counts n m placed tally
 
 -- ---- ticket 1: a plane's run that writes its record
 
@@ -40,15 +56,47 @@ cRecordPlane settings steps g l b = settle (cRecordCheck settings steps g l (len
 unfoldable pub cRecordBuffer : List ℤ → List ℕ → Grid → List ℕ → List ℕ → List ℕ
 cRecordBuffer settings steps g l b = settle (cRecordCheck settings steps g l (length b)) b (bufferAfter (edgesOf (planeOf settings) steps g) b)
 
+-- ticket 4: stored and changed samples
+unfoldable pub cRecordStored : List ℤ → List ℕ → Grid → List ℕ → List ℕ → ℕ
+cRecordStored settings steps g l b = settle (cRecordCheck settings steps g l (length b)) 0 (runStored (planeOf settings) steps g l)
+
+unfoldable pub cRecordChanged : List ℤ → List ℕ → Grid → List ℕ → List ℕ → ℕ
+cRecordChanged settings steps g l b = settle (cRecordCheck settings steps g l (length b)) 0 (runChanged (planeOf settings) steps g l)
+
 -- what is handed back: the answer a, the plane m and the buffer c
-pub record RecordHanded (settings : List ℤ) (steps : List ℕ) (g : Grid) (l b : List ℕ) (a : Recorded) (m c : List ℕ) : Type 0 where
-  pub answer : a ≡ answerBytes (cRecordCheck settings steps g l (length b)) (recordLength settings steps g)
-  pub few : Few a
+pub record RecordHanded (settings : List ℤ) (steps : List ℕ) (g : Grid) (l b : List ℕ) (a : RecordAnswer) (m c : List ℕ) : Type 0 where
+  pub answer : a .«record» ≡ answerBytes (cRecordCheck settings steps g l (length b)) (recordLength settings steps g)
+  pub few : Few (a .«record»)
   pub plane : m ≡ cRecordPlane settings steps g l b
   pub buffer : c ≡ cRecordBuffer settings steps g l b
+  pub stored : a .stored ≡ cRecordStored settings steps g l b
+  pub changed : a .changed ≡ cRecordChanged settings steps g l b
 
 -- the same told to C
-pub record RecordTold (settings : List ℤ) (steps : List ℕ) (g : Grid) (l b place : List ℕ) (n : ℤ) (m c placed : List ℕ) : Type 0 where
+pub record RecordTold (settings : List ℤ) (steps : List ℕ) (g : Grid) (l b place counts : List ℕ) (n : ℤ) (m c placed tally : List ℕ) : Type 0 where
   pub told : Counted (cRecordCheck settings steps g l (length b)) (recordLength settings steps g) place n placed
   pub plane : m ≡ cRecordPlane settings steps g l b
   pub buffer : c ≡ cRecordBuffer settings steps g l b
+  pub counts-are : tally ≡ tallied (cRecordStored settings steps g l b) (cRecordChanged settings steps g l b) counts
+
+-- ---- ticket 2: a record that is run again
+
+-- ticket 4: its stored and changed samples, in the machine's word
+abbrev pub replayCounts : List ℤ → List ℕ → List ℕ → ℕ × ℕ
+replayCounts settings bytes l =
+    let s = replaySettings settings in
+    (inWord (storedBy (topOf (s .depth)) (s .stride) (edgesIn bytes) l), inWord (changedBy (topOf (s .depth)) (s .stride) (edgesIn bytes) l))
+
+-- what is handed back: the answer a and the plane m
+abbrev pub ReplayHanded : List ℤ → List ℕ → List ℕ → PlaneAnswer → List ℕ → Type 0
+ReplayHanded settings bytes l a m =
+    let s = replaySettings settings in
+    let k = replayCounts settings bytes l in
+    Filtered (listed 4 settings (replayCheck s bytes l)) l (replayOf s bytes l) (k .0) (k .1) a m
+
+-- the same told to C
+abbrev pub ReplayTold : List ℤ → List ℕ → List ℕ → List ℕ → List ℕ → ℤ → List ℕ → List ℕ → List ℕ → Type 0
+ReplayTold settings bytes l place counts n m placed tally =
+    let s = replaySettings settings in
+    let k = replayCounts settings bytes l in
+    FilterTold (listed 4 settings (replayCheck s bytes l)) l (replayOf s bytes l) (k .0) (k .1) place counts n m placed tally

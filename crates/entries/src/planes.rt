@@ -4,12 +4,11 @@ use numbers::plane_of;
 use plane::deblock_plane;
 use rules::depth::Depth;
 use rules::refusals::Answer;
+use rules::refusals::PlaneAnswer;
 use rules::refusals::Refusal;
 ghost use mathlib.Core.Path.{_≡_};
-ghost use Rattle.rules.specs.Plane.{grid, runPlane};
-ghost use Rattle.answers.specs.Told.{Handed};
-ghost use Rattle.numbers.specs.Settings.{planeOf};
-ghost use Rattle.entries.specs.Planes.{cPlaneCheck, listCheck};
+ghost use Rattle.rules.specs.Plane.{grid};
+ghost use Rattle.entries.specs.Planes.{listCheck, PlaneHanded};
 
 // The first refusal that the list of settings itself gives: too few numbers, and a flag that is none after the depth.
 pub fn list_check(settings: &[i32]) -> Answer
@@ -27,7 +26,7 @@ pub fn list_check(settings: &[i32]) -> Answer
     Answer::Accepted
 }
 
-// Deblocks a plane, or refuses it and leaves it as lent.
+// Deblocks a plane and tells how many samples it stored and changed; or refuses it, leaves it as lent and tells of none.
 pub fn deblock(
     plane: &mut [u16],
     vedge: &[u8],
@@ -37,17 +36,16 @@ pub fn deblock(
     qindex: &[u16],
     steps: &[u32],
     settings: &[i32],
-) -> Answer
-    ensures { λ a. ⌜ Handed
-        (cPlaneCheck (now (settings .entry)) (now (steps .entry)) (grid (now (vedge .entry)) (now (hedge .entry)) (now (sqw .entry)) (now (sqh .entry)) (now (qindex .entry))) (now (plane .entry)))
-        (now (plane .entry))
-        (runPlane (planeOf (now (settings .entry))) (now (steps .entry)) (grid (now (vedge .entry)) (now (hedge .entry)) (now (sqw .entry)) (now (sqh .entry)) (now (qindex .entry))) (now (plane .entry)))
-        a
-        (now (plane .exit)) ⌝ }
+) -> PlaneAnswer
+    ensures { λ a. ⌜ PlaneHanded (now (settings .entry)) (now (steps .entry)) (grid (now (vedge .entry)) (now (hedge .entry)) (now (sqw .entry)) (now (sqh .entry)) (now (qindex .entry))) (now (plane .entry)) a (now (plane .exit)) ⌝ }
 {
     let a = list_check(settings);
     if let Answer::Refused(r) = a {
-        return Answer::Refused(r);
+        return PlaneAnswer {
+            answer: Answer::Refused(r),
+            stored: 0,
+            changed: 0,
+        };
     }
     let s = plane_of(settings);
     deblock_plane(plane, vedge, hedge, sqw, sqh, qindex, steps, s)

@@ -3,11 +3,12 @@ use crate::planes::list_check;
 use numbers::plane_of;
 use recorded::record_plane;
 use rules::refusals::Answer;
+use rules::refusals::RecordAnswer;
 use rules::refusals::Recorded;
 ghost use Rattle.rules.specs.Plane.{grid};
 ghost use Rattle.entries.specs.Planes.{RecordHanded};
 
-// Deblocks a plane and writes the record of its edges, or refuses and leaves both as lent.
+// Deblocks a plane, writes the record of its edges and tells how many samples were stored and changed; or refuses, leaves both as lent and tells of none.
 pub fn write_record(
     plane: &mut [u16],
     buffer: &mut [u8],
@@ -18,12 +19,16 @@ pub fn write_record(
     qindex: &[u16],
     steps: &[u32],
     settings: &[i32],
-) -> Recorded
+) -> RecordAnswer
     ensures { λ a. ⌜ RecordHanded (now (settings .entry)) (now (steps .entry)) (grid (now (vedge .entry)) (now (hedge .entry)) (now (sqw .entry)) (now (sqh .entry)) (now (qindex .entry))) (now (plane .entry)) (now (buffer .entry)) a (now (plane .exit)) (now (buffer .exit)) ⌝ }
 {
     let a = list_check(settings);
     if let Answer::Refused(r) = a {
-        return Recorded::Refused(r);
+        return RecordAnswer {
+            record: Recorded::Refused(r),
+            stored: 0,
+            changed: 0,
+        };
     }
     let s = plane_of(settings);
     record_plane(plane, buffer, vedge, hedge, sqw, sqh, qindex, steps, s)

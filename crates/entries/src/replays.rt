@@ -2,17 +2,20 @@
 use numbers::replay_of;
 use replay::replay_plane;
 use rules::refusals::Answer;
+use rules::refusals::PlaneAnswer;
 use rules::refusals::Refusal;
-ghost use Rattle.rules.specs.Replay.{replayCheck, replayOf};
-ghost use Rattle.answers.specs.Told.{listed, Handed};
-ghost use Rattle.numbers.specs.Settings.{replaySettings};
+ghost use Rattle.entries.specs.Planes.{ReplayHanded};
 
-// Runs the record's edges on the plane, or refuses and leaves it as lent.
-pub fn run_again(plane: &mut [u16], bytes: &[u8], settings: &[i32]) -> Answer
-    ensures { λ a. ⌜ Handed (listed 4 (now (settings .entry)) (replayCheck (replaySettings (now (settings .entry))) (now (bytes .entry)) (now (plane .entry)))) (now (plane .entry)) (replayOf (replaySettings (now (settings .entry))) (now (bytes .entry)) (now (plane .entry))) a (now (plane .exit)) ⌝ }
+// Runs the record's edges on the plane and tells how many samples were stored and changed; or refuses, leaves it as lent and tells of none.
+pub fn run_again(plane: &mut [u16], bytes: &[u8], settings: &[i32]) -> PlaneAnswer
+    ensures { λ a. ⌜ ReplayHanded (now (settings .entry)) (now (bytes .entry)) (now (plane .entry)) a (now (plane .exit)) ⌝ }
 {
     if settings.len() < 4 {
-        return Answer::Refused(Refusal::Length);
+        return PlaneAnswer {
+            answer: Answer::Refused(Refusal::Length),
+            stored: 0,
+            changed: 0,
+        };
     }
     let s = replay_of(settings);
     replay_plane(plane, bytes, s)

@@ -3,6 +3,8 @@ ghost use lib.ListN.{length};
 ghost use Rattle.streams.specs.Shaped.{Shaped};
 ghost use Rattle.filter.specs.Lent.{Lent};
 use crate::treat::treat;
+use rules::counts::Counts;
+use std::num::wrapping_add_usize;
 use streams::changes::changed;
 use streams::changes::keep;
 use streams::job::Job;
@@ -10,30 +12,58 @@ use streams::read::next_mark;
 use streams::read::read_frame;
 use streams::save::save;
 
-// Whether all is well so far, whether a frame was there, and how many of its samples changed.
-pub struct Done {
-    pub good: bool,
-    pub more: bool,
+// How many samples are not as they were, and how many deblocking stored and changed.
+pub struct Told {
     pub changed: usize,
+    pub counts: Counts,
 }
 
-// After an answer that says why not.
-fn failed() -> Done {
-    Done {
-        good: false,
-        more: false,
+// Of no frame.
+pub fn nothing() -> Told {
+    Told {
         changed: 0,
+        counts: Counts {
+            stored: 0,
+            changed: 0,
+        },
     }
 }
 
-// The planes of frame k, and others that keep them as they were.
+// Of two; it wraps at 2^64, which a thousand years of frames do not reach.
+pub fn both(a: Told, b: Told) -> Told {
+    let x = a.counts;
+    let y = b.counts;
+    Told {
+        changed: wrapping_add_usize(a.changed, b.changed),
+        counts: Counts {
+            stored: wrapping_add_usize(x.stored, y.stored),
+            changed: wrapping_add_usize(x.changed, y.changed),
+        },
+    }
+}
+
+// Whether all is well so far, whether a frame was there, and what is told of it.
+pub struct Done {
+    pub good: bool,
+    pub more: bool,
+    pub told: Told,
+}
+
+// No frame: all is well, or it is after an answer that says why not.
+fn ended(good: bool) -> Done {
+    Done {
+        good,
+        more: false,
+        told: nothing(),
+    }
+}
+
+// The planes of frame k, and a list that keeps them as they were.
 fn taken(
     y: &mut [u16],
     u: &mut [u16],
     v: &mut [u16],
-    wasy: &mut [u16],
-    wasu: &mut [u16],
-    wasv: &mut [u16],
+    was: &mut [u16],
     name: &[u8],
     j: Job,
     k: usize,
@@ -41,7 +71,7 @@ fn taken(
     requires { ⌜ Shaped j ⌝ }
 {
     let whole = read_frame(name, j, k, y, u, v);
-    keep(y, u, v, wasy, wasu, wasv, j);
+    keep(y, u, v, was, j);
     whole
 }
 
@@ -54,9 +84,8 @@ fn finished(
     y: &[u16],
     u: &[u16],
     v: &[u16],
-    wasy: &[u16],
-    wasu: &[u16],
-    wasv: &[u16],
+    was: &[u16],
+    counts: Counts,
 ) -> Done
     requires { ⌜ Shaped j ⌝ }
 {
@@ -64,10 +93,13 @@ fn finished(
         return Done {
             good: true,
             more: true,
-            changed: changed(y, u, v, wasy, wasu, wasv, j),
+            told: Told {
+                changed: changed(y, u, v, was, j),
+                counts,
+            },
         };
     }
-    failed()
+    ended(false)
 }
 
 // Frame k, whose line was read.
@@ -75,9 +107,7 @@ fn work(
     y: &mut [u16],
     u: &mut [u16],
     v: &mut [u16],
-    wasy: &mut [u16],
-    wasu: &mut [u16],
-    wasv: &mut [u16],
+    was: &mut [u16],
     luma: &mut [u16],
     name: &[u8],
     head: &[u8],
@@ -94,10 +124,10 @@ fn work(
 ) -> Done
     requires { ⌜ Shaped j × Lent (length (now numbers)) (length (now shorts)) (length (now steps)) (length (now flags)) (length (now offsets)) (length (now places)) ⌝ }
 {
-    if !taken(y, u, v, wasy, wasu, wasv, name, j, k) {
-        return failed();
+    if !taken(y, u, v, was, name, j, k) {
+        return ended(false);
     }
-    if !treat(
+    let t = treat(
         y,
         u,
         v,
@@ -110,10 +140,11 @@ fn work(
         offsets,
         places,
         text,
-    ) {
-        return failed();
+    );
+    if !t.good {
+        return ended(false);
     }
-    finished(head, mark, j, k, y, u, v, wasy, wasu, wasv)
+    finished(head, mark, j, k, y, u, v, was, t.counts)
 }
 
 // Frame k of the file, where there is one; the first must be there.
@@ -121,9 +152,7 @@ pub fn next(
     y: &mut [u16],
     u: &mut [u16],
     v: &mut [u16],
-    wasy: &mut [u16],
-    wasu: &mut [u16],
-    wasv: &mut [u16],
+    was: &mut [u16],
     luma: &mut [u16],
     name: &[u8],
     head: &[u8],
@@ -142,20 +171,14 @@ pub fn next(
     let mut mark = [0u8; 1024];
     let t = next_mark(name, j.from, k, &mut mark);
     if !t.more {
-        return Done {
-            good: t.good,
-            more: false,
-            changed: 0,
-        };
+        return ended(t.good);
     }
     let m = t.n;
     work(
         y,
         u,
         v,
-        wasy,
-        wasu,
-        wasv,
+        was,
         luma,
         name,
         head,

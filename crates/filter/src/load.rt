@@ -1,5 +1,6 @@
 // The settings' text, taken into the lists of its numbers.
 use crate::say;
+use settings::text::Fault;
 use settings::text::parse;
 use words::place::line_end;
 use words::place::spaces;
@@ -17,6 +18,19 @@ fn say_unknown(name: &[u8], text: &[u8], at: usize, line: usize) {
     say::unknown(name, line, &text[from..stop]);
 }
 
+// Whether a text has no fault; else after the answer that says what is wrong.
+fn faultless(name: &[u8], text: &[u8], fault: Fault) -> bool {
+    if fault.kind == 0 {
+        return true;
+    }
+    if fault.kind == 21 {
+        say_unknown(name, text, fault.at, fault.line);
+    } else {
+        say::expected_setting(name, fault.line, fault.kind);
+    }
+    false
+}
+
 // A text into the lists; false after the answer that says what is wrong.
 pub fn take(
     name: &[u8],
@@ -29,13 +43,5 @@ pub fn take(
     places: &mut [usize; 21],
 ) -> bool {
     let fault = parse(text, numbers, shorts, steps, flags, offsets, places);
-    if fault.kind == 0 {
-        return true;
-    }
-    if fault.kind == 21 {
-        say_unknown(name, text, fault.at, fault.line);
-    } else {
-        say::expected_setting(name, fault.line, fault.kind);
-    }
-    false
+    faultless(name, text, fault)
 }

@@ -4,6 +4,7 @@ ghost use Prim.Native.Nat.{_≤_};
 ghost use Rattle.streams.specs.Shaped.{Shaped};
 ghost use Rattle.filter.specs.Lent.{Lent};
 use crate::frame;
+use crate::frame::Told;
 use crate::load::take;
 use crate::say;
 use crate::treat::inside;
@@ -13,7 +14,7 @@ use pictures::planes;
 use pictures::shapes::chroma_of;
 use pictures::shapes::luma_of;
 use settings::names::first_places;
-use std::num::wrapping_add_usize;
+use streams::changes;
 use streams::job::Job;
 use streams::open::open;
 use streams::open::small;
@@ -22,12 +23,12 @@ use streams::say::unwritten;
 use y4m::header::Header;
 
 // The answer after the last frame, by whether OUT could be closed; none where a frame was bad, which was answered.
-fn closed(name: &[u8], j: Job, frames: usize, changed: usize, good: bool) {
+fn closed(name: &[u8], j: Job, frames: usize, told: Told, good: bool) {
     if !good {
         return;
     }
     if libc::close(j.to) == 0 {
-        say::filtered(name, j.h, frames, changed);
+        say::filtered(name, j.h, frames, told);
     } else {
         unwritten();
     }
@@ -38,9 +39,7 @@ fn frames(
     y: &mut [u16],
     u: &mut [u16],
     v: &mut [u16],
-    wasy: &mut [u16],
-    wasu: &mut [u16],
-    wasv: &mut [u16],
+    was: &mut [u16],
     luma: &mut [u16],
     name: &[u8],
     head: &[u8],
@@ -57,16 +56,14 @@ fn frames(
 {
     let shown = libc::isatty(2) == 1;
     let mut k: usize = 0;
-    let mut changed: usize = 0;
+    let mut told = frame::nothing();
     while k < 18446744073709551615 {
         say::count(k, shown);
         let d = frame::next(
             y,
             u,
             v,
-            wasy,
-            wasu,
-            wasv,
+            was,
             luma,
             name,
             head,
@@ -81,10 +78,10 @@ fn frames(
             text,
         );
         if !d.more {
-            closed(name, j, k, changed, d.good);
+            closed(name, j, k, told, d.good);
             return;
         }
-        changed = wrapping_add_usize(changed, d.changed);
+        told = frame::both(told, d.told);
         k += 1;
     }
 }
@@ -94,9 +91,7 @@ fn sized(
     y: &mut [u16],
     u: &mut [u16],
     v: &mut [u16],
-    wasy: &mut [u16],
-    wasu: &mut [u16],
-    wasv: &mut [u16],
+    was: &mut [u16],
     luma: &mut [u16],
     name: &[u8],
     settings: &[u8],
@@ -129,9 +124,7 @@ fn sized(
             y,
             u,
             v,
-            wasy,
-            wasu,
-            wasv,
+            was,
             luma,
             name,
             head,
@@ -152,9 +145,7 @@ fn told(
     y: &mut [u16],
     u: &mut [u16],
     v: &mut [u16],
-    wasy: &mut [u16],
-    wasu: &mut [u16],
-    wasv: &mut [u16],
+    was: &mut [u16],
     luma: &mut [u16],
     name: &[u8],
     settings: &[u8],
@@ -186,9 +177,7 @@ fn told(
             y,
             u,
             v,
-            wasy,
-            wasu,
-            wasv,
+            was,
             luma,
             name,
             settings,
@@ -213,17 +202,13 @@ fn light(name: &[u8], settings: &[u8], out: &[u8], fd: i32, head: &[u8], h: Head
     let mut y = planes::small_room();
     let mut u = planes::small_room();
     let mut v = planes::small_room();
-    let mut wasy = planes::small_room();
-    let mut wasu = planes::small_room();
-    let mut wasv = planes::small_room();
+    let mut was = changes::small_room();
     let mut luma = planes::small_room();
     told(
         &mut y,
         &mut u,
         &mut v,
-        &mut wasy,
-        &mut wasu,
-        &mut wasv,
+        &mut was,
         &mut luma,
         name,
         settings,
@@ -268,17 +253,13 @@ fn heavy(
     let mut y = planes::large_room();
     let mut u = planes::large_room();
     let mut v = planes::large_room();
-    let mut wasy = planes::large_room();
-    let mut wasu = planes::large_room();
-    let mut wasv = planes::large_room();
+    let mut was = changes::large_room();
     let mut luma = planes::large_room();
     told(
         &mut y,
         &mut u,
         &mut v,
-        &mut wasy,
-        &mut wasu,
-        &mut wasv,
+        &mut was,
         &mut luma,
         name,
         settings,

@@ -1,20 +1,21 @@
 // Both filters over the planes, and the answer that says why one refused.
 ghost use lib.ListN.{length};
 ghost use Prim.Native.Nat.{_≤_};
-ghost use Rattle.framed.specs.Framed.{Listed};
-ghost use Rattle.asked.specs.Offsets.{Long};
 ghost use Rattle.filter.specs.Lent.{Lent};
 ghost use Rattle.streams.specs.Shaped.{Shaped};
 use crate::say;
+use asked::gated::Applied;
 use asked::gated::offset_planes;
 use asked::lists::lists_of;
 use asked::places::Place;
 use asked::places::at;
 use asked::told::frame_of;
+use framed::listed::Outcome;
 use framed::listed::deblock_asked;
 use pictures::outside::outside;
 use pictures::planes;
 use pictures::planes::Shape;
+use rules::counts::Counts;
 use rules::refusals::Answer;
 use rules::refusals::Refusal;
 use rules::refusals::number;
@@ -24,6 +25,7 @@ use settings::lines::line_with;
 use settings::lines::lines_of;
 use streams::job::Job;
 use streams::save::pack;
+use streams::say::at_line;
 use thresholds::checks::delta_ok;
 use tiles::checks::cap_ok;
 use tiles::leaf::wide;
@@ -38,8 +40,8 @@ fn list_inside(name: &[u8], text: &[u8], kind: usize, leaves: &[u16], s: Shape) 
     }
     let row = wide(leaves[4 * k]);
     let column = wide(leaves[4 * k + 1]);
-    let line = line_with(text, kind, 4 * k);
-    say::outside(name, line, kind, row, column, rows, columns);
+    at_line(name, line_with(text, kind, 4 * k));
+    say::outside(kind, row, column, rows, columns);
     false
 }
 
@@ -116,20 +118,8 @@ fn say_refused(r: Refusal, at: Place, f: Frame, text: &[u8]) {
     }
 }
 
-// Deblocks the planes; false after the answer that says why not.
-fn deblocked(
-    y: &mut [u16],
-    u: &mut [u16],
-    v: &mut [u16],
-    shorts: &[u16],
-    steps: &[u32],
-    places: &[usize],
-    text: &[u8],
-    f: Frame,
-) -> bool
-    requires { ⌜ Listed (length (now shorts)) (length (now steps)) (length (now places)) ⌝ }
-{
-    let o = deblock_asked(y, u, v, shorts, steps, places, f);
+// Whether a frame was deblocked; else after the answer that says why not.
+fn deblocked(o: Outcome, f: Frame, text: &[u8]) -> bool {
     let a = o.answer;
     let at = o.place;
     match a {
@@ -141,34 +131,24 @@ fn deblocked(
     }
 }
 
-// Applies the offsets, each by luma as it was; false after the answer that says why not.
-fn offset(
-    y: &mut [u16],
-    u: &mut [u16],
-    v: &mut [u16],
-    luma: &[u16],
-    numbers: &[i32],
-    flags: &[u8],
-    offsets: &[i8],
-    places: &[usize],
-    text: &[u8],
-    f: Frame,
-    across: usize,
-) -> bool
-    requires { ⌜ Long (length (now numbers)) (length (now flags)) (length (now offsets)) (length (now places)) ⌝ }
-{
-    let done = offset_planes(y, u, v, luma, numbers, flags, offsets, places, f);
-    let a = done.answer;
-    let plane = done.plane;
+// The answer on a plane that was not offset, whose rows have so many samples.
+fn say_plane(r: Refusal, plane: usize, width: usize, text: &[u8]) {
+    if number(r) == 5 {
+        say_setting(ccso_kind(plane), text);
+    } else {
+        say::refused(r, at(plane, place(r), width), 0);
+    }
+}
+
+// Whether every plane was offset; else after the answer that says why not.
+fn offset(d: Applied, width: usize, across: usize, text: &[u8]) -> bool {
+    let a = d.answer;
+    let plane = d.plane;
     match a {
         Answer::Accepted => true,
         Answer::Refused(r) => {
-            if number(r) == 5 {
-                say_setting(ccso_kind(plane), text);
-            } else {
-                let width = if plane == 0 { f.width } else { across };
-                say::refused(r, at(plane, place(r), width), 0);
-            }
+            let samples = if plane == 0 { width } else { across };
+            say_plane(r, plane, samples, text);
             false
         }
     }
@@ -189,7 +169,13 @@ fn width_of(j: Job) -> usize {
     c.width
 }
 
-// Deblocks the planes, packs them and applies the offsets by a copy of luma; false after the answer that says why not.
+// Whether the planes were filtered, and how many samples deblocking stored and changed.
+pub struct Treated {
+    pub good: bool,
+    pub counts: Counts,
+}
+
+// Deblocks the planes, packs them and applies the offsets by a copy of luma; not good after the answer that says why not.
 pub fn treat(
     y: &mut [u16],
     u: &mut [u16],
@@ -203,26 +189,24 @@ pub fn treat(
     offsets: &[i8],
     places: &[usize],
     text: &[u8],
-) -> bool
+) -> Treated
     requires { ⌜ Shaped j × Lent (length (now numbers)) (length (now shorts)) (length (now steps)) (length (now flags)) (length (now offsets)) (length (now places)) ⌝ }
 {
     let f = frame_by(j, numbers);
-    if !deblocked(y, u, v, shorts, steps, places, text, f) {
-        return false;
+    let o = deblock_asked(y, u, v, shorts, steps, places, f);
+    let counts = Counts {
+        stored: o.stored,
+        changed: o.changed,
+    };
+    if !deblocked(o, f, text) {
+        return Treated {
+            good: false,
+            counts,
+        };
     }
     pack(y, u, v, j);
     planes::copy(y, luma);
-    offset(
-        y,
-        u,
-        v,
-        luma,
-        numbers,
-        flags,
-        offsets,
-        places,
-        text,
-        f,
-        width_of(j),
-    )
+    let d = offset_planes(y, u, v, luma, numbers, flags, offsets, places, f);
+    let good = offset(d, f.width, width_of(j), text);
+    Treated { good, counts }
 }

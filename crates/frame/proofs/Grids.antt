@@ -16,10 +16,10 @@ use Rattle.rules.specs.TuGrid.{marks, txGridOf}
 use Rattle.rules.specs.QindexGrid.{qGridOf}
 use Rattle.rules.specs.Frame.{lumaPlane, chromaPlane, lumaTu, chromaTu, lumaQ, chromaQ, builtGrid}
 use Rattle.grid.proofs.Built.{no-bad-cell}
-use Rattle.plane.specs.Checked.{Checked}
 use Rattle.plane.proofs.Accepting.{lengths, readies-by}
-use Rattle.frame_checks.specs.Settings.{Sized, kindOn, planeOf, tuOf, qOf}
+use Rattle.frame_checks.specs.Settings.{kindOn, planeOf, tuOf, qOf}
 use Rattle.frame_planes.specs.Fit.{Sampled, Marked, Buildable}
+use Rattle.frame_planes.specs.Ran.{Runnable}
 use Rattle.frame.specs.Fit.{Stepped, Gridded}
 
 -- the TU grid has the plane's cells
@@ -82,10 +82,10 @@ module _ {f : Frame} {chroma : Bool} {v h w t q : List ℕ} {size : ℕ} (k : Gr
       let r = readies-by v h w t (record { depth = k .sampled .depth; sizes-ok = k .sampled .sizes-ok; plane-long = l .samples; lists-long = l .lists }) same-cells refl in
       record { sized = k .sampled .sized; vert = r .0; horz = r .1 }
 
-  pub checked : {steps : List ℕ} → Stepped f chroma steps → noRoom (planeOf f chroma) (grid v h w t q) ≡ Nothing → Sized f × Checked (planeOf f chroma) steps (grid v h w t q) size
-  checked s room = (
-    k .sampled .sized,
-    record {
+  pub runnable : {steps : List ℕ} → Stepped f chroma steps → noRoom (planeOf f chroma) (grid v h w t q) ≡ Nothing → Runnable f chroma steps (grid v h w t q) size
+  runnable s room = record {
+    sized = k .sampled .sized;
+    checked = record {
       depth = k .sampled .depth;
       sizes-ok = k .sampled .sizes-ok;
       lengths = k .lengths;
@@ -94,5 +94,5 @@ module _ {f : Frame} {chroma : Bool} {v h w t q : List ℕ} {size : ℕ} (k : Gr
       deltaside-ok = s .deltaside-ok;
       cells = k .cells;
       room = room;
-    },
-  )
+    };
+  }

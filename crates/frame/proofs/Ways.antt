@@ -1,6 +1,6 @@
 -- A frame at each of its ways out: refused by its early checks, refused by its late ones with its grids built, and run.
 -- Assumes nothing.
-use mathlib.Core.Path.{_≡_, refl, sym, ap, _∙_}
+use mathlib.Core.Path.{_≡_, sym, ap, ap₂, _∙_}
 use mathlib.Core.Bool.{Bool, true, false}
 use mathlib.Core.List.{List}
 use Prim.Native.Nat.{ℕ}
@@ -10,11 +10,15 @@ use Rattle.rules.specs.declared.refusals.Refusal.{Refusal}
 use Rattle.rules.specs.declared.refusals.Refusal.the-variants.{Room}
 use Rattle.rules.specs.declared.refusals.Answer.{Answer}
 use Rattle.rules.specs.declared.refusals.Answer.the-variants.{Accepted, Refused}
+use Rattle.rules.specs.declared.refusals.PlaneAnswer.{PlaneAnswer}
 use Rattle.rules.specs.declared.refusals.Found.the-variants.{Nothing}
+use Rattle.rules.specs.declared.counts.Counts.{Counts}
 use Rattle.rules.specs.Refusals.{settle}
-use Rattle.rules.specs.Plane.{Grid, runPlane, noRoom}
-use Rattle.rules.specs.Frame.{Planes, Given, Done, planes, grids, lent, done, lengthsOf, lumaPlane, chromaPlane, lumaTu, chromaTu, lumaQ, chromaQ, chromaOn, builtGrid, builtGrids, frameEarly, frameRoom, frameLate, runFrame, frameBuilt, orDone, frameOf}
-use Rattle.scan.proofs.Checks.{else-parts, found-nothing, only-part}
+use Rattle.rules.specs.Plane.{Grid, noRoom}
+use Rattle.rules.specs.Frame.{Planes, Grids, Given, grids, lent, done, lengthsOf, lumaPlane, chromaPlane, lumaTu, chromaTu, lumaQ, chromaQ, chromaOn, builtGrid, builtGrids, frameEarly, frameRoom, frameLate, frameBuilt, orDone, frameOf, frameStored, frameChanged}
+use Rattle.scan.proofs.Checks.{else-parts, found-nothing, only-part, settle-refused, settle-accepted}
+use Rattle.frame_planes.specs.Ran.{FrameRun}
+use Rattle.frame.specs.Stated.{Finished, Stated}
 
 -- ---- room, by the accepted late checks
 
@@ -34,22 +38,48 @@ module _ (f : Frame) (l c : Grid) (p : Planes) {a : Answer} (is : a ≡ frameLat
 -- ---- the ways out of a frame whose grids are built
 
 module _ (f : Frame) (steps : List ℕ) (l c : Grid) (p : Planes) {a : Answer} (is : a ≡ frameLate f (grids l c) p) where
-  pub late-stop : {r : Refusal} → a ≡ Refused r → done (Refused r) (lent p (grids l c)) ≡ frameBuilt f steps (grids l c) p
-  unfolding frameBuilt settle
-  late-stop e = rw (sym is ∙ e)
+  pub late-stop : {r : Refusal} → a ≡ Refused r → Finished f steps (grids l c) p (record { answer = Refused r; stored = 0; changed = 0 }) p
+  late-stop e = record {
+    answer = sym e ∙ is;
+    planes = settle-refused _ _ _ (sym e ∙ is);
+    stored = settle-refused _ _ _ (sym e ∙ is);
+    changed = settle-refused _ _ _ (sym e ∙ is);
+  }
 
-  pub late-run : {y u v : List ℕ} → a ≡ Accepted → y ≡ pick true (runPlane (lumaPlane f) steps l (p .y)) (p .y) → u ≡ pick (chromaOn f) (runPlane (chromaPlane f) steps c (p .u)) (p .u) → v ≡ pick (chromaOn f) (runPlane (chromaPlane f) steps c (p .v)) (p .v) → done Accepted (lent (planes y u v) (grids l c)) ≡ frameBuilt f steps (grids l c) p
-  unfolding frameBuilt settle runFrame pick
-  late-run e ry ru rv = rw (sym is ∙ e, ry, ru, rv)
+  pub late-run : {x : Counts} {q : Planes} → a ≡ Accepted → FrameRun f steps (grids l c) p x q → Finished f steps (grids l c) p (record { answer = Accepted; stored = x .stored; changed = x .changed }) q
+  late-run e run = record {
+    answer = sym e ∙ is;
+    planes = settle-accepted _ _ _ _ (sym e ∙ is) (run .planes);
+    stored = settle-accepted _ _ _ _ (sym e ∙ is) (run .stored);
+    changed = settle-accepted _ _ _ _ (sym e ∙ is) (run .changed);
+  }
 
 -- ---- the ways out of the entry
 
 module _ (f : Frame) (n : Given) (p : Planes) (l c : Grid) {a : Answer} (is : a ≡ frameEarly f (lengthsOf n (lent p (grids l c))) n) where
-  pub frame-refused : {r : Refusal} → a ≡ Refused r → done (Refused r) (lent p (grids l c)) ≡ frameOf f n (lent p (grids l c))
+  refused-is : {r : Refusal} → a ≡ Refused r → frameOf f n (lent p (grids l c)) ≡ done (Refused r) (lent p (grids l c))
   unfolding frameOf orDone
-  frame-refused e = rw (sym is ∙ e)
+  refused-is e = rw (sym is ∙ e)
+
+  pub frame-refused : {r : Refusal} → a ≡ Refused r → Stated f n (lent p (grids l c)) (record { answer = Refused r; stored = 0; changed = 0 }) (lent p (grids l c))
+  unfolding frameStored frameChanged settle
+  frame-refused e = let d = refused-is e in record { answer = rw d; lists = rw d; stored = rw d; changed = rw d }
+
+  built-is : a ≡ Accepted → frameOf f n (lent p (grids l c)) ≡ frameBuilt f (n .steps) (builtGrids f n (grids l c)) p
+  unfolding frameOf orDone
+  built-is ok = rw (sym is ∙ ok)
+
+  on-built : {b : PlaneAnswer} {q : Planes} → a ≡ Accepted → Finished f (n .steps) (builtGrids f n (grids l c)) p b q → Stated f n (lent p (grids l c)) b (lent q (builtGrids f n (grids l c)))
+  unfolding frameBuilt frameStored frameChanged
+  on-built ok z =
+      let d = built-is ok in
+      record { answer = rw d (z .answer); lists = rw d (ap (λ (x : Planes). lent x (builtGrids f n (grids l c))) (z .planes)); stored = rw d (z .stored); changed = rw d (z .changed) }
+
+  built-by : (g : Grids) {b : PlaneAnswer} {q : Planes} → a ≡ Accepted → g ≡ builtGrids f n (grids l c) → Finished f (n .steps) g p b q → Stated f n (lent p (grids l c)) b (lent q g)
+  built-by g ok e z = rw e (on-built ok (rw e at z))
 
   -- both grids built, as l' and c'
-  pub frame-built : {l' c' : Grid} {d : Done} → a ≡ Accepted → l' ≡ pick true (builtGrid (lumaTu f) (lumaQ f) (n .leaves) (n .skips) (n .sbq) l) l → c' ≡ pick (chromaOn f) (builtGrid (chromaTu f) (chromaQ f) (n .chromaLeaves) (n .skips) (n .sbq) c) c → d ≡ frameBuilt f (n .steps) (grids l' c') p → d ≡ frameOf f n (lent p (grids l c))
-  unfolding frameOf orDone builtGrids pick
-  frame-built ok luma chroma e = rw (sym is ∙ ok, ← luma, ← chroma) e
+  pub frame-built : {l' c' : Grid} {b : PlaneAnswer} {q : Planes} → a ≡ Accepted → l' ≡ pick true (builtGrid (lumaTu f) (lumaQ f) (n .leaves) (n .skips) (n .sbq) l) l → c' ≡ pick (chromaOn f) (builtGrid (chromaTu f) (chromaQ f) (n .chromaLeaves) (n .skips) (n .sbq) c) c
+      → Finished f (n .steps) (grids l' c') p b q → Stated f n (lent p (grids l c)) b (lent q (grids l' c'))
+  unfolding builtGrids pick
+  frame-built {l'} {c'} ok luma chroma z = built-by (grids l' c') ok (ap₂ grids luma chroma) z

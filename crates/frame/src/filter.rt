@@ -1,16 +1,18 @@
 // The planes of a frame whose grids are built: the late checks, and the planes run where they accept.
 use frame_planes::late::late;
-use frame_planes::run::run;
+use frame_planes::run::run_planes;
 use rules::refusals::Answer;
+use rules::refusals::PlaneAnswer;
 use rules::settings::Frame;
 ghost use mathlib.Core.Path.{_≡_};
 ghost use mathlib.Core.Bool.{true, false};
 ghost use lib.ListN.{length};
 ghost use Rattle.rules.specs.Plane.{grid};
-ghost use Rattle.rules.specs.Frame.{planes, grids, lent, done, chromaOn, frameBuilt};
+ghost use Rattle.rules.specs.Frame.{planes, grids, chromaOn};
 ghost use Rattle.frame.specs.Fit.{Gridded, Stepped};
+ghost use Rattle.frame.specs.Stated.{Finished};
 
-// Luma, U, V in that order.
+// Filters the planes and tells how many samples that stored and changed; or refuses them, and tells of none.
 pub fn filter(
     y: &mut [u16],
     u: &mut [u16],
@@ -27,24 +29,28 @@ pub fn filter(
     cq: &[u16],
     steps: &[u32],
     f: Frame,
-) -> Answer
+) -> PlaneAnswer
     requires { ⌜ Stepped f false (now steps) × Gridded f false (grid (now lv) (now lh) (now lw) (now lt) (now lq)) (length (now y)) ⌝ }
     requires { ⌜ (chromaOn f ≡ true → Stepped f true (now steps) × Gridded f true (grid (now cv) (now ch) (now cw) (now ct) (now cq)) (length (now u)) × Gridded f true (grid (now cv) (now ch) (now cw) (now ct) (now cq)) (length (now v))) ⌝ }
-    ensures { λ r. ⌜ done r
-        (lent
-        (planes (now (y .exit)) (now (u .exit)) (now (v .exit)))
-        (grids (grid (now (lv .entry)) (now (lh .entry)) (now (lw .entry)) (now (lt .entry)) (now (lq .entry))) (grid (now (cv .entry)) (now (ch .entry)) (now (cw .entry)) (now (ct .entry)) (now (cq .entry)))))
-        ≡ frameBuilt f
+    ensures { λ a. ⌜ Finished f
         (now (steps .entry))
         (grids (grid (now (lv .entry)) (now (lh .entry)) (now (lw .entry)) (now (lt .entry)) (now (lq .entry))) (grid (now (cv .entry)) (now (ch .entry)) (now (cw .entry)) (now (ct .entry)) (now (cq .entry))))
-        (planes (now (y .entry)) (now (u .entry)) (now (v .entry))) ⌝ }
+        (planes (now (y .entry)) (now (u .entry)) (now (v .entry)))
+        a
+        (planes (now (y .exit)) (now (u .exit)) (now (v .exit))) ⌝ }
 {
     let a = late(y, u, v, lv, lh, lw, lt, cv, ch, cw, ct, f);
     if let Answer::Refused(r) = a {
-        return Answer::Refused(r);
+        return PlaneAnswer {
+            answer: Answer::Refused(r),
+            stored: 0,
+            changed: 0,
+        };
     }
-    run(y, lv, lh, lw, lt, lq, steps, f, false);
-    run(u, cv, ch, cw, ct, cq, steps, f, true);
-    run(v, cv, ch, cw, ct, cq, steps, f, true);
-    Answer::Accepted
+    let n = run_planes(y, u, v, lv, lh, lw, lt, lq, cv, ch, cw, ct, cq, steps, f);
+    PlaneAnswer {
+        answer: Answer::Accepted,
+        stored: n.stored,
+        changed: n.changed,
+    }
 }

@@ -5,12 +5,13 @@ use frame_planes::build::build;
 use rules::lent::FrameLengths;
 use rules::lent::GridLengths;
 use rules::refusals::Answer;
+use rules::refusals::PlaneAnswer;
 use rules::settings::Frame;
-ghost use mathlib.Core.Path.{_≡_};
 ghost use Rattle.rules.specs.Plane.{grid};
-ghost use Rattle.rules.specs.Frame.{planes, grids, lent, given, done, frameOf};
+ghost use Rattle.rules.specs.Frame.{planes, grids, lent, given};
+ghost use Rattle.frame.specs.Stated.{Stated};
 
-// Filters a frame of any settings and lists, or says why it does not: the answer and every lent list are those of rules' frameOf.
+// Filters a frame of any settings and lists and tells how many samples that stored and changed, or says why it does not: answer, counts and every lent list are those of rules.
 pub fn deblock_frame(
     y: &mut [u16],
     u: &mut [u16],
@@ -31,16 +32,16 @@ pub fn deblock_frame(
     chromaleaves: &[u16],
     skips: &[u16],
     f: Frame,
-) -> Answer
-    ensures { λ r. ⌜ done r
-        (lent
-        (planes (now (y .exit)) (now (u .exit)) (now (v .exit)))
-        (grids (grid (now (lv .exit)) (now (lh .exit)) (now (lw .exit)) (now (lt .exit)) (now (lq .exit))) (grid (now (cv .exit)) (now (ch .exit)) (now (cw .exit)) (now (ct .exit)) (now (cq .exit)))))
-        ≡ frameOf f
+) -> PlaneAnswer
+    ensures { λ a. ⌜ Stated f
         (given (now (steps .entry)) (now (sbq .entry)) (now (leaves .entry)) (now (chromaleaves .entry)) (now (skips .entry)))
         (lent
         (planes (now (y .entry)) (now (u .entry)) (now (v .entry)))
-        (grids (grid (now (lv .entry)) (now (lh .entry)) (now (lw .entry)) (now (lt .entry)) (now (lq .entry))) (grid (now (cv .entry)) (now (ch .entry)) (now (cw .entry)) (now (ct .entry)) (now (cq .entry))))) ⌝ }
+        (grids (grid (now (lv .entry)) (now (lh .entry)) (now (lw .entry)) (now (lt .entry)) (now (lq .entry))) (grid (now (cv .entry)) (now (ch .entry)) (now (cw .entry)) (now (ct .entry)) (now (cq .entry)))))
+        a
+        (lent
+        (planes (now (y .exit)) (now (u .exit)) (now (v .exit)))
+        (grids (grid (now (lv .exit)) (now (lh .exit)) (now (lw .exit)) (now (lt .exit)) (now (lq .exit))) (grid (now (cv .exit)) (now (ch .exit)) (now (cw .exit)) (now (ct .exit)) (now (cq .exit))))) ⌝ }
 {
     let luma = GridLengths {
         vedge: lv.len(),
@@ -69,7 +70,11 @@ pub fn deblock_frame(
     };
     let a = frame_early(steps, leaves, chromaleaves, skips, f, n);
     if let Answer::Refused(r) = a {
-        return Answer::Refused(r);
+        return PlaneAnswer {
+            answer: Answer::Refused(r),
+            stored: 0,
+            changed: 0,
+        };
     }
     build(lv, lh, lw, lt, lq, leaves, skips, sbq, f, false);
     build(cv, ch, cw, ct, cq, chromaleaves, skips, sbq, f, true);

@@ -1,4 +1,4 @@
--- A frame's settings as a list of fifteen numbers, its check, and what it leaves.
+-- A frame's settings as a list of fifteen numbers, its check, what it leaves and what it counts.
 -- Assumes nothing.
 use mathlib.Core.Path.{_≡_}
 use mathlib.Core.Bool.{Bool}
@@ -10,11 +10,12 @@ use Rattle.laws.specs.Choose.{both}
 use Rattle.rules.specs.declared.settings.Frame.{Frame}
 use Rattle.rules.specs.declared.refusals.Refusal.the-variants.{Depth, Size}
 use Rattle.rules.specs.declared.refusals.Answer.{Answer}
+use Rattle.rules.specs.declared.refusals.PlaneAnswer.{PlaneAnswer}
 use Rattle.rules.specs.Numbers.{depthOk}
-use Rattle.rules.specs.Refusals.{orElse, unless}
-use Rattle.rules.specs.Frame.{Given, Lent, Done, orDone, frameOf}
+use Rattle.rules.specs.Refusals.{orElse, unless, settle}
+use Rattle.rules.specs.Frame.{Given, Lent, Done, orDone, frameOf, frameStored, frameChanged}
 use Rattle.numbers.specs.Settings.{countAt, numberAt}
-use Rattle.answers.specs.Told.{listed, Told}
+use Rattle.answers.specs.Told.{listed, tallied, Told}
 
 -- has_chroma and chroma_deblock are 0 or 1
 unfoldable pub frameSettings : List ℤ → Frame
@@ -46,7 +47,22 @@ listCheck l = listed 15 l (orElse (unless (depthOk (countAt l 6)) Depth) (unless
 unfoldable pub cFrameOf : List ℤ → Given → Lent → Done
 cFrameOf settings n l = orDone (listCheck settings) l (frameOf (frameSettings settings) n l)
 
--- what C is told, and the lent lists afterwards
-pub record FrameTold (d : Done) (place : List ℕ) (n : ℤ) (left : Lent) (placed : List ℕ) : Type 0 where
-  pub told : Told (d .answer) place n placed
-  pub lists-are : left ≡ d .lists
+-- ticket 4: stored and changed samples; "A refusal reports zero for both."
+unfoldable pub cFrameStored : List ℤ → Given → Lent → ℕ
+cFrameStored settings n l = settle (listCheck settings) 0 (frameStored (frameSettings settings) n l)
+
+unfoldable pub cFrameChanged : List ℤ → Given → Lent → ℕ
+cFrameChanged settings n l = settle (listCheck settings) 0 (frameChanged (frameSettings settings) n l)
+
+-- what is handed back: the answer a with the counts, and the lent lists afterwards
+pub record FrameHanded (settings : List ℤ) (n : Given) (l : Lent) (a : PlaneAnswer) (left : Lent) : Type 0 where
+  pub answer : a .answer ≡ cFrameOf settings n l .answer
+  pub lists-are : left ≡ cFrameOf settings n l .lists
+  pub stored-is : a .stored ≡ cFrameStored settings n l
+  pub changed-is : a .changed ≡ cFrameChanged settings n l
+
+-- the same told to C
+pub record FrameTold (settings : List ℤ) (n : Given) (l : Lent) (place counts : List ℕ) (r : ℤ) (left : Lent) (placed tally : List ℕ) : Type 0 where
+  pub told : Told (cFrameOf settings n l .answer) place r placed
+  pub lists-are : left ≡ cFrameOf settings n l .lists
+  pub counts-are : tally ≡ tallied (cFrameStored settings n l) (cFrameChanged settings n l) counts

@@ -1,16 +1,14 @@
 // A whole frame, by its settings as a list of numbers.
-use super::listed::flags_ok;
 use super::listed::frame_of;
+use super::listed::list_check;
 use frame::frame::deblock_frame;
-use rules::depth::Depth;
 use rules::refusals::Answer;
-use rules::refusals::Refusal;
-ghost use mathlib.Core.Path.{_≡_};
+use rules::refusals::PlaneAnswer;
 ghost use Rattle.rules.specs.Plane.{grid};
-ghost use Rattle.rules.specs.Frame.{planes, grids, lent, given, done};
-ghost use Rattle.frame_entry.specs.Listed.{cFrameOf};
+ghost use Rattle.rules.specs.Frame.{planes, grids, lent, given};
+ghost use Rattle.frame_entry.specs.Listed.{FrameHanded};
 
-// Filters a frame, or says why it does not.
+// Filters a frame and tells how many samples it stored and changed; or says why it does not, and tells of none.
 pub fn filter(
     y: &mut [u16],
     u: &mut [u16],
@@ -31,28 +29,27 @@ pub fn filter(
     chromaleaves: &[u16],
     skips: &[u16],
     settings: &[i32],
-) -> Answer
-    ensures { λ a. ⌜ done a
-        (lent
-        (planes (now (y .exit)) (now (u .exit)) (now (v .exit)))
-        (grids (grid (now (lv .exit)) (now (lh .exit)) (now (lw .exit)) (now (lt .exit)) (now (lq .exit))) (grid (now (cv .exit)) (now (ch .exit)) (now (cw .exit)) (now (ct .exit)) (now (cq .exit)))))
-        ≡ cFrameOf
+) -> PlaneAnswer
+    ensures { λ a. ⌜ FrameHanded
         (now (settings .entry))
         (given (now (steps .entry)) (now (sbq .entry)) (now (leaves .entry)) (now (chromaleaves .entry)) (now (skips .entry)))
         (lent
         (planes (now (y .entry)) (now (u .entry)) (now (v .entry)))
-        (grids (grid (now (lv .entry)) (now (lh .entry)) (now (lw .entry)) (now (lt .entry)) (now (lq .entry))) (grid (now (cv .entry)) (now (ch .entry)) (now (cw .entry)) (now (ct .entry)) (now (cq .entry))))) ⌝ }
+        (grids (grid (now (lv .entry)) (now (lh .entry)) (now (lw .entry)) (now (lt .entry)) (now (lq .entry))) (grid (now (cv .entry)) (now (ch .entry)) (now (cw .entry)) (now (ct .entry)) (now (cq .entry)))))
+        a
+        (lent
+        (planes (now (y .exit)) (now (u .exit)) (now (v .exit)))
+        (grids (grid (now (lv .exit)) (now (lh .exit)) (now (lw .exit)) (now (lt .exit)) (now (lq .exit))) (grid (now (cv .exit)) (now (ch .exit)) (now (cw .exit)) (now (ct .exit)) (now (cq .exit))))) ⌝ }
 {
-    if settings.len() < 15 {
-        return Answer::Refused(Refusal::Length);
+    let a = list_check(settings);
+    if let Answer::Refused(r) = a {
+        return PlaneAnswer {
+            answer: Answer::Refused(r),
+            stored: 0,
+            changed: 0,
+        };
     }
     let f = frame_of(settings);
-    if !Depth::is(f.depth) {
-        return Answer::Refused(Refusal::Depth);
-    }
-    if !flags_ok(settings) {
-        return Answer::Refused(Refusal::Size);
-    }
     deblock_frame(
         y,
         u,

@@ -3,14 +3,17 @@ use numbers::count;
 use numbers::flag;
 use numbers::number;
 use numbers::size;
+use rules::depth::Depth;
+use rules::refusals::Answer;
+use rules::refusals::Refusal;
 use rules::settings::Frame;
 ghost use mathlib.Core.Path.{_≡_};
 ghost use Prim.Native.Nat.{_≤_};
 ghost use lib.ListN.{length};
-ghost use Rattle.frame_entry.specs.Listed.{frameSettings, flagsOk};
+ghost use Rattle.frame_entry.specs.Listed.{frameSettings, flagsOk, listCheck};
 
 // Whether has_chroma and chroma_deblock are 0 or 1.
-pub fn flags_ok(list: &[i32]) -> bool
+fn flags_ok(list: &[i32]) -> bool
     requires { ⌜ 15 ≤ length (now list) ⌝ }
     ensures { λ r. ⌜ r ≡ flagsOk (now (list .entry)) ⌝ }
 {
@@ -18,6 +21,22 @@ pub fn flags_ok(list: &[i32]) -> bool
         return false;
     }
     count(list, 5) <= 1
+}
+
+// The first refusal that the list itself gives: too few numbers, and a flag that is none after the depth.
+pub fn list_check(list: &[i32]) -> Answer
+    ensures { λ a. ⌜ a ≡ listCheck (now (list .entry)) ⌝ }
+{
+    if list.len() < 15 {
+        return Answer::Refused(Refusal::Length);
+    }
+    if !Depth::is(count(list, 6)) {
+        return Answer::Refused(Refusal::Depth);
+    }
+    if !flags_ok(list) {
+        return Answer::Refused(Refusal::Size);
+    }
+    Answer::Accepted
 }
 
 // The settings.

@@ -1,2 +1,3 @@
 -- The laws of a frame's planes.
 pub mod Parts
+pub mod Counted

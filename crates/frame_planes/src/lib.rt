@@ -6,5 +6,5 @@ pub mod build;
 // The checks of built grids and planes: refusals 7 and 8.
 pub mod late;
 
-// One plane run.
+// The planes run.
 pub mod run;

@@ -1,18 +1,19 @@
-// A plane of a frame filtered by its grid.
+// A frame's planes filtered by their grids, and how many samples that stored and changed.
 use frame_checks::planes::kind_on;
 use frame_checks::planes::plane_of;
 use plane::run_plane;
+use rules::counts::Counts;
 use rules::settings::Frame;
 ghost use mathlib.Core.Path.{_≡_};
-ghost use mathlib.Core.Bool.{true};
+ghost use mathlib.Core.Bool.{true, false};
 ghost use lib.ListN.{length};
-ghost use Rattle.laws.specs.Choose.{pick};
-ghost use Rattle.rules.specs.Plane.{grid, runPlane};
-ghost use Rattle.plane.specs.Checked.{Checked};
-ghost use Rattle.frame_checks.specs.Settings.{Sized, kindOn, planeOf};
+ghost use Rattle.rules.specs.Plane.{grid};
+ghost use Rattle.rules.specs.Frame.{planes, grids, chromaOn};
+ghost use Rattle.frame_checks.specs.Settings.{kindOn};
+ghost use Rattle.frame_planes.specs.Ran.{Runnable, PlaneRun, FrameRun};
 
-// Runs the plane where it is filtered.
-pub fn run(
+// Runs one plane where it is filtered.
+fn run(
     plane: &mut [u16],
     vedge: &[u8],
     hedge: &[u8],
@@ -22,14 +23,17 @@ pub fn run(
     steps: &[u32],
     f: Frame,
     chroma: bool,
-)
-    requires { ⌜ (kindOn f chroma ≡ true → Sized f × Checked (planeOf f chroma) (now steps) (grid (now vedge) (now hedge) (now sqw) (now sqh) (now qindex)) (length (now plane))) ⌝ }
-    ensures { λ _. ⌜ now (plane .exit) ≡ pick (kindOn f chroma) (runPlane (planeOf f chroma) (now (steps .entry)) (grid (now (vedge .entry)) (now (hedge .entry)) (now (sqw .entry)) (now (sqh .entry)) (now (qindex .entry))) (now (plane .entry))) (now (plane .entry)) ⌝ }
+) -> Counts
+    requires { ⌜ (kindOn f chroma ≡ true → Runnable f chroma (now steps) (grid (now vedge) (now hedge) (now sqw) (now sqh) (now qindex)) (length (now plane))) ⌝ }
+    ensures { λ a. ⌜ PlaneRun f chroma (now (steps .entry)) (grid (now (vedge .entry)) (now (hedge .entry)) (now (sqw .entry)) (now (sqh .entry)) (now (qindex .entry))) (now (plane .entry)) a (now (plane .exit)) ⌝ }
 {
     if !kind_on(f, chroma) {
-        return;
+        return Counts {
+            stored: 0,
+            changed: 0,
+        };
     }
-    run_plane(
+    let done = run_plane(
         plane,
         vedge,
         hedge,
@@ -39,4 +43,44 @@ pub fn run(
         steps,
         plane_of(f, chroma),
     );
+    Counts {
+        stored: done.stored,
+        changed: done.changed,
+    }
+}
+
+// Luma, U, V in that order, and their counts added.
+pub fn run_planes(
+    y: &mut [u16],
+    u: &mut [u16],
+    v: &mut [u16],
+    lv: &[u8],
+    lh: &[u8],
+    lw: &[u8],
+    lt: &[u8],
+    lq: &[u16],
+    cv: &[u8],
+    ch: &[u8],
+    cw: &[u8],
+    ct: &[u8],
+    cq: &[u16],
+    steps: &[u32],
+    f: Frame,
+) -> Counts
+    requires { ⌜ Runnable f false (now steps) (grid (now lv) (now lh) (now lw) (now lt) (now lq)) (length (now y)) ⌝ }
+    requires { ⌜ (chromaOn f ≡ true → Runnable f true (now steps) (grid (now cv) (now ch) (now cw) (now ct) (now cq)) (length (now u)) × Runnable f true (now steps) (grid (now cv) (now ch) (now cw) (now ct) (now cq)) (length (now v))) ⌝ }
+    ensures { λ a. ⌜ FrameRun f
+        (now (steps .entry))
+        (grids (grid (now (lv .entry)) (now (lh .entry)) (now (lw .entry)) (now (lt .entry)) (now (lq .entry))) (grid (now (cv .entry)) (now (ch .entry)) (now (cw .entry)) (now (ct .entry)) (now (cq .entry))))
+        (planes (now (y .entry)) (now (u .entry)) (now (v .entry)))
+        a
+        (planes (now (y .exit)) (now (u .exit)) (now (v .exit))) ⌝ }
+{
+    let of_y = run(y, lv, lh, lw, lt, lq, steps, f, false);
+    let of_u = run(u, cv, ch, cw, ct, cq, steps, f, true);
+    let of_v = run(v, cv, ch, cw, ct, cq, steps, f, true);
+    Counts {
+        stored: of_y.stored + of_u.stored + of_v.stored,
+        changed: of_y.changed + of_u.changed + of_v.changed,
+    }
 }

@@ -1,15 +1,17 @@
 -- A frame gives each number exactly when document 01's test for it fails and those before it hold.
 -- Assumes nothing.
-use mathlib.Core.Path.{_≡_, refl, sym, ap, _∙_}
+use mathlib.Core.Path.{_≡_, refl, _∙_}
 use mathlib.Core.List.{List}
 use Rattle.rules.specs.declared.settings.Frame.{Frame}
 use Rattle.rules.specs.declared.refusals.Answer.{Answer}
 use Rattle.rules.specs.declared.refusals.Answer.the-variants.{Accepted, Refused}
+use Rattle.rules.specs.declared.refusals.PlaneAnswer.{PlaneAnswer}
 use Rattle.rules.specs.Refusals.{orElse}
 use Rattle.rules.specs.Thresholds.{stepsCheck}
-use Rattle.rules.specs.Frame.{Given, Lent, Done, done, lengthsOf, builtGrids, frameSizes, frameLengths, frameShape, frameSettings, frameLeaves, frameGiven, frameEarly, frameRoom, frameSamples, frameLate, frameBuilt, orDone, frameOf}
+use Rattle.rules.specs.Frame.{Given, Lent, lengthsOf, builtGrids, frameSizes, frameLengths, frameShape, frameSettings, frameLeaves, frameGiven, frameEarly, frameRoom, frameSamples, frameLate, frameBuilt, orDone, frameOf}
 use Rattle.scan.specs.Exactly.{Exactly}
 use Rattle.scan.proofs.Exactly.{exactly, else-joined}
+use Rattle.frame.specs.Stated.{Stated}
 use Rattle.frame_promises.specs.Exactly.{frameTests}
 
 -- the early checks, then the late ones
@@ -26,6 +28,6 @@ in-one : (a1 a2 a3 a4 a5 a9 a7 a8 : Answer) → orElse (orElse (orElse a1 (orEls
 in-one a1 a2 a3 a4 a5 a9 a7 a8 = simp else-joined
 
 -- every result that the entry's statement allows
-pub frame-exactly : (f : Frame) (n : Given) (l : Lent) {r : Answer} {a : Lent} → done r a ≡ frameOf f n l → Exactly r (frameTests f n l)
+pub frame-exactly : (f : Frame) (n : Given) (l : Lent) {a : PlaneAnswer} {m : Lent} → Stated f n l a m → Exactly (a .answer) (frameTests f n l)
 unfolding frameEarly frameShape frameSizes frameLengths frameGiven frameSettings frameLeaves stepsCheck frameLate frameRoom frameSamples
-frame-exactly f n l e = exactly (frameTests f n l) refl (ap (λ (d : Done). d .answer) e ∙ answer-is f n l ∙ in-one _ _ _ _ _ _ _ _)
+frame-exactly f n l e = exactly (frameTests f n l) refl (e .answer ∙ answer-is f n l ∙ in-one _ _ _ _ _ _ _ _)

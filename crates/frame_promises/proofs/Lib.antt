@@ -4,4 +4,5 @@ pub mod Theorems
 pub mod Lengths
 pub mod Planes
 pub mod Edges
+pub mod Counts
 pub mod Accepts

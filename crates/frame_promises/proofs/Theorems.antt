@@ -12,15 +12,18 @@ use Rattle.rules.specs.declared.refusals.Refusal.{Refusal}
 use Rattle.rules.specs.declared.refusals.Refusal.the-variants.{Depth, Size, Length, Steps, Setting, Cell, Room, Sample, Leaf, Buffer, Header, Cut, Entry}
 use Rattle.rules.specs.declared.refusals.Answer.{Answer}
 use Rattle.rules.specs.declared.refusals.Answer.the-variants.{Accepted, Refused}
+use Rattle.rules.specs.declared.refusals.PlaneAnswer.{PlaneAnswer}
 use Rattle.rules.specs.declared.refusals.Found.{Found}
 use Rattle.rules.specs.declared.refusals.Found.the-variants.{At, Nothing}
 use Rattle.rules.specs.Refusals.{orElse, unless, found, onlyIf, settle}
 use Rattle.rules.specs.Thresholds.{stepsCheck}
 use Rattle.rules.specs.Frame.{Planes, Grids, Given, Lent, Done, lent, done, lengthsOf, chromaOn, builtGrids, frameSizes, frameLengths, frameShape, frameSettings, frameLeaves, frameGiven, frameEarly, frameLate, runFrame, frameBuilt, orDone, frameOf}
+use Rattle.frame.specs.Stated.{Stated}
 
--- any two results that the statement allows are equal, every list of them
-pub one-result : (f : Frame) (n : Given) (l : Lent) {r r' : Answer} {a b : Lent} → done r a ≡ frameOf f n l → done r' b ≡ frameOf f n l → (r ≡ r') × (a ≡ b)
-one-result f n l e g = let h = e ∙ sym g in (ap (λ (d : Done). d .answer) h, ap (λ (d : Done). d .lists) h)
+-- any two results that the statement allows are equal: answer, every list, and both counts
+pub one-result : {f : Frame} {n : Given} {l : Lent} {a b : PlaneAnswer} {m k : Lent} → Stated f n l a m → Stated f n l b k
+    → (a .answer ≡ b .answer) × (m ≡ k) × (a .stored ≡ b .stored) × (a .changed ≡ b .changed)
+one-result x y = (x .answer ∙ sym (y .answer), x .lists ∙ sym (y .lists), x .stored ∙ sym (y .stored), x .changed ∙ sym (y .changed))
 
 -- ---- 7 and 8 are not among the early checks
 

@@ -1,2 +1,3 @@
--- The tests of a frame in document 01's order.
+-- The tests of a frame in document 01's order, and how many samples it stores at most.
 pub mod Exactly
+pub mod Counts

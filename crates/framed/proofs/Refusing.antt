@@ -7,9 +7,10 @@ use lib.ListN.{length, getD}
 use Rattle.rules.specs.declared.settings.Frame.{Frame}
 use Rattle.rules.specs.declared.refusals.Refusal.{Refusal}
 use Rattle.rules.specs.declared.refusals.Refusal.the-variants.{Depth, Size, Length, Steps, Setting, Cell, Room, Sample, Leaf, Buffer, Header, Cut, Entry}
+use Rattle.rules.specs.declared.refusals.PlaneAnswer.{PlaneAnswer}
 use Rattle.rules.specs.declared.refusals.Answer.{Answer}
 use Rattle.rules.specs.declared.refusals.Answer.the-variants.{Accepted, Refused}
-use Rattle.rules.specs.Frame.{Planes, Given, lent, grids}
+use Rattle.rules.specs.Frame.{Planes, Given}
 use Rattle.frame.proofs.Given.{luma-sampled, luma-built}
 use Rattle.frame_promises.proofs.Theorems.{refused-kept, room-early}
 use Rattle.asked.specs.declared.places.Place.{Place}
@@ -17,7 +18,7 @@ use Rattle.asked.specs.declared.lists.Lists.{Lists}
 use Rattle.asked.specs.Lists.{listsAsked, stepsAsked}
 use Rattle.asked.specs.Places.{placeIn, samplePlace, leavesPlace}
 use Rattle.framed.specs.declared.listed.Outcome.{Outcome}
-use Rattle.framed.specs.Deblocked.{zeroGrid, deblocked, Deblocked, LumaFit, roomPlace}
+use Rattle.framed.specs.Deblocked.{overZeros, deblocked, Deblocked, LumaFit, roomPlace}
 use Rattle.framed.specs.Framed.{givenBy, givenAsked, refusalPlace, answerPlace, Told}
 
 module _ (f : Frame) (n : Given) (p : Planes) (r : Refusal) {x : Place} where
@@ -77,26 +78,29 @@ pub ruleset refusing = (needs, at-sample, at-room, at-leaf, at-step, of-depth, o
 
 -- ---- what a deblocked frame tells
 
-module _ {f : Frame} {n : Given} {p left : Planes} {a : Answer} (d : Deblocked f n p a left) where
+module _ {f : Frame} {n : Given} {p left : Planes} {a : PlaneAnswer} (d : Deblocked f n p a left) where
   -- a frame that lacks room has passed its early checks
-  pub luma-fit : {r : Refusal} {k : ℕ} → a ≡ Refused r → r ≡ Room k → LumaFit f (n .leaves) (n .skips) (length (n .sbq))
+  pub luma-fit : {r : Refusal} {k : ℕ} → a .answer ≡ Refused r → r ≡ Room k → LumaFit f (n .leaves) (n .skips) (length (n .sbq))
   unfolding deblocked
   luma-fit e is =
-      let ok = room-early f n (lent p (grids zeroGrid zeroGrid)) (sym (d .answer) ∙ e ∙ ap Refused is) in
+      let ok = room-early f n (overZeros p) (sym (d .answer) ∙ e ∙ ap Refused is) in
       record { size = length (p .y); sampled = luma-sampled _ _ _ ok; built = luma-built _ _ _ ok }
 
   -- a refused one has its planes as lent
-  kept : {r : Refusal} → a ≡ Refused r → left ≡ p
+  kept : {r : Refusal} → a .answer ≡ Refused r → left ≡ p
   unfolding deblocked
-  kept e = d .samples ∙ refused-kept f n (lent p (grids zeroGrid zeroGrid)) (sym (d .answer) ∙ e)
+  kept e = d .samples ∙ refused-kept f n (overZeros p) (sym (d .answer) ∙ e)
 
-  pub told-refused : {r : Refusal} {x : Place} → a ≡ Refused r → x ≡ refusalPlace f n left r → Told f n p (record { answer = Refused r; place = x }) left
-  unfolding answerPlace
-  told-refused e g = record { deblocked = rw e at d; place = rw (kept e) at g }
+  as-told : {x : Answer} → a .answer ≡ x → Deblocked f n p (record { answer = x; stored = a .stored; changed = a .changed }) left
+  as-told e = record { answer = sym e ∙ d .answer; samples = d .samples; stored = d .stored; changed = d .changed }
 
-  pub told-accepted : {x : Place} → a ≡ Accepted → x ≡ placeIn 8 0 0 → Told f n p (record { answer = Accepted; place = x }) left
+  pub told-refused : {r : Refusal} {x : Place} → a .answer ≡ Refused r → x ≡ refusalPlace f n left r → Told f n p (record { answer = Refused r; place = x; stored = a .stored; changed = a .changed }) left
   unfolding answerPlace
-  told-accepted e g = record { deblocked = rw e at d; place = g }
+  told-refused e g = record { deblocked = as-told e; place = rw (kept e) at g }
+
+  pub told-accepted : {x : Place} → a .answer ≡ Accepted → x ≡ placeIn 8 0 0 → Told f n p (record { answer = Accepted; place = x; stored = a .stored; changed = a .changed }) left
+  unfolding answerPlace
+  told-accepted e g = record { deblocked = as-told e; place = g }
 
 -- the lists l and m steps, as the settings have them
 pub told-so : (f : Frame) (shorts steps places : List ℕ) (p : Planes) (l : Lists) (m : ℕ) → l ≡ listsAsked (length shorts) places → m ≡ stepsAsked (getD places 3 0) → {o : Outcome} {left : Planes} → Told f (givenBy l m shorts steps) p o left → Told f (givenAsked shorts steps places) p o left

@@ -9,26 +9,28 @@ use Rattle.rules.specs.declared.settings.Frame.{Frame}
 use Rattle.rules.specs.declared.refusals.Refusal.{Refusal}
 use Rattle.rules.specs.declared.refusals.Answer.{Answer}
 use Rattle.rules.specs.declared.refusals.Answer.the-variants.{Accepted, Refused}
+use Rattle.rules.specs.declared.refusals.PlaneAnswer.{PlaneAnswer}
 use Rattle.rules.specs.declared.refusals.Refusal.the-variants.{Room}
 use Rattle.rules.specs.declared.refusals.Found.{Found}
 use Rattle.rules.specs.declared.refusals.Found.the-variants.{At, Nothing}
 use Rattle.rules.specs.Refusals.{found, onlyIf}
 use Rattle.rules.specs.Plane.{grid, noRoom}
-use Rattle.rules.specs.Frame.{Planes, Grids, Given, Done, grids, lent, done, lumaPlane, lumaTu, lumaQ, builtGrid, frameOf}
+use Rattle.rules.specs.Frame.{Planes, Grids, Given, Lent, grids, lent, lumaPlane, lumaTu, lumaQ, builtGrid}
 use Rattle.scan.proofs.Checks.{refused-not, found-nothing}
+use Rattle.frame.specs.Stated.{Stated}
 use Rattle.asked.specs.declared.places.Place.{Place}
 use Rattle.asked.specs.Places.{placeIn, ifFound}
 use Rattle.framed.specs.Deblocked.{zeros, deblocked, Deblocked, lumaGrid, roomPlace}
 
-module _ (f : Frame) (n : Given) (p : Planes) {r : Answer} {left : Planes} {g : Grids} {lv lh lw lt lq cv ch cw ct cq : List ℕ} where
-  pub by-zeros : done r (lent left g) ≡ frameOf f n (lent p (grids (grid lv lh lw lt lq) (grid cv ch cw ct cq)))
+module _ (f : Frame) (n : Given) (p : Planes) {a : PlaneAnswer} {left : Planes} {g : Grids} {lv lh lw lt lq cv ch cw ct cq : List ℕ} where
+  pub by-zeros : Stated f n (lent p (grids (grid lv lh lw lt lq) (grid cv ch cw ct cq))) a (lent left g)
       → lv ≡ zeros → lh ≡ zeros → lw ≡ zeros → lt ≡ zeros → lq ≡ zeros
       → cv ≡ zeros → ch ≡ zeros → cw ≡ zeros → ct ≡ zeros → cq ≡ zeros
-      → Deblocked f n p r left
+      → Deblocked f n p a left
   unfolding deblocked
   by-zeros d e0 e1 e2 e3 e4 e5 e6 e7 e8 e9 =
       let w = rw (e0, e1, e2, e3, e4, e5, e6, e7, e8, e9) at d in
-      record { answer = ap (λ (x : Done). x .answer) w; samples = ap (λ (x : Done). x .lists .planes) w }
+      record { answer = w .answer; samples = ap (λ (x : Lent). x .planes) (w .lists); stored = w .stored; changed = w .changed }
 
 -- ---- where an edge lacks room
 

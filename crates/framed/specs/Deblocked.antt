@@ -6,9 +6,9 @@ use mathlib.Core.List.{List}
 use Prim.Native.Nat.{ℕ, _/_}
 use lib.ListN.{length, replicate}
 use Rattle.rules.specs.declared.settings.Frame.{Frame}
-use Rattle.rules.specs.declared.refusals.Answer.{Answer}
+use Rattle.rules.specs.declared.refusals.PlaneAnswer.{PlaneAnswer}
 use Rattle.rules.specs.Plane.{Grid, grid, noRoom}
-use Rattle.rules.specs.Frame.{Planes, Given, Done, grids, lent, lumaPlane, lumaTu, lumaQ, builtGrid, frameOf}
+use Rattle.rules.specs.Frame.{Planes, Given, Lent, Done, grids, lent, lumaPlane, lumaTu, lumaQ, builtGrid, frameOf, frameStored, frameChanged}
 use Rattle.frame_planes.specs.Fit.{Sampled, Buildable}
 use Rattle.asked.specs.declared.places.Place.{Place}
 use Rattle.asked.specs.Places.{placeIn, ifFound}
@@ -20,13 +20,18 @@ zeros = replicate 1048576 0
 abbrev pub zeroGrid : Grid
 zeroGrid = grid zeros zeros zeros zeros zeros
 
+abbrev pub overZeros : Planes → Lent
+overZeros p = lent p (grids zeroGrid zeroGrid)
+
 -- the frame's answer and lists by rules' frameOf
 unfoldable pub deblocked : Frame → Given → Planes → Done
-deblocked f n p = frameOf f n (lent p (grids zeroGrid zeroGrid))
+deblocked f n p = frameOf f n (overZeros p)
 
-pub record Deblocked (f : Frame) (n : Given) (lent : Planes) (r : Answer) (left : Planes) : Type 0 where
-  pub answer : r ≡ deblocked f n lent .answer
+pub record Deblocked (f : Frame) (n : Given) (lent : Planes) (a : PlaneAnswer) (left : Planes) : Type 0 where
+  pub answer : a .answer ≡ deblocked f n lent .answer
   pub samples : left ≡ deblocked f n lent .lists .planes
+  pub stored : a .stored ≡ frameStored f n (overZeros lent)
+  pub changed : a .changed ≡ frameChanged f n (overZeros lent)
 
 -- luma's grid over zeros, from leaves, skip leaves and superblocks
 unfoldable pub lumaGrid : Frame → List ℕ → List ℕ → List ℕ → Grid

@@ -59,7 +59,7 @@ unfoldable pub answerPlace : Frame → Given → Planes → Answer → Place
 answerPlace f n p Accepted = placeIn 8 0 0
 answerPlace f n p (Refused r) = refusalPlace f n p r
 
--- the answer, its place, and the planes afterwards
+-- the answer with the counts, its place, and the planes afterwards
 pub record Told (f : Frame) (n : Given) (lent : Planes) (o : Outcome) (left : Planes) : Type 0 where
-  pub deblocked : Deblocked f n lent (o .answer) left
+  pub deblocked : Deblocked f n lent (record { answer = o .answer; stored = o .stored; changed = o .changed }) left
   pub place : o .place ≡ answerPlace f n lent (o .answer)

@@ -3,7 +3,7 @@ ghost use mathlib.Core.Path.{_≡_};
 ghost use Rattle.rules.specs.Frame.{planes, given};
 ghost use Rattle.framed.specs.Deblocked.{zeros, Deblocked};
 use frame::frame::deblock_frame;
-use rules::refusals::Answer;
+use rules::refusals::PlaneAnswer;
 use rules::settings::Frame;
 
 // Marks or size indices of the largest plane.
@@ -20,7 +20,7 @@ pub fn indices() -> [u16; 1048576]
     [0; 1048576]
 }
 
-// Deblocks a frame, or refuses and leaves its planes as lent.
+// Deblocks a frame and tells how many samples that stored and changed, or refuses and leaves its planes as lent.
 pub fn deblock(
     y: &mut [u16],
     u: &mut [u16],
@@ -31,8 +31,8 @@ pub fn deblock(
     chromaleaves: &[u16],
     skips: &[u16],
     f: Frame,
-) -> Answer
-    ensures { λ r. ⌜ Deblocked f (given (now (steps .entry)) (now (sbq .entry)) (now (leaves .entry)) (now (chromaleaves .entry)) (now (skips .entry))) (planes (now (y .entry)) (now (u .entry)) (now (v .entry))) r (planes (now (y .exit)) (now (u .exit)) (now (v .exit))) ⌝ }
+) -> PlaneAnswer
+    ensures { λ a. ⌜ Deblocked f (given (now (steps .entry)) (now (sbq .entry)) (now (leaves .entry)) (now (chromaleaves .entry)) (now (skips .entry))) (planes (now (y .entry)) (now (u .entry)) (now (v .entry))) a (planes (now (y .exit)) (now (u .exit)) (now (v .exit))) ⌝ }
 {
     let mut lv = marks();
     let mut lh = marks();

@@ -11,10 +11,12 @@ use asked::places::at;
 use rules::refusals::Answer;
 use rules::settings::Frame;
 
-// The answer, and where a refusal stands.
+// The answer, where a refusal stands, how many samples were stored, and how many of those differ from before.
 pub struct Outcome {
     pub answer: Answer,
     pub place: Place,
+    pub stored: usize,
+    pub changed: usize,
 }
 
 // Deblocks a frame, or says where it was refused and leaves its planes as lent.
@@ -32,15 +34,20 @@ fn deblock_given(
     ensures { λ o. ⌜ Told f (given (now (steps .entry)) (now (sbq .entry)) (now (leaves .entry)) (now (chromaleaves .entry)) (now (skips .entry))) (planes (now (y .entry)) (now (u .entry)) (now (v .entry))) o (planes (now (y .exit)) (now (u .exit)) (now (v .exit))) ⌝ }
 {
     let a = deblock(y, u, v, steps, sbq, leaves, chromaleaves, skips, f);
-    if let Answer::Refused(r) = a {
+    let answer = a.answer;
+    if let Answer::Refused(r) = answer {
         return Outcome {
             answer: Answer::Refused(r),
             place: place_of(r, y, u, sbq, leaves, chromaleaves, skips, f),
+            stored: a.stored,
+            changed: a.changed,
         };
     }
     Outcome {
         answer: Answer::Accepted,
         place: at(8, 0, 0),
+        stored: a.stored,
+        changed: a.changed,
     }
 }
 

@@ -8,6 +8,7 @@ pub mod Loops
 pub mod Largest
 pub mod Lists
 pub mod Stores
+pub mod Changes
 pub mod Footprints
 pub mod Boxes
 pub mod Trace

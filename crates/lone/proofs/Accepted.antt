@@ -22,7 +22,8 @@ use Rattle.rules.specs.Numbers.{depthOk, topOf}
 use Rattle.rules.specs.Refusals.{orElse, unless, found, overBox}
 use Rattle.rules.specs.Lengths.{reachBefore, reachAfter}
 use Rattle.rules.specs.Segment.{rangesOk, hasRoom, widthAt, segmentOf}
-use Rattle.rules.specs.Lone.{edgeOf, sizesOk, settingsOk, overEdge, loneCheck, lonePlane, answerWidth, loneWidth}
+use Rattle.rules.specs.Counts.{storedAt, changedAt}
+use Rattle.rules.specs.Lone.{edgeOf, sizesOk, settingsOk, overEdge, loneCheck, lonePlane, answerWidth, loneWidth, loneStored, loneChanged}
 use Rattle.lengths.proofs.Lengths.{pair-facts}
 use Rattle.lengths.proofs.Inside.{ranges-are}
 use Rattle.scan.specs.Rows.{Box}
@@ -32,6 +33,7 @@ use Rattle.scan.proofs.Checks.{stop, go-on, unless-bad, unless-good, else-parts
 use Rattle.segment.specs.declared.outcome.Outcome.{Outcome}
 use Rattle.segment.specs.Fit.{InPlane, EdgeFiltered}
 use Rattle.segment.proofs.Cells.{along-of}
+use Rattle.lone.specs.Stated.{Stated}
 
 -- ---- what a check that passed says
 pub record Sizes (s : Lone) : Type 0 where
@@ -146,16 +148,30 @@ module _ (s : Lone) (l : List ℕ) (a : Answer) (h : a ≡ loneCheck s l) where
   pub plane-passed : {e : Edge} → a ≡ Accepted → e ≡ edgeOf s → InPlane (s .stride) (s .columns) (s .rows) e (length l)
   plane-passed e q = rw q (passed s l (sym h ∙ e) .inside)
 
-  pub lone-refused : {r : Refusal} → a ≡ Refused r → («NoWidth» r ≡ loneWidth s l) × (l ≡ lonePlane s l)
-  unfolding loneWidth answerWidth lonePlane
-  lone-refused e = (rw (← h, e), settle-refused-by (loneCheck s l) a l _ h e)
+  -- "A refusal reports zero for both."
+  pub lone-refused : {r : Refusal} → a ≡ Refused r → Stated s l record { width = «NoWidth» r; stored = 0; changed = 0 } l
+  unfolding loneWidth answerWidth lonePlane loneStored loneChanged
+  lone-refused e = record {
+    width = rw (← h, e);
+    stored = settle-refused-by (loneCheck s l) a 0 _ h e;
+    changed = settle-refused-by (loneCheck s l) a 0 _ h e;
+    plane = settle-refused-by (loneCheck s l) a l _ h e;
+  }
 
-  pub lone-accepted : {e : Edge} {top : ℕ} {o : Outcome} {m : List ℕ} → a ≡ Accepted → e ≡ edgeOf s → top ≡ topOf (s .depth) → EdgeFiltered top (s .stride) e l o m → (Samples (o .width) ≡ loneWidth s l) × (m ≡ lonePlane s l)
-  unfolding loneWidth answerWidth lonePlane
+  pub lone-accepted : {e : Edge} {top : ℕ} {o : Outcome} {m : List ℕ} → a ≡ Accepted → e ≡ edgeOf s → top ≡ topOf (s .depth) → EdgeFiltered top (s .stride) e l o m
+      → Stated s l record { width = Samples (o .width); stored = o .stored; changed = o .changed } m
+  unfolding loneWidth answerWidth lonePlane loneStored loneChanged
   lone-accepted {e} {top} {o} {m} q he ht f =
-      let g : o .width ≡ widthAt (s .stride) (edgeOf s) l = cc (f .width) in
+      let w : o .width ≡ widthAt (s .stride) (edgeOf s) l = cc (f .width) in
+      let t : o .stored ≡ storedAt (topOf (s .depth)) (s .stride) (edgeOf s) l = cc (f .stored) in
+      let d : o .changed ≡ changedAt (topOf (s .depth)) (s .stride) (edgeOf s) l = cc (f .changed) in
       let k : m ≡ segmentOf (topOf (s .depth)) (s .stride) (edgeOf s) l = cc (f .plane) in
-      (rw (← h, q) (ap Samples g), settle-accepted-by (loneCheck s l) a l _ m h q k)
+      record {
+        width = rw (← h, q) (ap Samples w);
+        stored = settle-accepted-by (loneCheck s l) a 0 _ _ h q t;
+        changed = settle-accepted-by (loneCheck s l) a 0 _ _ h q d;
+        plane = settle-accepted-by (loneCheck s l) a l _ m h q k;
+      }
 
 pub sure : (t u : Bool) → u ≡ t → not u ≡ false → t ≡ true
 sure t u e f = sym (told-yes-not t u e f)

@@ -1,6 +1,7 @@
--- The lone segment's promises: demand 3, every other sample kept, samples within 0..top, equal planes within the reach, and one answer.
+-- The lone segment's promises: demand 3, every other sample kept, samples within 0..top, equal planes within the reach, one answer, and its
+-- counts.
 -- Assumes nothing.
-use mathlib.Core.Path.{_≡_, refl, sym, ap, _∙_}
+use mathlib.Core.Path.{_≡_, refl, sym, ap, ap₂, _∙_}
 use mathlib.Core.List.{List}
 use Prim.Native.Nat.{ℕ, _+_, _*_, _≤_, _<_}
 use native.Mathlib.Omega.{arith}
@@ -12,18 +13,23 @@ use Rattle.rules.specs.declared.edge.Line.{Line}
 use Rattle.rules.specs.declared.settings.Lone.{Lone}
 use Rattle.rules.specs.declared.refusals.Answer.{Answer}
 use Rattle.rules.specs.declared.refusals.Answer.the-variants.{Accepted, Refused}
+use Rattle.rules.specs.declared.refusals.Refusal.{Refusal}
 use Rattle.rules.specs.declared.refusals.Width.{Width}
+use Rattle.rules.specs.declared.refusals.LoneAnswer.{LoneAnswer}
 use Rattle.rules.specs.Numbers.{topOf}
 use Rattle.rules.specs.Refusals.{settle}
 use Rattle.rules.specs.Lengths.{reachBefore, reachAfter}
 use Rattle.rules.specs.Segment.{placeOf, windowOf, chosenOf, storesOf, widthAt, segmentOf}
-use Rattle.rules.specs.Lone.{edgeOf, loneCheck, lonePlane, answerWidth, loneWidth}
+use Rattle.rules.specs.Counts.{storedAt, changedAt}
+use Rattle.rules.specs.Lone.{edgeOf, loneCheck, lonePlane, answerWidth, loneWidth, loneStored, loneChanged}
 use Rattle.segment.specs.Fit.{Fit, InPlane, Within}
-use Rattle.segment.specs.Promises.{pPlace, qPlace, Demand3, Outside}
+use Rattle.segment.specs.Promises.{pPlace, qPlace, narrowAt, Demand3, Outside}
 use Rattle.segment.proofs.Places.{before-in, after-in, line-in}
 use Rattle.segment.proofs.Edges.{fit-of}
 use Rattle.segment.proofs.Window.{window-agree}
 use Rattle.segment.proofs.Demand.{demand-3, edge-kept, edge-most, edge-length}
+use Rattle.segment.proofs.Counts.{stored-is, stored-most, changed-most}
+use Rattle.lone.specs.Stated.{Stated}
 use Rattle.lone.proofs.Accepted.{passed}
 
 -- ---- the plane afterwards
@@ -98,8 +104,37 @@ module _ (s : Lone) (l m : List ℕ) (hl : loneCheck s l ≡ Accepted) (hm : lon
       }
 
 -- ---- two results that the entry's statement allows are equal
-abbrev pub Stated : Lone → List ℕ → Width → List ℕ → Type 0
-Stated s l r m = (r ≡ loneWidth s l) × (m ≡ lonePlane s l)
+pub lone-unique : (s : Lone) (l : List ℕ) {r t : LoneAnswer} {m n : List ℕ} → Stated s l r m → Stated s l t n → (r ≡ t) × (m ≡ n)
+lone-unique s l {r} {t} a b =
+    let w : r .width ≡ t .width = a .width ∙ sym (b .width) in
+    let st : r .stored ≡ t .stored = a .stored ∙ sym (b .stored) in
+    let ch : r .changed ≡ t .changed = a .changed ∙ sym (b .changed) in (
+      ap (λ (x : Width). record { width = x; stored = r .stored; changed = r .changed }) w
+          ∙ ap₂ (λ (x y : ℕ). record { width = t .width; stored = x; changed = y }) st ch,
+      a .plane ∙ sym (b .plane),
+    )
 
-pub lone-unique : (s : Lone) (l : List ℕ) {r t : Width} {m n : List ℕ} → Stated s l r m → Stated s l t n → (r ≡ t) × (m ≡ n)
-lone-unique s l a b = (a .0 ∙ sym (b .0), a .1 ∙ sym (b .1))
+-- ---- document 02, ticket 4: stored is 4(n+w), 0 where no sample after the edge is filtered, at most 64; and changed is never more
+module _ (s : Lone) (l : List ℕ) (h : loneCheck s l ≡ Accepted) where
+  lone-counts : (loneStored s l ≡ storedAt (topOf (s .depth)) (s .stride) (edgeOf s) l) × (loneChanged s l ≡ changedAt (topOf (s .depth)) (s .stride) (edgeOf s) l)
+  unfolding loneStored loneChanged settle
+  lone-counts = (rw h, rw h)
+
+  pub lone-stored : loneStored s l ≡ 4 * (narrowAt (s .stride) (edgeOf s) l + widthAt (s .stride) (edgeOf s) l)
+  lone-stored = lone-counts .0 ∙ stored-is (topOf (s .depth)) (s .stride) (edgeOf s) l
+
+  pub lone-stored-most : loneStored s l ≤ 64
+  lone-stored-most = omega (arith, lone-counts .0, stored-most (topOf (s .depth)) (s .stride) (edgeOf s) l (passed s l h .inside .pair-is))
+
+-- accepted or refused
+pub lone-changed-most : (s : Lone) (l : List ℕ) → loneChanged s l ≤ loneStored s l
+unfolding loneStored loneChanged settle
+lone-changed-most s l = go (loneCheck s l)
+  where
+    go : (a : Answer) → settle a 0 (changedAt (topOf (s .depth)) (s .stride) (edgeOf s) l) ≤ settle a 0 (storedAt (topOf (s .depth)) (s .stride) (edgeOf s) l)
+    go Accepted = changed-most (topOf (s .depth)) (s .stride) (edgeOf s) l
+    go (Refused r) = omega arith
+
+pub lone-refused-none : (s : Lone) (l : List ℕ) {r : Refusal} → loneCheck s l ≡ Refused r → (loneStored s l ≡ 0) × (loneChanged s l ≡ 0)
+unfolding loneStored loneChanged settle
+lone-refused-none s l h = (rw h, rw h)

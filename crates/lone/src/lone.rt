@@ -7,6 +7,7 @@ use rules::depth::Depth;
 use rules::edge::Edge;
 use rules::refusals::Answer;
 use rules::refusals::Found;
+use rules::refusals::LoneAnswer;
 use rules::refusals::Refusal;
 use rules::refusals::Width;
 use rules::settings::Lone;
@@ -18,8 +19,9 @@ ghost use Prim.Native.Nat.{_≤_};
 ghost use lib.ListN.{length};
 ghost use Rattle.rules.specs.Refusals.{found};
 ghost use Rattle.rules.specs.declared.refusals.Refusal.the-variants.{Sample};
-ghost use Rattle.rules.specs.Lone.{edgeOf, sizesOk, overEdge, loneCheck, lonePlane, loneWidth};
+ghost use Rattle.rules.specs.Lone.{edgeOf, sizesOk, overEdge, loneCheck};
 ghost use Rattle.segment.specs.Fit.{InPlane};
+ghost use Rattle.lone.specs.Stated.{Stated};
 
 fn sizes_ok(s: Lone) -> bool
     ensures { λ r. ⌜ r ≡ sizesOk s ⌝ }
@@ -101,17 +103,26 @@ fn lone_check(plane: &[u16], s: Lone) -> Answer
     over_check(plane, s.stride, s.columns, s.rows, e, d.top())
 }
 
-// Filters one edge of a plane, and answers how many samples after it were filtered, or why not; a refusal leaves the plane as it was.
-pub fn filter_lone(plane: &mut [u16], s: Lone) -> Width
-    ensures { λ r. ⌜ (r ≡ loneWidth s (now (plane .entry))) × (now (plane .exit) ≡ lonePlane s (now (plane .entry))) ⌝ }
+// Filters one edge of a plane, and answers how many samples after it were filtered, or why not, and how many were stored and changed; a
+// refusal leaves the plane as it was and counts none.
+pub fn filter_lone(plane: &mut [u16], s: Lone) -> LoneAnswer
+    ensures { λ r. ⌜ Stated s (now (plane .entry)) r (now (plane .exit)) ⌝ }
 {
     let a = lone_check(plane, s);
     match a {
-        Answer::Refused(r) => Width::Refused(r),
+        Answer::Refused(r) => LoneAnswer {
+            width: Width::Refused(r),
+            stored: 0,
+            changed: 0,
+        },
         Answer::Accepted => {
             let d = Depth { bits: s.depth };
             let o = filter_edge(plane, s.stride, s.columns, s.rows, edge_of(s), d.top());
-            Width::Samples(o.width)
+            LoneAnswer {
+                width: Width::Samples(o.width),
+                stored: o.stored,
+                changed: o.changed,
+            }
         }
     }
 }

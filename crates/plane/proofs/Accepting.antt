@@ -19,7 +19,7 @@ use Rattle.rules.specs.declared.refusals.Found.{Found}
 use Rattle.rules.specs.declared.refusals.Found.the-variants.{Nothing}
 use Rattle.rules.specs.Numbers.{depthOk}
 use Rattle.rules.specs.Thresholds.{stepsCheck, deltasCheck, quantOf, stepOf, sideOf, indexOf}
-use Rattle.rules.specs.Plane.{Grid, grid, cellGood, edgesOf, marksOf, indicesOf, indexAt, isEdge, edgeRoom, lacksRoom, lacksRow, lacksDir, badCell, noRoom, planeSizesOk, planeLengthsOk, planeCheck, planeAfter, runPlane}
+use Rattle.rules.specs.Plane.{Grid, grid, cellGood, edgesOf, marksOf, indicesOf, indexAt, isEdge, edgeRoom, lacksRoom, lacksRow, lacksDir, badCell, noRoom, planeSizesOk, planeLengthsOk, planeCheck, planeAfter, planeStored, planeChanged, runPlane, runStored, runChanged}
 use Rattle.thresholds.specs.ByQindex.{packedOf, ByQindex}
 use Rattle.thresholds.proofs.Quants.{q-most}
 use Rattle.thresholds.proofs.Sides.{side-most}
@@ -29,7 +29,7 @@ use Rattle.cells.specs.Fit.{Sizes, Long, Ready, badOf, oneWay}
 use Rattle.cells.proofs.Accepted.{sizes, sizes-by}
 use Rattle.cells.proofs.Marks.{none-good}
 use Rattle.plane.specs.Run.{Table, Levels, Field, none, state, Ran}
-use Rattle.plane.specs.Checked.{Sized, Checked, Noted, Stated}
+use Rattle.plane.specs.Checked.{Sized, Checked, Filtered, Noted, Stated}
 use Rattle.plane.specs.declared.visited.Visited.{Visited}
 
 -- ---- lengths
@@ -155,21 +155,37 @@ module _ {s : Plane} {steps : List ℕ} (v h w t q : List ℕ) {n : ℕ} {table 
       }
 
   pub ran-plane : (a b : List ℕ) {x : Visited} {m c : List ℕ} → Ran s table (λ st. edgesOf s st (grid v h w t q)) (state a b none) (state m c x) → Noted s steps (grid v h w t q) a b x m c
-  unfolding runPlane
+  unfolding runPlane runStored runChanged
   ran-plane a b r =
       let of : Table s steps table = record { entries = by; accepted = k .steps-ok } in
-      record { plane = r .is steps of; buffer = r .notes steps of; visited = omega (arith, r .visited steps) }
+      record {
+        plane = r .is steps of;
+        buffer = r .notes steps of;
+        visited = r .visited steps;
+        stored = omega (arith, r .stored steps of);
+        changed = omega (arith, r .changed steps of);
+      }
 
 -- ---- the entry
 
 module _ (s : Plane) (steps : List ℕ) (g : Grid) (l : List ℕ) {a : Answer} (is : a ≡ planeCheck s steps g l) where
-  pub stated-refused : {r : Refusal} → a ≡ Refused r → Stated s steps g l (Refused r) l
-  unfolding planeAfter
-  stated-refused e = record { answer = sym e ∙ is; plane = settle-refused _ _ _ (sym e ∙ is) }
+  pub stated-refused : {r : Refusal} → a ≡ Refused r → Stated s steps g l (record { answer = Refused r; stored = 0; changed = 0 }) l
+  unfolding planeAfter planeStored planeChanged
+  stated-refused e = record {
+    answer = sym e ∙ is;
+    plane = settle-refused _ _ _ (sym e ∙ is);
+    stored = settle-refused _ _ _ (sym e ∙ is);
+    changed = settle-refused _ _ _ (sym e ∙ is);
+  }
 
-  pub stated-run : {m : List ℕ} → a ≡ Accepted → m ≡ runPlane s steps g l → Stated s steps g l Accepted m
-  unfolding planeAfter
-  stated-run e run = record { answer = sym e ∙ is; plane = settle-accepted _ _ _ _ (sym e ∙ is) run }
+  pub stated-run : {x : Visited} {m : List ℕ} → a ≡ Accepted → Filtered s steps g l x m → Stated s steps g l (record { answer = Accepted; stored = x .stored; changed = x .changed }) m
+  unfolding planeAfter planeStored planeChanged
+  stated-run e run = record {
+    answer = sym e ∙ is;
+    plane = settle-accepted _ _ _ _ (sym e ∙ is) (run .plane);
+    stored = settle-accepted _ _ _ _ (sym e ∙ is) (run .stored);
+    changed = settle-accepted _ _ _ _ (sym e ∙ is) (run .changed);
+  }
 
   pub checked-by : a ≡ Accepted → Checked s steps g (length l)
   checked-by e = checked s steps g l (sym is ∙ e)

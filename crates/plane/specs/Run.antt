@@ -17,6 +17,7 @@ use Rattle.rules.specs.declared.refusals.Answer.the-variants.{Accepted}
 use Rattle.rules.specs.Thresholds.{stepsCheck}
 use Rattle.thresholds.specs.ByQindex.{ByQindex}
 use Rattle.rules.specs.Segment.{runEdges}
+use Rattle.rules.specs.Counts.{storedBy, changedBy}
 use Rattle.rules.specs.Plane.{Grid, indexAt, shortenedAt, edgeAt, visitOf, sweepOf, startOf, countOf, lacksDir}
 use Rattle.cells.specs.Fit.{Ready, oneWay}
 use Rattle.records.specs.Noted.{noted}
@@ -56,19 +57,34 @@ pub record State : Type 0 where
 abbrev pub state : List ℕ → List ℕ → Visited → State
 state p b d = record { plane = p; buffer = b; done = d }
 
+-- before the first edge: a record's header is 5 bytes
 abbrev pub none : Visited
-none = record { edges = 0 }
+none = record { bytes = 5; stored = 0; changed = 0 }
+
+-- none of its numbers is above m
+pub record Most (m : ℕ) (d : Visited) : Type 0 where
+  pub bytes-most : d .bytes ≤ m
+  pub stored-most : d .stored ≤ m
+  pub changed-most : d .changed ≤ m
+
+-- from d to e at most n edges, of which each adds ten bytes and at most 64 samples
+pub record Few (n : ℕ) (d e : Visited) : Type 0 where
+  pub bytes-few : e .bytes ≤ d .bytes + 10 * n
+  pub stored-few : e .stored ≤ d .stored + 64 * n
+  pub changed-few : e .changed ≤ d .changed + 64 * n
 
 -- a run of a list of edges, by any steps that the table was made of, from x to y: each edge is noted, filtered and counted
 pub record Ran (s : Plane) (t : List ℕ) (edges : List ℕ → List Edge) (x y : State) : Type 0 where
   pub is : (steps : List ℕ) → Table s steps t → y .plane ≡ runEdges (topOf (s .depth)) (s .stride) (edges steps) (x .plane)
-  pub notes : (steps : List ℕ) → Table s steps t → y .buffer ≡ noted (x .done .edges) (edges steps) (x .buffer)
-  pub visited : (steps : List ℕ) → y .done .edges ≡ x .done .edges + length (edges steps)
+  pub notes : (steps : List ℕ) → Table s steps t → y .buffer ≡ noted (x .done .bytes) (edges steps) (x .buffer)
+  pub visited : (steps : List ℕ) → y .done .bytes ≡ x .done .bytes + 10 * length (edges steps)
+  pub stored : (steps : List ℕ) → Table s steps t → y .done .stored ≡ x .done .stored + storedBy (topOf (s .depth)) (s .stride) (edges steps) (x .plane)
+  pub changed : (steps : List ℕ) → Table s steps t → y .done .changed ≡ x .done .changed + changedBy (topOf (s .depth)) (s .stride) (edges steps) (x .plane)
 
 -- the same of at most n edges
 pub record RanFew (s : Plane) (t : List ℕ) (n : ℕ) (edges : List ℕ → List Edge) (x y : State) : Type 0 where
   pub ran : Ran s t edges x y
-  pub few : y .done .edges ≤ x .done .edges + n
+  pub few : Few n (x .done) (y .done)
 
 -- ---- parts of the cells
 

@@ -18,7 +18,7 @@ ghost use lib.ListN.{length};
 ghost use Rattle.laws.specs.Choose.{pick};
 ghost use Rattle.rules.specs.Plane.{grid, visitOf, sbCols, turnOf, edgesOf};
 ghost use Rattle.cells.specs.Fit.{Cell, oneWay};
-ghost use Rattle.plane.specs.Run.{Field, PartOf, InPart, inLine, lineOf, inSweep, none, state, Ran, RanFew};
+ghost use Rattle.plane.specs.Run.{Field, PartOf, InPart, inLine, lineOf, inSweep, none, Most, state, Ran, RanFew};
 
 // The edge of one cell, where it has one.
 fn visit(
@@ -34,7 +34,7 @@ fn visit(
     r: usize,
     c: usize,
 ) -> Visited
-    requires { ⌜ Field s (now marks) (now sizes) (now qindex) (now table) (length (now plane)) dir × Cell s r c × (dir ≤ 1) × (done .edges ≤ 1099511627776) ⌝ }
+    requires { ⌜ Field s (now marks) (now sizes) (now qindex) (now table) (length (now plane)) dir × Cell s r c × (dir ≤ 1) × Most 70368744177664 done ⌝ }
     ensures { λ a. ⌜ RanFew s (now (table .entry)) 1 (λ steps. visitOf s steps (oneWay (now (marks .entry)) (now (sizes .entry)) (now (qindex .entry))) dir r c) (state (now (plane .entry)) (now (buffer .entry)) done) (state (now (plane .exit)) (now (buffer .exit)) a) ⌝ }
 {
     if !is_edge(marks, s, dir, r, c) {
@@ -42,11 +42,13 @@ fn visit(
     }
     let shortened = shortened_at(s, dir, r);
     let e = edge_at(sizes, qindex, table, s, shortened, dir, r, c);
-    note(buffer, done.edges, e);
+    note(buffer, done.bytes, e);
     let depth = Depth { bits: s.depth };
-    filter_edge(plane, s.stride, 4 * s.cols, 4 * s.rows, e, depth.top());
+    let o = filter_edge(plane, s.stride, 4 * s.cols, 4 * s.rows, e, depth.top());
     Visited {
-        edges: done.edges + 1,
+        bytes: done.bytes + 10,
+        stored: done.stored + o.stored,
+        changed: done.changed + o.changed,
     }
 }
 
@@ -64,7 +66,7 @@ fn in_row(
     k: usize,
     j: usize,
 ) -> Visited
-    requires { ⌜ Field s (now marks) (now sizes) (now qindex) (now table) (length (now plane)) 0 × PartOf s p × (k < p .rows) × (j < p .cols) × (done .edges ≤ 1099511627776) ⌝ }
+    requires { ⌜ Field s (now marks) (now sizes) (now qindex) (now table) (length (now plane)) 0 × PartOf s p × (k < p .rows) × (j < p .cols) × Most 70368744177664 done ⌝ }
     ensures { λ a. ⌜ RanFew s (now (table .entry)) 1 (λ steps. visitOf s steps (oneWay (now (marks .entry)) (now (sizes .entry)) (now (qindex .entry))) 0 (p .row + k) (p .col + j)) (state (now (plane .entry)) (now (buffer .entry)) done) (state (now (plane .exit)) (now (buffer .exit)) a) ⌝ }
 {
     visit(
@@ -96,7 +98,7 @@ fn in_column(
     k: usize,
     j: usize,
 ) -> Visited
-    requires { ⌜ Field s (now marks) (now sizes) (now qindex) (now table) (length (now plane)) 1 × PartOf s p × (k < p .cols) × (j < p .rows) × (done .edges ≤ 1099511627776) ⌝ }
+    requires { ⌜ Field s (now marks) (now sizes) (now qindex) (now table) (length (now plane)) 1 × PartOf s p × (k < p .cols) × (j < p .rows) × Most 70368744177664 done ⌝ }
     ensures { λ a. ⌜ RanFew s (now (table .entry)) 1 (λ steps. visitOf s steps (oneWay (now (marks .entry)) (now (sizes .entry)) (now (qindex .entry))) 1 (p .row + j) (p .col + k)) (state (now (plane .entry)) (now (buffer .entry)) done) (state (now (plane .exit)) (now (buffer .exit)) a) ⌝ }
 {
     visit(
@@ -129,7 +131,7 @@ fn cell(
     k: usize,
     j: usize,
 ) -> Visited
-    requires { ⌜ Field s (now marks) (now sizes) (now qindex) (now table) (length (now plane)) dir × PartOf s p × InPart dir p k j × (done .edges ≤ 1099511627776) ⌝ }
+    requires { ⌜ Field s (now marks) (now sizes) (now qindex) (now table) (length (now plane)) dir × PartOf s p × InPart dir p k j × Most 70368744177664 done ⌝ }
     ensures { λ a. ⌜ RanFew s (now (table .entry)) 1 (λ steps. inLine s steps (oneWay (now (marks .entry)) (now (sizes .entry)) (now (qindex .entry))) dir p k j) (state (now (plane .entry)) (now (buffer .entry)) done) (state (now (plane .exit)) (now (buffer .exit)) a) ⌝ }
 {
     if dir == 0 {
@@ -152,7 +154,7 @@ fn line(
     p: Part,
     k: usize,
 ) -> Visited
-    requires { ⌜ Field s (now marks) (now sizes) (now qindex) (now table) (length (now plane)) dir × PartOf s p × (dir ≤ 1) × (k < pick (eqb dir 0) (p .rows) (p .cols)) × (sofar .edges ≤ 549755813888) ⌝ }
+    requires { ⌜ Field s (now marks) (now sizes) (now qindex) (now table) (length (now plane)) dir × PartOf s p × (dir ≤ 1) × (k < pick (eqb dir 0) (p .rows) (p .cols)) × Most 35184372088832 sofar ⌝ }
     ensures { λ a. ⌜ RanFew s (now (table .entry)) 1024 (λ steps. lineOf s steps (oneWay (now (marks .entry)) (now (sizes .entry)) (now (qindex .entry))) dir p k) (state (now (plane .entry)) (now (buffer .entry)) sofar) (state (now (plane .exit)) (now (buffer .exit)) a) ⌝ }
 {
     let n = by_dir(dir, p.cols, p.rows);
@@ -189,7 +191,7 @@ fn sweep(
     dir: usize,
     p: Part,
 ) -> Visited
-    requires { ⌜ Field s (now marks) (now sizes) (now qindex) (now table) (length (now plane)) dir × PartOf s p × (dir ≤ 1) × (sofar .edges ≤ 274877906944) ⌝ }
+    requires { ⌜ Field s (now marks) (now sizes) (now qindex) (now table) (length (now plane)) dir × PartOf s p × (dir ≤ 1) × Most 17592186044416 sofar ⌝ }
     ensures { λ a. ⌜ RanFew s (now (table .entry)) 1048576 (λ steps. inSweep s steps (oneWay (now (marks .entry)) (now (sizes .entry)) (now (qindex .entry))) dir p) (state (now (plane .entry)) (now (buffer .entry)) sofar) (state (now (plane .exit)) (now (buffer .exit)) a) ⌝ }
 {
     let n = by_dir(dir, p.rows, p.cols);
@@ -226,7 +228,7 @@ fn turn(
     done: Visited,
     sb: usize,
 ) -> Visited
-    requires { ⌜ Field s (now vedge) (now sqw) (now qindex) (now table) (length (now plane)) 0 × Field s (now hedge) (now sqh) (now qindex) (now table) (length (now plane)) 1 × (sb < sbCols s) × (done .edges ≤ 137438953472) ⌝ }
+    requires { ⌜ Field s (now vedge) (now sqw) (now qindex) (now table) (length (now plane)) 0 × Field s (now hedge) (now sqh) (now qindex) (now table) (length (now plane)) 1 × (sb < sbCols s) × Most 8796093022208 done ⌝ }
     ensures { λ a. ⌜ RanFew s (now (table .entry)) 2097152 (λ t. turnOf s t (grid (now (vedge .entry)) (now (hedge .entry)) (now (sqw .entry)) (now (sqh .entry)) (now (qindex .entry))) sb) (state (now (plane .entry)) (now (buffer .entry)) done) (state (now (plane .exit)) (now (buffer .exit)) a) ⌝ }
 {
     let vertical = sweep(
@@ -274,7 +276,11 @@ pub fn run(
     ensures { λ a. ⌜ Ran s (now (table .entry)) (λ steps. edgesOf s steps (grid (now (vedge .entry)) (now (hedge .entry)) (now (sqw .entry)) (now (sqh .entry)) (now (qindex .entry)))) (state (now (plane .entry)) (now (buffer .entry)) none) (state (now (plane .exit)) (now (buffer .exit)) a) ⌝ }
 {
     let n = (s.cols + s.sbw - 1) / s.sbw;
-    let mut done = Visited { edges: 0 };
+    let mut done = Visited {
+        bytes: 5,
+        stored: 0,
+        changed: 0,
+    };
     for sb in 0..n {
         done = turn(
             plane,

@@ -4,6 +4,7 @@ use crate::order::run;
 use crate::visited::Visited;
 use rules::depth::Depth;
 use rules::refusals::Answer;
+use rules::refusals::PlaneAnswer;
 use rules::settings::Plane;
 use thresholds::by_qindex::thresholds_by_qindex;
 ghost use lib.ListN.{length};
@@ -47,7 +48,7 @@ pub fn run_plane(
     run_noted(plane, &mut [], vedge, hedge, sqw, sqh, qindex, steps, s)
 }
 
-// Deblocks a plane, or refuses it and leaves it as lent.
+// Deblocks a plane and tells how many samples it stored and changed; or refuses it, leaves it as lent and tells of none.
 pub fn deblock_plane(
     plane: &mut [u16],
     vedge: &[u8],
@@ -57,13 +58,21 @@ pub fn deblock_plane(
     qindex: &[u16],
     steps: &[u32],
     s: Plane,
-) -> Answer
+) -> PlaneAnswer
     ensures { λ a. ⌜ Stated s (now (steps .entry)) (grid (now (vedge .entry)) (now (hedge .entry)) (now (sqw .entry)) (now (sqh .entry)) (now (qindex .entry))) (now (plane .entry)) a (now (plane .exit)) ⌝ }
 {
     let a = plane_check(plane, vedge, hedge, sqw, sqh, qindex, steps, s);
     if let Answer::Refused(r) = a {
-        return Answer::Refused(r);
+        return PlaneAnswer {
+            answer: Answer::Refused(r),
+            stored: 0,
+            changed: 0,
+        };
     }
-    run_plane(plane, vedge, hedge, sqw, sqh, qindex, steps, s);
-    Answer::Accepted
+    let done = run_plane(plane, vedge, hedge, sqw, sqh, qindex, steps, s);
+    PlaneAnswer {
+        answer: Answer::Accepted,
+        stored: done.stored,
+        changed: done.changed,
+    }
 }

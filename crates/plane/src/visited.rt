@@ -1,6 +1,8 @@
 // What a run of edges tells.
 
-// How many edges were visited.
+// Where the record's next entry stands, how many samples were stored, and how many of those differ from before.
 pub struct Visited {
-    pub edges: usize,
+    pub bytes: usize,
+    pub stored: usize,
+    pub changed: usize,
 }

@@ -10,6 +10,7 @@ use Rattle.rules.specs.declared.edge.Edge.{Edge}
 use Rattle.rules.specs.declared.settings.Plane.{Plane}
 use Rattle.rules.specs.declared.refusals.Answer.{Answer}
 use Rattle.rules.specs.declared.refusals.Answer.the-variants.{Accepted, Refused}
+use Rattle.rules.specs.declared.refusals.PlaneAnswer.{PlaneAnswer}
 use Rattle.rules.specs.Numbers.{topOf}
 use Rattle.rules.specs.Refusals.{settle}
 use Rattle.rules.specs.Segment.{segmentOf, runEdges}
@@ -82,8 +83,8 @@ module _ (s : Plane) (steps : List ℕ) (g : Grid) (l : List ℕ) where
 
   -- ---- the same of whatever `deblock_plane` may answer and leave
 
-  module _ {a : Answer} {m : List ℕ} (done : Stated s steps g l a m) where
-    pub stated-demand-3 : a ≡ Accepted → EachPromised s (edgesOf s steps g) l × (m ≡ leftBy s (edgesOf s steps g) l)
+  module _ {a : PlaneAnswer} {m : List ℕ} (done : Stated s steps g l a m) where
+    pub stated-demand-3 : a .answer ≡ Accepted → EachPromised s (edgesOf s steps g) l × (m ≡ leftBy s (edgesOf s steps g) l)
     unfolding planeAfter runPlane settle
     stated-demand-3 e =
         let ok : planeCheck s steps g l ≡ Accepted = sym (done .answer) ∙ e in

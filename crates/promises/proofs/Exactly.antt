@@ -5,6 +5,7 @@ use mathlib.Core.List.{List}
 use Prim.Native.Nat.{ℕ}
 use Rattle.rules.specs.declared.settings.Plane.{Plane}
 use Rattle.rules.specs.declared.refusals.Answer.{Answer}
+use Rattle.rules.specs.declared.refusals.PlaneAnswer.{PlaneAnswer}
 use Rattle.rules.specs.Thresholds.{stepsCheck, deltasCheck}
 use Rattle.rules.specs.Plane.{Grid, planeCheck}
 use Rattle.scan.specs.Exactly.{Exactly}
@@ -17,5 +18,5 @@ unfolding planeCheck stepsCheck deltasCheck
 plane-exactly s steps g l e = exactly (planeTests s steps g l) refl e
 
 -- of whatever the entry may answer
-pub stated-exactly : (s : Plane) (steps : List ℕ) (g : Grid) (l : List ℕ) {a : Answer} {m : List ℕ} → Stated s steps g l a m → Exactly a (planeTests s steps g l)
+pub stated-exactly : (s : Plane) (steps : List ℕ) (g : Grid) (l : List ℕ) {a : PlaneAnswer} {m : List ℕ} → Stated s steps g l a m → Exactly (a .answer) (planeTests s steps g l)
 stated-exactly s steps g l done = plane-exactly s steps g l (done .answer)

@@ -8,6 +8,7 @@ use lib.IntN.{pos}
 use Rattle.laws.specs.Choose.{pick, either, both, all}
 use Rattle.laws.specs.Loops.{each, filled}
 use Rattle.laws.specs.Stores.{puts}
+use Rattle.laws.specs.Changes.{differ, changes}
 use Rattle.rules.specs.declared.settings.Plane.{Plane}
 use Rattle.rules.specs.declared.refusals.Answer.{Answer}
 use Rattle.rules.specs.declared.refusals.Answer.the-variants.{Accepted}
@@ -18,7 +19,8 @@ use Rattle.rules.specs.Thresholds.{indexOf, stepOf, quantOf, lowered, sideOf, b
 use Rattle.rules.specs.Lengths.{lengthBefore, lengthAfter, mostBefore, mostAfter, reachOf, reachBefore, reachAfter, pairOf}
 use Rattle.rules.specs.Width.{bendOf, slopeOf, steepOf, atDistance, failsOf, fromOf, farOf, wideOf, gradeOf, widthOf}
 use Rattle.rules.specs.Segment.{placeOf, hasRoom, lineOf, linesOf, windowOf, chosenOf, lineStores, fourStores, storesOf, segmentOf, runEdges}
-use Rattle.rules.specs.Plane.{Grid, grid, cellOf, cellBefore, marksOf, indicesOf, cappedOf, indexAt, shortenedAt, edgeAt, isEdge, visitOf, startOf, countOf, sbCols, sweepOf, columnOf, turnOf, edgesOf, runPlane, planeSizesOk, planeLengthsOk, cellGood, badCell, edgeRoom, lacksRoom, lacksRow, lacksDir, noRoom, overPlane, planeCheck, planeAfter}
+use Rattle.rules.specs.Counts.{storedAt, changedAt, storedBy, changedBy}
+use Rattle.rules.specs.Plane.{Grid, grid, cellOf, cellBefore, marksOf, indicesOf, cappedOf, indexAt, shortenedAt, edgeAt, isEdge, visitOf, startOf, countOf, sbCols, sweepOf, columnOf, turnOf, edgesOf, runPlane, runStored, runChanged, planeSizesOk, planeLengthsOk, cellGood, badCell, edgeRoom, lacksRoom, lacksRow, lacksDir, noRoom, overPlane, planeCheck, planeAfter, planeStored, planeChanged}
 
 -- eight by four samples
 abbrev pub settings : Plane
@@ -43,12 +45,19 @@ unfolding each pick either both all depthOk topOf inRange inRangeZ deltaOk orEls
     cappedOf indexAt shortenedAt isEdge planeSizesOk planeLengthsOk cellGood badCell edgeRoom lacksRoom lacksRow lacksDir noRoom overPlane planeCheck
 accepted = refl
 
-filtered : runPlane settings steps cells samples ≡ four (100 ∷ 101 ∷ 102 ∷ 103 ∷ 105 ∷ 106 ∷ 107 ∷ 108 ∷ [])
+-- three samples each side of four lines are stored, and each of them differs from before
+filtered : (runPlane settings steps cells samples ≡ four (100 ∷ 101 ∷ 102 ∷ 103 ∷ 105 ∷ 106 ∷ 107 ∷ 108 ∷ [])) × (runStored settings steps cells samples ≡ 24) × (runChanged settings steps cells samples ≡ 24)
 unfolding each filled puts pick either both topOf highestOf offsetOf shiftOf indexOf stepOf quantOf lowered sideOf bothOf qThreshold sideThreshold lengthBefore lengthAfter mostBefore mostAfter reachOf reachBefore reachAfter pairOf bendOf slopeOf steepOf atDistance failsOf fromOf farOf wideOf gradeOf
-    widthOf placeOf lineOf linesOf windowOf chosenOf lineStores fourStores storesOf segmentOf runEdges cellOf cellBefore marksOf indicesOf cappedOf indexAt shortenedAt isEdge edgeAt visitOf startOf countOf sbCols sweepOf columnOf turnOf edgesOf runPlane
-filtered = refl
+    widthOf placeOf lineOf linesOf windowOf chosenOf lineStores fourStores storesOf segmentOf runEdges cellOf cellBefore marksOf indicesOf cappedOf indexAt shortenedAt isEdge edgeAt visitOf startOf countOf sbCols sweepOf columnOf turnOf edgesOf runPlane differ changes storedAt changedAt storedBy
+    changedBy runStored runChanged
+filtered = (refl, refl, refl)
 
 -- what `deblock_plane` must answer and leave
-pub witness : Stated settings steps cells samples Accepted (four (100 ∷ 101 ∷ 102 ∷ 103 ∷ 105 ∷ 106 ∷ 107 ∷ 108 ∷ []))
-unfolding planeAfter settle
-witness = record { answer = sym accepted; plane = sym (ap (λ (a : Answer). settle a samples (runPlane settings steps cells samples)) accepted ∙ filtered) }
+pub witness : Stated settings steps cells samples (record { answer = Accepted; stored = 24; changed = 24 }) (four (100 ∷ 101 ∷ 102 ∷ 103 ∷ 105 ∷ 106 ∷ 107 ∷ 108 ∷ []))
+unfolding planeAfter planeStored planeChanged settle
+witness = record {
+  answer = sym accepted;
+  plane = sym (ap (λ (a : Answer). settle a samples (runPlane settings steps cells samples)) accepted ∙ filtered .0);
+  stored = sym (ap (λ (a : Answer). settle a 0 (runStored settings steps cells samples)) accepted ∙ filtered .1);
+  changed = sym (ap (λ (a : Answer). settle a 0 (runChanged settings steps cells samples)) accepted ∙ filtered .2);
+}

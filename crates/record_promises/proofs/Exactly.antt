@@ -7,7 +7,7 @@ use lib.ListN.{length}
 use Rattle.rules.specs.declared.settings.Plane.{Plane}
 use Rattle.rules.specs.declared.refusals.Answer.{Answer}
 use Rattle.rules.specs.declared.refusals.Answer.the-variants.{Accepted, Refused}
-use Rattle.rules.specs.declared.refusals.Recorded.{Recorded}
+use Rattle.rules.specs.declared.refusals.RecordAnswer.{RecordAnswer}
 use Rattle.rules.specs.Refusals.{orElse}
 use Rattle.rules.specs.Thresholds.{stepsCheck, deltasCheck}
 use Rattle.rules.specs.Plane.{Grid, planeCheck}
@@ -35,6 +35,6 @@ module _ (s : Plane) (steps : List ℕ) (g : Grid) (l : List ℕ) where
   recorded-exactly n e = exactly (recordedTests s steps g l n) refl (e ∙ one-more (planeTests s steps g l) (roomTest s g n))
 
   -- of whatever the entry may answer
-  pub stated-exactly : (b : List ℕ) {a : Recorded} {m c : List ℕ} → Stated s steps g l b a m c → Exactly (answered a) (recordedTests s steps g l (length b))
+  pub stated-exactly : (b : List ℕ) {a : RecordAnswer} {m c : List ℕ} → Stated s steps g l b a m c → Exactly (answered (a .«record»)) (recordedTests s steps g l (length b))
   unfolding recordedAnswer
   stated-exactly b done = recorded-exactly (length b) (ap answered (done .answer) ∙ answered-is (recordedCheck s steps g l (length b)) _)

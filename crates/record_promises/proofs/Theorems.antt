@@ -1,5 +1,5 @@
 -- What `record_plane` promises where it answers so many bytes: they are the header and an entry for each marked edge, once, in document 01's order;
--- the bytes after them stay, and the plane is that of the run without a record. And that a refusal leaves both as lent, and that there is one result.
+-- the bytes after them stay, and plane and counts are those of the run without a record. And that a refusal leaves both as lent and counts nothing, and that there is one result.
 -- Assumes nothing.
 use mathlib.Core.Path.{_≡_, refl, sym, ap, _∙_}
 use mathlib.Core.List.{List}
@@ -14,11 +14,12 @@ use Rattle.rules.specs.declared.settings.Plane.{Plane}
 use Rattle.rules.specs.declared.refusals.Refusal.{Refusal}
 use Rattle.rules.specs.declared.refusals.Answer.{Answer}
 use Rattle.rules.specs.declared.refusals.Answer.the-variants.{Accepted, Refused}
-use Rattle.rules.specs.declared.refusals.Recorded.{Recorded}
+use Rattle.rules.specs.declared.refusals.PlaneAnswer.{PlaneAnswer}
+use Rattle.rules.specs.declared.refusals.RecordAnswer.{RecordAnswer}
 use Rattle.rules.specs.declared.refusals.Recorded.the-variants.{Bytes, Refused as «NoRecord»}
 use Rattle.rules.specs.Refusals.{settle}
-use Rattle.rules.specs.Plane.{Grid, edgeAt, edgesOf, runPlane, planeCheck, planeAfter}
-use Rattle.rules.specs.Record.{recordOf, bufferAfter, edgesIn, edgeCount, recordedCheck, answerBytes, recordedAnswer, recordedPlane, recordedBuffer}
+use Rattle.rules.specs.Plane.{Grid, edgeAt, edgesOf, runPlane, runStored, runChanged, planeCheck, planeAfter, planeStored, planeChanged}
+use Rattle.rules.specs.Record.{recordOf, bufferAfter, edgesIn, edgeCount, recordedCheck, answerBytes, recordedAnswer, recordedPlane, recordedBuffer, recordedStored, recordedChanged}
 use Rattle.segment.specs.Fit.{InPlane}
 use Rattle.records.specs.Fit.{InBytes}
 use Rattle.records.proofs.RoundTrip.{record-length, read-record}
@@ -68,10 +69,10 @@ module _ (s : Plane) (steps : List ℕ) (g : Grid) (l : List ℕ) (ok : planeChe
 
 -- ---- where the answer is a number of bytes
 
-module _ (s : Plane) (steps : List ℕ) (g : Grid) (l b : List ℕ) {n : ℕ} {m c : List ℕ} (done : Stated s steps g l b (Bytes n) m c) where
+module _ (s : Plane) (steps : List ℕ) (g : Grid) (l b : List ℕ) {a : RecordAnswer} {n : ℕ} {m c : List ℕ} (done : Stated s steps g l b a m c) (told : a .«record» ≡ Bytes n) where
   accepted : (recordedCheck s steps g l (length b) ≡ Accepted) × (n ≡ length (recordOf (edgesOf s steps g)))
   unfolding recordedAnswer
-  accepted = bytes-accepted (recordedCheck s steps g l (length b)) _ (done .answer)
+  accepted = bytes-accepted (recordedCheck s steps g l (length b)) _ (sym told ∙ done .answer)
 
   ok : Passed s steps g l (length b)
   ok = passed s steps g l (length b) (accepted .0)
@@ -87,12 +88,27 @@ module _ (s : Plane) (steps : List ℕ) (g : Grid) (l b : List ℕ) {n : ℕ} {m
   unfolding recordedPlane settle
   plane-ran = done .plane ∙ ap (λ (a : Answer). settle a l (runPlane s steps g l)) (accepted .0)
 
-  -- "the plane ends as without it": the run without a record is accepted too, and leaves the same plane
-  pub plane-as-without : {a : Answer} {p : List ℕ} → «PlaneStated» s steps g l a p → (a ≡ Accepted) × (m ≡ p)
-  unfolding planeAfter settle
-  plane-as-without {p = p} alone =
-      let same : p ≡ runPlane s steps g l = alone .plane ∙ ap (λ (a : Answer). settle a l (runPlane s steps g l)) (ok .plane) in
-      (alone .answer ∙ ok .plane, plane-ran ∙ sym same)
+  pub counts-ran : (a .stored ≡ runStored s steps g l) × (a .changed ≡ runChanged s steps g l)
+  unfolding recordedStored recordedChanged settle
+  counts-ran = (
+    done .stored ∙ ap (λ (x : Answer). settle x 0 (runStored s steps g l)) (accepted .0),
+    done .changed ∙ ap (λ (x : Answer). settle x 0 (runChanged s steps g l)) (accepted .0),
+  )
+
+  -- "the plane ends as without it": the run without a record is accepted too, leaves the same plane and tells the same counts
+  module _ {x : PlaneAnswer} {p : List ℕ} (alone : «PlaneStated» s steps g l x p) where
+    pub plane-as-without : (x .answer ≡ Accepted) × (m ≡ p)
+    unfolding planeAfter settle
+    plane-as-without =
+        let same : p ≡ runPlane s steps g l = alone .plane ∙ ap (λ (y : Answer). settle y l (runPlane s steps g l)) (ok .plane) in
+        (alone .answer ∙ ok .plane, plane-ran ∙ sym same)
+
+    pub counts-as-without : (a .stored ≡ x .stored) × (a .changed ≡ x .changed)
+    unfolding planeStored planeChanged settle
+    counts-as-without = (
+      counts-ran .0 ∙ sym (alone .stored ∙ ap (λ (y : Answer). settle y 0 (runStored s steps g l)) (ok .plane)),
+      counts-ran .1 ∙ sym (alone .changed ∙ ap (λ (y : Answer). settle y 0 (runChanged s steps g l)) (ok .plane)),
+    )
 
   buffer-is : c ≡ bufferAfter (edgesOf s steps g) b
   unfolding recordedBuffer settle
@@ -120,22 +136,36 @@ module _ (s : Plane) (steps : List ℕ) (g : Grid) (l b : List ℕ) {n : ℕ} {m
   others-not-listed e k = ap (count sameEdge e) record-edges ∙ other-never s steps g (ok .checks .sizes-ok) e k
 
 -- what a record says does not depend on a sample
-pub record-by-grid : (s : Plane) (steps : List ℕ) (g : Grid) (l k b d : List ℕ) {n i : ℕ} {m o c e : List ℕ}
-    → Stated s steps g l b (Bytes n) m c → Stated s steps g k d (Bytes i) o e → take n c ≡ take i e
-record-by-grid s steps g l k b d x y = record-is s steps g l b x ∙ sym (record-is s steps g k d y)
+pub record-by-grid : (s : Plane) (steps : List ℕ) (g : Grid) (l k b d : List ℕ) {x y : RecordAnswer} {n i : ℕ} {m o c e : List ℕ}
+    → Stated s steps g l b x m c → x .«record» ≡ Bytes n → Stated s steps g k d y o e → y .«record» ≡ Bytes i → take n c ≡ take i e
+record-by-grid s steps g l k b d x told y also = record-is s steps g l b x told ∙ sym (record-is s steps g k d y also)
 
--- ---- "the plane and buffer stay unchanged"
+-- ---- "the plane and buffer stay unchanged", and ticket 4: "A refusal reports zero for both."
 
-pub refused-as-lent : (s : Plane) (steps : List ℕ) (g : Grid) (l b : List ℕ) {r : Refusal} {m c : List ℕ} → Stated s steps g l b («NoRecord» r) m c → (m ≡ l) × (c ≡ b)
-unfolding recordedAnswer recordedPlane recordedBuffer settle
-refused-as-lent s steps g l b done =
-    let no = refused-refused (recordedCheck s steps g l (length b)) _ (done .answer) in (
-      done .plane ∙ ap (λ (a : Answer). settle a l (runPlane s steps g l)) no,
-      done .buffer ∙ ap (λ (a : Answer). settle a b (bufferAfter (edgesOf s steps g) b)) no,
-    )
+module _ (s : Plane) (steps : List ℕ) (g : Grid) (l b : List ℕ) {a : RecordAnswer} {r : Refusal} {m c : List ℕ} (done : Stated s steps g l b a m c) (told : a .«record» ≡ «NoRecord» r) where
+  not-accepted : recordedCheck s steps g l (length b) ≡ Refused r
+  unfolding recordedAnswer
+  not-accepted = refused-refused (recordedCheck s steps g l (length b)) _ (sym told ∙ done .answer)
+
+  pub refused-as-lent : (m ≡ l) × (c ≡ b)
+  unfolding recordedPlane recordedBuffer settle
+  refused-as-lent = (
+    done .plane ∙ ap (λ (x : Answer). settle x l (runPlane s steps g l)) not-accepted,
+    done .buffer ∙ ap (λ (x : Answer). settle x b (bufferAfter (edgesOf s steps g) b)) not-accepted,
+  )
+
+  pub refused-none : (a .stored ≡ 0) × (a .changed ≡ 0)
+  unfolding recordedStored recordedChanged settle
+  refused-none = (
+    done .stored ∙ ap (λ (x : Answer). settle x 0 (runStored s steps g l)) not-accepted,
+    done .changed ∙ ap (λ (x : Answer). settle x 0 (runChanged s steps g l)) not-accepted,
+  )
 
 -- ---- the statement leaves one result
 
-pub one-result : {s : Plane} {steps : List ℕ} {g : Grid} {l b : List ℕ} {a a' : Recorded} {m m' c c' : List ℕ}
-    → Stated s steps g l b a m c → Stated s steps g l b a' m' c' → (a ≡ a') × (m ≡ m') × (c ≡ c')
-one-result x y = (x .answer ∙ sym (y .answer), x .plane ∙ sym (y .plane), x .buffer ∙ sym (y .buffer))
+module _ {s : Plane} {steps : List ℕ} {g : Grid} {l b : List ℕ} {a a' : RecordAnswer} {m m' c c' : List ℕ} (x : Stated s steps g l b a m c) (y : Stated s steps g l b a' m' c') where
+  pub one-result : (a .«record» ≡ a' .«record») × (m ≡ m') × (c ≡ c')
+  one-result = (x .answer ∙ sym (y .answer), x .plane ∙ sym (y .plane), x .buffer ∙ sym (y .buffer))
+
+  pub one-count : (a .stored ≡ a' .stored) × (a .changed ≡ a' .changed)
+  one-count = (x .stored ∙ sym (y .stored), x .changed ∙ sym (y .changed))

@@ -16,8 +16,8 @@ use Rattle.rules.specs.Numbers.{highestOf, offsetOf, shiftOf}
 use Rattle.rules.specs.Refusals.{orElse, unless, settle}
 use Rattle.rules.specs.Thresholds.{indexOf, stepOf, quantOf, lowered, sideOf, bothOf, qThreshold, sideThreshold}
 use Rattle.rules.specs.Lengths.{pairOf}
-use Rattle.rules.specs.Plane.{cellOf, cellBefore, marksOf, indicesOf, cappedOf, indexAt, shortenedAt, edgeAt, isEdge, visitOf, startOf, countOf, sbCols, sweepOf, columnOf, turnOf, edgesOf, runPlane, planeCheck, planeAfter}
-use Rattle.rules.specs.Record.{entryOf, entriesOf, recordOf, bufferAfter, edgeCount, recordedCheck, answerBytes, recordedAnswer, recordedPlane, recordedBuffer}
+use Rattle.rules.specs.Plane.{cellOf, cellBefore, marksOf, indicesOf, cappedOf, indexAt, shortenedAt, edgeAt, isEdge, visitOf, startOf, countOf, sbCols, sweepOf, columnOf, turnOf, edgesOf, runPlane, runStored, runChanged, planeCheck, planeAfter, planeStored, planeChanged}
+use Rattle.rules.specs.Record.{entryOf, entriesOf, recordOf, bufferAfter, edgeCount, recordedCheck, answerBytes, recordedAnswer, recordedPlane, recordedBuffer, recordedStored, recordedChanged}
 use Rattle.promises.proofs.Witness.{settings, steps, cells, four, samples, accepted, witness}
 use Rattle.recorded.specs.Stated.{Stated}
 
@@ -41,6 +41,13 @@ left : four (100 ∷ 101 ∷ 102 ∷ 103 ∷ 105 ∷ 106 ∷ 107 ∷ 108 ∷ [])
 unfolding planeAfter settle
 left = witness .plane ∙ ap (λ (a : Answer). settle a samples (runPlane settings steps cells samples)) accepted
 
+counted : (24 ≡ runStored settings steps cells samples) × (24 ≡ runChanged settings steps cells samples)
+unfolding planeStored planeChanged settle
+counted = (
+  witness .stored ∙ ap (λ (a : Answer). settle a 0 (runStored settings steps cells samples)) accepted,
+  witness .changed ∙ ap (λ (a : Answer). settle a 0 (runChanged settings steps cells samples)) accepted,
+)
+
 given-room : recordedCheck settings steps cells samples 17 ≡ Accepted
 unfolding recordedCheck orElse unless
 given-room = rw (accepted, marked)
@@ -50,12 +57,18 @@ unfolding recordedCheck orElse unless
 lacks-room = rw (accepted, marked)
 
 -- what `record_plane` must answer and leave: EDG, 1, and the edge at 4,0 of direction 0 with pair 1, q 16 and side 23
-pub recorded : Stated settings steps cells samples roomy (Bytes 15) (four (100 ∷ 101 ∷ 102 ∷ 103 ∷ 105 ∷ 106 ∷ 107 ∷ 108 ∷ []))
+pub recorded : Stated settings steps cells samples roomy (record { «record» = Bytes 15; stored = 24; changed = 24 }) (four (100 ∷ 101 ∷ 102 ∷ 103 ∷ 105 ∷ 106 ∷ 107 ∷ 108 ∷ []))
     (69 ∷ 68 ∷ 71 ∷ 1 ∷ 0 ∷ 4 ∷ 0 ∷ 0 ∷ 0 ∷ 0 ∷ 1 ∷ 16 ∷ 0 ∷ 23 ∷ 0 ∷ 7 ∷ 7 ∷ [])
-unfolding recordedAnswer answerBytes recordedPlane recordedBuffer settle bufferAfter recordOf entriesOf entryOf lowFirst
-recorded = record { answer = rw (given-room, edges); plane = rw given-room left; buffer = rw (given-room, edges) }
+unfolding recordedAnswer answerBytes recordedPlane recordedBuffer recordedStored recordedChanged settle bufferAfter recordOf entriesOf entryOf lowFirst
+recorded = record {
+  answer = rw (given-room, edges);
+  plane = rw given-room left;
+  buffer = rw (given-room, edges);
+  stored = rw given-room (counted .0);
+  changed = rw given-room (counted .1);
+}
 
--- a byte too few: 10, and both lists as lent
-pub refused : Stated settings steps cells samples short («NoRecord» Buffer) samples short
-unfolding recordedAnswer answerBytes recordedPlane recordedBuffer settle
-refused = record { answer = rw lacks-room; plane = rw lacks-room; buffer = rw lacks-room }
+-- a byte too few: 10, both lists as lent, and nothing counted
+pub refused : Stated settings steps cells samples short (record { «record» = «NoRecord» Buffer; stored = 0; changed = 0 }) samples short
+unfolding recordedAnswer answerBytes recordedPlane recordedBuffer recordedStored recordedChanged settle
+refused = record { answer = rw lacks-room; plane = rw lacks-room; buffer = rw lacks-room; stored = rw lacks-room; changed = rw lacks-room }

@@ -17,7 +17,7 @@ use Rattle.rules.specs.declared.refusals.Answer.the-variants.{Accepted, Refused
 use Rattle.rules.specs.declared.refusals.Recorded.the-variants.{Bytes, Refused as «NoRecord»}
 use Rattle.rules.specs.Refusals.{settle}
 use Rattle.rules.specs.Plane.{Grid, grid, edgesOf, runPlane, planeCheck}
-use Rattle.rules.specs.Record.{header, recordOf, edgeCount, recordedCheck, answerBytes, recordedAnswer, recordedPlane, recordedBuffer}
+use Rattle.rules.specs.Record.{header, recordOf, edgeCount, recordedCheck, answerBytes, recordedAnswer, recordedPlane, recordedBuffer, recordedStored, recordedChanged}
 use Rattle.scan.proofs.Checks.{stop-by, go-on-by, unless-bad, unless-good, unless-true, else-parts, settle-refused-by, settle-accepted-by}
 use Rattle.records.proofs.RoundTrip.{record-length}
 use Rattle.records.proofs.Noted.{record-noted}
@@ -76,20 +76,25 @@ passed-by s steps g l n is e = passed s steps g l n (sym is ∙ e)
 -- ---- the entry
 
 module _ (s : Plane) (steps : List ℕ) (g : Grid) (l b : List ℕ) {a : Answer} (is : a ≡ recordedCheck s steps g l (length b)) where
-  pub stated-refused : {r : Refusal} → a ≡ Refused r → Stated s steps g l b («NoRecord» r) l b
-  unfolding recordedAnswer answerBytes recordedPlane recordedBuffer
+  pub stated-refused : {r : Refusal} → a ≡ Refused r → Stated s steps g l b (record { «record» = «NoRecord» r; stored = 0; changed = 0 }) l b
+  unfolding recordedAnswer answerBytes recordedPlane recordedBuffer recordedStored recordedChanged
   stated-refused e = record {
     answer = rw (← is, e);
     plane = settle-refused-by _ _ _ _ is e;
     buffer = settle-refused-by _ _ _ _ is e;
+    stored = settle-refused-by _ _ _ _ is e;
+    changed = settle-refused-by _ _ _ _ is e;
   }
 
-  pub stated-run : {x : Visited} {h m c : List ℕ} → a ≡ Accepted → h ≡ sets b 0 header → Noted s steps g l h x m c → Stated s steps g l b (Bytes (5 + 10 * x .edges)) m c
-  unfolding recordedAnswer answerBytes recordedPlane recordedBuffer
+  pub stated-run : {x : Visited} {h m c : List ℕ} → a ≡ Accepted → h ≡ sets b 0 header → Noted s steps g l h x m c
+      → Stated s steps g l b (record { «record» = Bytes (x .bytes); stored = x .stored; changed = x .changed }) m c
+  unfolding recordedAnswer answerBytes recordedPlane recordedBuffer recordedStored recordedChanged
   stated-run {x} e head run =
-      let size : 5 + 10 * x .edges ≡ length (recordOf (edgesOf s steps g)) = omega (arith, run .visited, record-length (edgesOf s steps g)) in
+      let size : x .bytes ≡ length (recordOf (edgesOf s steps g)) = run .visited ∙ sym (record-length (edgesOf s steps g)) in
       record {
         answer = rw (← is, e) (ap Bytes size);
         plane = settle-accepted-by _ _ _ _ _ is e (run .plane);
         buffer = settle-accepted-by _ _ _ _ _ is e (record-noted (edgesOf s steps g) b (passed-by s steps g l (length b) is e .fits) head (run .buffer));
+        stored = settle-accepted-by _ _ _ _ _ is e (run .stored);
+        changed = settle-accepted-by _ _ _ _ _ is e (run .changed);
       }

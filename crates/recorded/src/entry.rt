@@ -4,6 +4,7 @@ use plane::plane_check;
 use plane::run_noted;
 use records::put_header;
 use rules::refusals::Answer;
+use rules::refusals::RecordAnswer;
 use rules::refusals::Recorded;
 use rules::refusals::Refusal;
 use rules::settings::Plane;
@@ -36,7 +37,8 @@ fn record_check(
     Answer::Accepted
 }
 
-// Deblocks a plane, writes the record of its edges and answers the record's length; or refuses, and leaves plane and record as lent.
+// Deblocks a plane, writes the record of its edges, answers the record's length and tells how many samples were stored and changed; or refuses,
+// leaves plane and record as lent and tells of none.
 pub fn record_plane(
     plane: &mut [u16],
     buffer: &mut [u8],
@@ -47,15 +49,23 @@ pub fn record_plane(
     qindex: &[u16],
     steps: &[u32],
     s: Plane,
-) -> Recorded
+) -> RecordAnswer
     ensures { λ a. ⌜ Stated s (now (steps .entry)) (grid (now (vedge .entry)) (now (hedge .entry)) (now (sqw .entry)) (now (sqh .entry)) (now (qindex .entry))) (now (plane .entry)) (now (buffer .entry)) a (now (plane .exit)) (now (buffer .exit)) ⌝ }
 {
     let room = buffer.len();
     let a = record_check(plane, room, vedge, hedge, sqw, sqh, qindex, steps, s);
     if let Answer::Refused(r) = a {
-        return Recorded::Refused(r);
+        return RecordAnswer {
+            record: Recorded::Refused(r),
+            stored: 0,
+            changed: 0,
+        };
     }
     put_header(buffer);
     let done = run_noted(plane, buffer, vedge, hedge, sqw, sqh, qindex, steps, s);
-    Recorded::Bytes(5 + 10 * done.edges)
+    RecordAnswer {
+        record: Recorded::Bytes(done.bytes),
+        stored: done.stored,
+        changed: done.changed,
+    }
 }

@@ -21,16 +21,13 @@ pub fn put_header(buffer: &mut [u8])
     buffer[4] = 0;
 }
 
-// Puts the entry with number k where the buffer has room for it; an empty buffer, which every run without a record lends, is asked for first.
-pub fn note(buffer: &mut [u8], k: usize, e: Edge)
-    requires { ⌜ InBytes e × (k ≤ 1099511627776) ⌝ }
-    ensures { λ _. ⌜ now (buffer .exit) ≡ notedOne k e (now (buffer .entry)) ⌝ }
+// Puts the entry at its place where the buffer has room for it; an empty buffer takes none.
+pub fn note(buffer: &mut [u8], at: usize, e: Edge)
+    requires { ⌜ InBytes e × (at ≤ 70368744177664) ⌝ }
+    ensures { λ _. ⌜ now (buffer .exit) ≡ notedOne at e (now (buffer .entry)) ⌝ }
 {
-    if buffer.len() == 0 {
+    if buffer.len() < at + 10 {
         return;
     }
-    if buffer.len() < 15 + 10 * k {
-        return;
-    }
-    put_edge(buffer, 5 + 10 * k, e);
+    put_edge(buffer, at, e);
 }

@@ -16,9 +16,10 @@ use Rattle.rules.specs.declared.refusals.Found.{Found}
 use Rattle.rules.specs.declared.refusals.Found.the-variants.{At, Nothing}
 use Rattle.rules.specs.Numbers.{depthOk, topOf}
 use Rattle.rules.specs.Refusals.{orElse, found, overBox}
-use Rattle.rules.specs.Replay.{replaySizesOk, headerOk, cutEntry, badEntry, noRoomIn, overReplay, recordCheck, replayCheck, replayOf, replayAfter}
+use Rattle.rules.specs.Record.{edgesIn}
+use Rattle.rules.specs.Replay.{replaySizesOk, headerOk, cutEntry, badEntry, noRoomIn, overReplay, recordCheck, replayCheck, replayOf, replayAfter, replayStored, replayChanged}
 use Rattle.scan.proofs.Checks.{stop, stop-by, go-on, go-on-by, unless-bad, unless-good, found-bad, found-good, found-bad-by, found-good-by, settle-refused, settle-accepted, else-parts, unless-true, found-nothing}
-use Rattle.replay.specs.Fit.{Ranged, Roomy, roomCheck, Runnable, Replayed}
+use Rattle.replay.specs.Fit.{Ranged, Roomy, roomCheck, Runnable, inWord, Ran, Replayed}
 use Rattle.replay.proofs.Entries.{sized-of, header-there}
 
 -- ---- the record's own checks
@@ -130,13 +131,23 @@ passed s bytes l h =
 -- ---- the entry, by the answer of its checks
 
 module _ (s : Replay) (bytes l : List ℕ) {a : Answer} (is : a ≡ replayCheck s bytes l) where
-  pub replayed-refused : {r : Refusal} → a ≡ Refused r → Replayed s bytes l (Refused r) l
-  unfolding replayAfter
-  replayed-refused e = record { answer = sym e ∙ is; plane = settle-refused _ _ _ (sym e ∙ is) }
+  pub replayed-refused : {r : Refusal} → a ≡ Refused r → Replayed s bytes l (record { answer = Refused r; stored = 0; changed = 0 }) l
+  unfolding replayAfter replayStored replayChanged
+  replayed-refused e = record {
+    answer = sym e ∙ is;
+    plane = settle-refused _ _ _ (sym e ∙ is);
+    stored = ap inWord (settle-refused _ 0 _ (sym e ∙ is));
+    changed = ap inWord (settle-refused _ 0 _ (sym e ∙ is));
+  }
 
-  pub replayed-run : {m : List ℕ} → a ≡ Accepted → m ≡ replayOf s bytes l → Replayed s bytes l Accepted m
-  unfolding replayAfter
-  replayed-run e run = record { answer = sym e ∙ is; plane = settle-accepted _ _ _ _ (sym e ∙ is) run }
+  pub replayed-run : {x y : ℕ} {m : List ℕ} → a ≡ Accepted → Ran s (edgesIn bytes) l x y m → Replayed s bytes l (record { answer = Accepted; stored = x; changed = y }) m
+  unfolding replayAfter replayOf replayStored replayChanged
+  replayed-run e run = record {
+    answer = sym e ∙ is;
+    plane = settle-accepted _ _ _ _ (sym e ∙ is) (run .plane);
+    stored = run .stored-is ∙ ap inWord (settle-accepted _ 0 _ _ (sym e ∙ is) refl);
+    changed = run .changed-is ∙ ap inWord (settle-accepted _ 0 _ _ (sym e ∙ is) refl);
+  }
 
   pub depth-by : a ≡ Accepted → depthOk (s .depth) ≡ true
   depth-by e = passed s bytes l (sym is ∙ e) .depth-ok

@@ -1,16 +1,16 @@
 -- The entries of a record: where each lies, what a check that passed says of each, and the run of them one after the other.
 -- Assumes nothing.
-use mathlib.Core.Path.{_≡_, sym, ap, _∙_}
+use mathlib.Core.Path.{_≡_, refl, sym, ap, _∙_}
 use mathlib.Core.Bool.{Bool, true, false, not}
-use mathlib.Core.List.{List, [], _∷_}
+use mathlib.Core.List.{List, [], _∷_, _++_}
 use Prim.Native.Nat.{ℕ, _+_, _*_, _-_, _%_, _≤_, _<_}
-use native.Mathlib.Nat.{mul-le-mul}
+use native.Mathlib.Nat.{le-antisymm, mul-le-mul}
 use native.Mathlib.Omega.{arith}
 use borrow.Author.Tests.{leb-true}
 use lib.ListN.{length}
 use Rattle.laws.specs.Choose.{all-parts, is-eq, not-eq, told-yes-not, told-no-not}
-use Rattle.laws.specs.Loops.{each}
-use Rattle.laws.specs.Trace.{run-none, run-more, run-end}
+use Rattle.laws.specs.Loops.{each, each-more}
+use Rattle.laws.specs.Trace.{run-then}
 use Rattle.rules.specs.declared.edge.Edge.{Edge}
 use Rattle.rules.specs.declared.settings.Replay.{Replay}
 use Rattle.rules.specs.declared.refusals.Found.{Found}
@@ -18,14 +18,16 @@ use Rattle.rules.specs.declared.refusals.Found.the-variants.{At, Nothing}
 use Rattle.rules.specs.Numbers.{topOf}
 use Rattle.rules.specs.Refusals.{first, foundUnless}
 use Rattle.rules.specs.Segment.{rangesOk, hasRoom, segmentOf, runEdges}
+use Rattle.rules.specs.Counts.{storedAt, changedAt, storedBy, changedBy}
 use Rattle.rules.specs.Record.{edgeIn, entryAt, entryCount, edgesIn}
-use Rattle.rules.specs.Replay.{replaySizesOk, headerOk, cutEntry, firstEntry, replayOf}
+use Rattle.rules.specs.Replay.{replaySizesOk, headerOk, cutEntry, firstEntry}
 use Rattle.scan.proofs.First.{first-more, first-found, first-end, found-unless, found-unless-not, nothing-all, unless-nothing}
 use Rattle.scan.proofs.Ranges.{in-range}
 use Rattle.lengths.proofs.Inside.{Ranges, ranges-are}
 use Rattle.segment.specs.declared.outcome.Outcome.{Outcome}
 use Rattle.segment.specs.Fit.{InPlane, EdgeFiltered}
-use Rattle.replay.specs.Fit.{Sized, Ranged, Runnable}
+use Rattle.segment.proofs.Counts.{one-stored, one-changed, stored-then, changed-then}
+use Rattle.replay.specs.Fit.{Sized, Ranged, Runnable, inWord, Ran}
 
 -- ---- where an entry lies
 
@@ -115,23 +117,36 @@ module _ (bytes : List ℕ) (good : Edge → Bool) (k : ℕ) (before : first k (
 abbrev pub firstEntries : List ℕ → ℕ → List Edge
 firstEntries bytes k = each k (λ j. edgeIn bytes (entryAt j) ∷ [])
 
+pub ran-same : {s : Replay} {es fs : List Edge} {l m : List ℕ} {x y : ℕ} → es ≡ fs → Ran s es l x y m → Ran s fs l x y m
+ran-same e r = rw (← e) r
+
+-- one edge more
+ran-then : (s : Replay) (es : List Edge) (l : List ℕ) {e : Edge} {top x y u v : ℕ} {m n : List ℕ} {o : Outcome} → Ran s es l x y m → top ≡ topOf (s .depth) → EdgeFiltered top (s .stride) e m o n
+    → u ≡ inWord (x + o .stored) → v ≡ inWord (y + o .changed) → Ran s (es ++ (e ∷ [])) l u v n
+unfolding runEdges
+ran-then s es l {e} {m = m} {o = o} so-far deep done more moved =
+    let kept : o .stored ≡ storedBy (topOf (s .depth)) (s .stride) (e ∷ []) m = done .stored ∙ ap (λ (t : ℕ). storedAt t (s .stride) e m) deep ∙ sym (one-stored (topOf (s .depth)) (s .stride) e m) in
+    let new : o .changed ≡ changedBy (topOf (s .depth)) (s .stride) (e ∷ []) m = done .changed ∙ ap (λ (t : ℕ). changedAt t (s .stride) e m) deep ∙ sym (one-changed (topOf (s .depth)) (s .stride) e m) in
+    record {
+      plane = run-then (segmentOf (topOf (s .depth)) (s .stride)) es (e ∷ []) l (so-far .plane) (done .plane ∙ ap (λ (t : ℕ). segmentOf t (s .stride) e m) deep);
+      stored-is = omega (arith, more, so-far .stored-is, kept, stored-then (topOf (s .depth)) (s .stride) es (e ∷ []) l 0 (so-far .plane) refl refl);
+      changed-is = omega (arith, moved, so-far .changed-is, new, changed-then (topOf (s .depth)) (s .stride) es (e ∷ []) l 0 (so-far .plane) refl refl);
+    }
+
 module _ (s : Replay) (bytes l : List ℕ) where
-  pub replayed-none : l ≡ runEdges (topOf (s .depth)) (s .stride) (firstEntries bytes 0) l
-  unfolding runEdges
-  replayed-none = run-none (segmentOf (topOf (s .depth)) (s .stride)) (λ j. edgeIn bytes (entryAt j) ∷ []) l
+  pub replayed-none : Ran s (firstEntries bytes 0) l 0 0 l
+  unfolding runEdges storedBy changedBy each
+  replayed-none = record { plane = refl; stored-is = refl; changed-is = refl }
 
-  pub replayed-more : (k : ℕ) {m n : List ℕ} {e : Edge} {top : ℕ} {o : Outcome} → m ≡ runEdges (topOf (s .depth)) (s .stride) (firstEntries bytes k) l
+  pub replayed-more : (k : ℕ) {m n : List ℕ} {e : Edge} {top x y u v : ℕ} {o : Outcome} → Ran s (firstEntries bytes k) l x y m
       → e ≡ edgeIn bytes (entryAt k) → top ≡ topOf (s .depth) → EdgeFiltered top (s .stride) e m o n
-      → n ≡ runEdges (topOf (s .depth)) (s .stride) (firstEntries bytes (k + 1)) l
-  unfolding runEdges
-  replayed-more k {m} {e = e} so-far is deep done =
-      run-more (segmentOf (topOf (s .depth)) (s .stride)) (λ j. edgeIn bytes (entryAt j) ∷ []) k l so-far
-      (done .plane ∙ ap (λ (t : ℕ). segmentOf t (s .stride) e m) deep ∙ ap (λ (x : Edge). segmentOf (topOf (s .depth)) (s .stride) x m) is)
+      → u ≡ inWord (x + o .stored) → v ≡ inWord (y + o .changed) → Ran s (firstEntries bytes (k + 1)) l u v n
+  replayed-more k so-far is deep done more moved =
+      ran-same (each-more (λ j. edgeIn bytes (entryAt j) ∷ []) k refl (ap (λ (f : Edge). firstEntries bytes k ++ (f ∷ [])) is)) (ran-then s (firstEntries bytes k) l so-far deep done more moved)
 
-  pub replayed-end : (k n : ℕ) {m : List ℕ} → m ≡ runEdges (topOf (s .depth)) (s .stride) (firstEntries bytes k) l → n ≡ entryCount bytes → k ≤ n → n ≤ k → m ≡ replayOf s bytes l
-  unfolding runEdges replayOf edgesIn
-  replayed-end k n e c a b =
-      run-end (segmentOf (topOf (s .depth)) (s .stride)) (λ j. edgeIn bytes (entryAt j) ∷ []) k (entryCount bytes) l e (omega arith) (omega arith)
+  pub replayed-end : (k n : ℕ) {m : List ℕ} {x y : ℕ} → Ran s (firstEntries bytes k) l x y m → n ≡ entryCount bytes → k ≤ n → n ≤ k → Ran s (edgesIn bytes) l x y m
+  unfolding edgesIn
+  replayed-end k n r c a b = ran-same (ap (λ (j : ℕ). firstEntries bytes j) (le-antisymm (omega arith) (omega arith))) r
 
 -- a plane of the same length serves as well
 pub runnable-same : {s : Replay} {bytes : List ℕ} {n k top : ℕ} → k ≡ n → Runnable s bytes n top → Runnable s bytes k top

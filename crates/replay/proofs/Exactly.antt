@@ -8,6 +8,7 @@ use lib.ListN.{length}
 use Rattle.rules.specs.declared.settings.Replay.{Replay}
 use Rattle.rules.specs.declared.refusals.Answer.{Answer}
 use Rattle.rules.specs.declared.refusals.Answer.the-variants.{Accepted}
+use Rattle.rules.specs.declared.refusals.PlaneAnswer.{PlaneAnswer}
 use Rattle.rules.specs.declared.refusals.Refusal.the-variants.{Depth, Size, Length}
 use Rattle.rules.specs.Numbers.{depthOk}
 use Rattle.rules.specs.Refusals.{orElse, unless}
@@ -31,7 +32,7 @@ pub replay-exactly : (s : Replay) (bytes l : List ℕ) {a : Answer} → a ≡ re
 replay-exactly s bytes l e = exactly (replayTests s bytes l) refl (e ∙ in-turn s bytes l)
 
 -- of whatever the entry may answer
-pub replayed-exactly : (s : Replay) (bytes l : List ℕ) {a : Answer} {m : List ℕ} → Replayed s bytes l a m → Exactly a (replayTests s bytes l)
+pub replayed-exactly : (s : Replay) (bytes l : List ℕ) {a : PlaneAnswer} {m : List ℕ} → Replayed s bytes l a m → Exactly (a .answer) (replayTests s bytes l)
 replayed-exactly s bytes l done = replay-exactly s bytes l (done .answer)
 
 -- the header alone, and the middle edge of 100 | 108

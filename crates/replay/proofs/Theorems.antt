@@ -1,4 +1,4 @@
--- What the entry's statement says further: one result, a refused plane as lent, any list of edges run as written, and a good record's bytes read and written again.
+-- What the entry's statement says further: one result, a refused plane as lent, any list of edges run as written and counted, and a good record's bytes read and written again.
 -- Assumes nothing.
 use mathlib.Core.Path.{_≡_, refl, sym, ap, _∙_}
 use mathlib.Core.Bool.{Bool, true}
@@ -9,49 +9,61 @@ use borrow.Author.Tests.{le-leb, leb-true, eqb-true, eq-eqb}
 use lib.ListN.{length, getD, take}
 use Rattle.laws.specs.Choose.{all, all-parts}
 use Rattle.laws.specs.Lists.{Each, each-left, each-right, each-loop}
-use Rattle.laws.specs.Loops.{each}
+use Rattle.laws.specs.Loops.{each, singles-length}
 use Rattle.low_first.specs.Bytes.{numberIn}
 use Rattle.rules.specs.declared.edge.Edge.{Edge}
 use Rattle.rules.specs.declared.settings.Replay.{Replay}
 use Rattle.rules.specs.declared.refusals.Refusal.{Refusal}
 use Rattle.rules.specs.declared.refusals.Answer.{Answer}
 use Rattle.rules.specs.declared.refusals.Answer.the-variants.{Accepted, Refused}
+use Rattle.rules.specs.declared.refusals.PlaneAnswer.{PlaneAnswer}
 use Rattle.rules.specs.declared.refusals.Found.the-variants.{Nothing}
 use Rattle.rules.specs.Numbers.{depthOk, topOf}
 use Rattle.rules.specs.Refusals.{settle, first, sooner, foundUnless, found, unless, orElse}
 use Rattle.rules.specs.Segment.{rangesOk, hasRoom, segmentOf, runEdges}
+use Rattle.rules.specs.Counts.{storedBy, changedBy}
 use Rattle.rules.specs.Record.{header, recordOf, edgeIn, entryAt, entryCount, edgesIn}
-use Rattle.rules.specs.Replay.{replaySizesOk, headerOk, cutEntry, firstEntry, overReplay, recordCheck, replayCheck, replayOf, replayAfter}
+use Rattle.rules.specs.Replay.{replaySizesOk, headerOk, cutEntry, firstEntry, overReplay, recordCheck, replayCheck, replayOf, replayAfter, replayStored, replayChanged}
 use Rattle.scan.proofs.First.{unless-nothing}
 use Rattle.records.specs.Fit.{InBytes}
 use Rattle.records.proofs.RoundTrip.{record-length, read-record, write-record}
 use Rattle.segment.specs.Fit.{InPlane}
-use Rattle.replay.specs.Fit.{Replayed}
+use Rattle.segment.proofs.Counts.{run-stored, run-changed}
+use Rattle.replay.specs.Fit.{inWord, Replayed}
 use Rattle.replay.proofs.Entries.{entry-runs}
 use Rattle.replay.proofs.Checking.{own, passed}
 
-module _ (s : Replay) (bytes l : List ℕ) {a : Answer} {m : List ℕ} (done : Replayed s bytes l a m) where
+module _ (s : Replay) (bytes l : List ℕ) {a : PlaneAnswer} {m : List ℕ} (done : Replayed s bytes l a m) where
   -- any two results that the statement allows are equal
-  pub one-result : {b : Answer} {n : List ℕ} → Replayed s bytes l b n → (a ≡ b) × (m ≡ n)
-  one-result other = (done .answer ∙ sym (other .answer), done .plane ∙ sym (other .plane))
+  pub one-result : {b : PlaneAnswer} {n : List ℕ} → Replayed s bytes l b n → (a .answer ≡ b .answer) × (m ≡ n) × (a .stored ≡ b .stored) × (a .changed ≡ b .changed)
+  one-result other = (done .answer ∙ sym (other .answer), done .plane ∙ sym (other .plane), done .stored ∙ sym (other .stored), done .changed ∙ sym (other .changed))
 
   -- "Refusals, all before writing"
-  pub refused-kept : {r : Refusal} → a ≡ Refused r → m ≡ l
+  pub refused-kept : {r : Refusal} → a .answer ≡ Refused r → m ≡ l
   unfolding replayAfter settle
   refused-kept e = done .plane ∙ ap (λ (x : Answer). settle x l (replayOf s bytes l)) (sym (done .answer) ∙ e)
 
+  -- ticket 4: "A refusal reports zero for both."
+  pub refused-none : {r : Refusal} → a .answer ≡ Refused r → (a .stored ≡ 0) × (a .changed ≡ 0)
+  unfolding replayStored replayChanged settle
+  refused-none e =
+      let no = sym (done .answer) ∙ e in (
+        done .stored ∙ ap (λ (x : Answer). inWord (settle x 0 (storedBy (topOf (s .depth)) (s .stride) (edgesIn bytes) l))) no,
+        done .changed ∙ ap (λ (x : Answer). inWord (settle x 0 (changedBy (topOf (s .depth)) (s .stride) (edgesIn bytes) l))) no,
+      )
+
   -- "Any well-formed list is run": the entries' edges one after the other, on the cells or off them, once or twice
-  pub runs-entries : a ≡ Accepted → m ≡ runEdges (topOf (s .depth)) (s .stride) (edgesIn bytes) l
+  pub runs-entries : a .answer ≡ Accepted → m ≡ runEdges (topOf (s .depth)) (s .stride) (edgesIn bytes) l
   unfolding replayAfter replayOf settle
   runs-entries e = done .plane ∙ ap (λ (x : Answer). settle x l (replayOf s bytes l)) (sym (done .answer) ∙ e)
 
   -- and so a written list of edges
-  pub runs-list : (es : List Edge) → Each InBytes es → bytes ≡ recordOf es → a ≡ Accepted → m ≡ runEdges (topOf (s .depth)) (s .stride) es l
+  pub runs-list : (es : List Edge) → Each InBytes es → bytes ≡ recordOf es → a .answer ≡ Accepted → m ≡ runEdges (topOf (s .depth)) (s .stride) es l
   runs-list es fit is e =
       runs-entries e ∙ ap (λ (xs : List Edge). runEdges (topOf (s .depth)) (s .stride) xs l) (ap edgesIn is ∙ read-record es fit)
 
   -- "also one with an edge twice: the segments are applied one after the other"
-  pub runs-twice : (e : Edge) → InBytes e → bytes ≡ recordOf (e ∷ e ∷ []) → a ≡ Accepted
+  pub runs-twice : (e : Edge) → InBytes e → bytes ≡ recordOf (e ∷ e ∷ []) → a .answer ≡ Accepted
       → m ≡ segmentOf (topOf (s .depth)) (s .stride) e (segmentOf (topOf (s .depth)) (s .stride) e l)
   unfolding runEdges
   runs-twice e fit is ok = runs-list (e ∷ e ∷ []) (fit, (fit, tt)) is ok
@@ -112,6 +124,10 @@ none-first good f (suc n) h =
     let here = each-right (λ e. good e ≡ true) (each n (λ k. f k ∷ [])) (f n ∷ []) h .0 in
     rw (before, here)
 
+edges-in-length : (bytes : List ℕ) → length (edgesIn bytes) ≡ entryCount bytes
+unfolding edgesIn
+edges-in-length bytes = singles-length (λ k. edgeIn bytes (entryAt k)) (entryCount bytes)
+
 -- what is asked of a written list of edges
 pub record Written (s : Replay) (es : List Edge) : Type 0 where
   pub fits : Each InBytes es
@@ -143,3 +159,41 @@ module _ (s : Replay) (es : List Edge) (w : Written s es) where
       → replayCheck s (recordOf es) l ≡ Accepted
   unfolding replayCheck orElse unless found
   record-accepted l d z p o = rw (d, z, le-leb _ _ p, written-accepted, entries-pass (hasRoom (4 * s .cols) (4 * s .rows)) (w .room), o)
+
+-- ---- how far the counts go
+
+module _ (s : Replay) (bytes l : List ℕ) where
+  abbrev storedIn : ℕ
+  storedIn = storedBy (topOf (s .depth)) (s .stride) (edgesIn bytes) l
+
+  abbrev changedIn : ℕ
+  changedIn = changedBy (topOf (s .depth)) (s .stride) (edgesIn bytes) l
+
+  -- "changed never exceeds stored"
+  pub replay-changed : changedIn ≤ storedIn
+  replay-changed = run-changed (topOf (s .depth)) (s .stride) (edgesIn bytes) l
+
+  -- "stores at most 64 samples for each"
+  pub replay-stored : replayCheck s bytes l ≡ Accepted → storedIn ≤ entryCount bytes * 64
+  replay-stored ok =
+      let most = run-stored (topOf (s .depth)) (s .stride) (4 * s .cols) (4 * s .rows) (length l) (edgesIn bytes) (accepted-inside s bytes l ok) l in
+      let all : length (edgesIn bytes) ≡ entryCount bytes = edges-in-length bytes in
+      omega (arith, most)
+
+  module _ {a : PlaneAnswer} {m : List ℕ} (done : Replayed s bytes l a m) (few : entryCount bytes < 288230376151711744) where
+    -- a record of fewer than 2^58 entries is counted as it is
+    pub counts-exact : (a .stored ≡ replayStored s bytes l) × (a .changed ≡ replayChanged s bytes l)
+    unfolding replayStored replayChanged settle
+    counts-exact = go (replayCheck s bytes l) refl (done .stored) (done .changed)
+      where
+        go : (x : Answer) → replayCheck s bytes l ≡ x → {u v : ℕ} → u ≡ inWord (settle x 0 storedIn) → v ≡ inWord (settle x 0 changedIn) → (u ≡ settle x 0 storedIn) × (v ≡ settle x 0 changedIn)
+        go Accepted ok p q = (omega (arith, p, replay-stored ok), omega (arith, q, replay-stored ok, replay-changed))
+        go (Refused r) ok p q = (p, q)
+
+    pub counts-most : (a .stored ≤ entryCount bytes * 64) × (a .changed ≤ a .stored)
+    unfolding replayStored replayChanged settle
+    counts-most = go (replayCheck s bytes l) refl (counts-exact .0) (counts-exact .1)
+      where
+        go : (x : Answer) → replayCheck s bytes l ≡ x → {u v : ℕ} → u ≡ settle x 0 storedIn → v ≡ settle x 0 changedIn → (u ≤ entryCount bytes * 64) × (v ≤ u)
+        go Accepted ok p q = (omega (arith, p, replay-stored ok), omega (arith, p, q, replay-changed))
+        go (Refused r) ok p q = (omega (arith, p), omega (arith, p, q))

@@ -3,15 +3,19 @@
 use mathlib.Core.Path.{_≡_}
 use mathlib.Core.Bool.{true}
 use mathlib.Core.List.{List}
-use Prim.Native.Nat.{ℕ, _*_, _≤_}
+use Prim.Native.Nat.{ℕ, _*_, _%_, _≤_}
 use lib.ListN.{length}
+use Rattle.rules.specs.declared.edge.Edge.{Edge}
 use Rattle.rules.specs.declared.settings.Replay.{Replay}
 use Rattle.rules.specs.declared.refusals.Refusal.the-variants.{Room, Sample}
 use Rattle.rules.specs.declared.refusals.Answer.{Answer}
+use Rattle.rules.specs.declared.refusals.PlaneAnswer.{PlaneAnswer}
 use Rattle.rules.specs.declared.refusals.Found.the-variants.{Nothing}
 use Rattle.rules.specs.Numbers.{depthOk, topOf}
 use Rattle.rules.specs.Refusals.{orElse, found}
-use Rattle.rules.specs.Replay.{badEntry, noRoomIn, overReplay, replayCheck, replayAfter}
+use Rattle.rules.specs.Segment.{runEdges}
+use Rattle.rules.specs.Counts.{storedBy, changedBy}
+use Rattle.rules.specs.Replay.{badEntry, noRoomIn, overReplay, replayCheck, replayAfter, replayStored, replayChanged}
 
 -- the sizes are in range
 pub record Sized (s : Replay) : Type 0 where
@@ -44,7 +48,20 @@ pub record Runnable (s : Replay) (bytes : List ℕ) (size top : ℕ) : Type 0 wh
   pub plane-long : 4 * s .rows * s .stride ≤ size
   pub top-is : top ≡ topOf (s .depth)
 
--- all that the entry states: its answer a, and the plane afterwards m, of a plane l
-pub record Replayed (s : Replay) (bytes l : List ℕ) (a : Answer) (m : List ℕ) : Type 0 where
-  pub answer : a ≡ replayCheck s bytes l
+-- a count as a number of 64 bits holds it. A record may list an edge again and again, so a lent list may in principle be long enough that the sum
+-- passes 64 bits; below 2^58 entries, nearly three million terabytes, it is the count itself (`counts-exact`)
+abbrev pub inWord : ℕ → ℕ
+inWord n = n % 18446744073709551616
+
+-- what a run of edges on a plane l tells, and the plane m that it leaves
+pub record Ran (s : Replay) (es : List Edge) (l : List ℕ) (stored changed : ℕ) (m : List ℕ) : Type 0 where
+  pub plane : m ≡ runEdges (topOf (s .depth)) (s .stride) es l
+  pub stored-is : stored ≡ inWord (storedBy (topOf (s .depth)) (s .stride) es l)
+  pub changed-is : changed ≡ inWord (changedBy (topOf (s .depth)) (s .stride) es l)
+
+-- all that the entry states: its answer a with the counts, and the plane afterwards m, of a plane l
+pub record Replayed (s : Replay) (bytes l : List ℕ) (a : PlaneAnswer) (m : List ℕ) : Type 0 where
+  pub answer : a .answer ≡ replayCheck s bytes l
   pub plane : m ≡ replayAfter s bytes l
+  pub stored : a .stored ≡ inWord (replayStored s bytes l)
+  pub changed : a .changed ≡ inWord (replayChanged s bytes l)

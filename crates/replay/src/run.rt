@@ -2,23 +2,27 @@
 use crate::check::count;
 use crate::check::entry;
 use crate::check::replay_check;
+use rules::counts::Counts;
 use rules::depth::Depth;
 use rules::refusals::Answer;
+use rules::refusals::PlaneAnswer;
 use rules::settings::Replay;
 use segment::filter_edge;
-ghost use mathlib.Core.Path.{_≡_};
+use std::num::wrapping_add_usize;
 ghost use lib.ListN.{length};
-ghost use Rattle.rules.specs.Replay.{replayOf};
-ghost use Rattle.replay.specs.Fit.{Runnable, Replayed};
+ghost use Rattle.rules.specs.Record.{edgesIn};
+ghost use Rattle.replay.specs.Fit.{Runnable, Ran, Replayed};
 
-// Every edge of the record, one after the other.
-fn run_record(plane: &mut [u16], bytes: &[u8], s: Replay, top: u16)
+// Every edge of the record, one after the other; a record may be so long that the sums wrap.
+fn run_record(plane: &mut [u16], bytes: &[u8], s: Replay, top: u16) -> Counts
     requires { ⌜ Runnable s (now bytes) (length (now plane)) top ⌝ }
-    ensures { λ _. ⌜ now (plane .exit) ≡ replayOf s (now (bytes .entry)) (now (plane .entry)) ⌝ }
+    ensures { λ r. ⌜ Ran s (edgesIn (now (bytes .entry))) (now (plane .entry)) (r .stored) (r .changed) (now (plane .exit)) ⌝ }
 {
     let n = count(bytes);
+    let mut stored: usize = 0;
+    let mut changed: usize = 0;
     for k in 0..n {
-        filter_edge(
+        let o = filter_edge(
             plane,
             s.stride,
             4 * s.cols,
@@ -26,18 +30,32 @@ fn run_record(plane: &mut [u16], bytes: &[u8], s: Replay, top: u16)
             entry(bytes, k),
             top,
         );
+        stored = wrapping_add_usize(stored, o.stored);
+        changed = wrapping_add_usize(changed, o.changed);
+    }
+    Counts {
+        stored: stored,
+        changed: changed,
     }
 }
 
-// Runs a record on the unfiltered plane, or refuses it and leaves the plane as lent.
-pub fn replay_plane(plane: &mut [u16], bytes: &[u8], s: Replay) -> Answer
+// Runs a record on the unfiltered plane and tells how many samples it stored and changed; or refuses it, leaves the plane as lent and tells of none.
+pub fn replay_plane(plane: &mut [u16], bytes: &[u8], s: Replay) -> PlaneAnswer
     ensures { λ a. ⌜ Replayed s (now (bytes .entry)) (now (plane .entry)) a (now (plane .exit)) ⌝ }
 {
     let a = replay_check(plane, bytes, s);
     if let Answer::Refused(r) = a {
-        return Answer::Refused(r);
+        return PlaneAnswer {
+            answer: Answer::Refused(r),
+            stored: 0,
+            changed: 0,
+        };
     }
     let depth = Depth { bits: s.depth };
-    run_record(plane, bytes, s, depth.top());
-    Answer::Accepted
+    let done = run_record(plane, bytes, s, depth.top());
+    PlaneAnswer {
+        answer: Answer::Accepted,
+        stored: done.stored,
+        changed: done.changed,
+    }
 }

@@ -37,7 +37,8 @@ fn run_plane(plane: &mut [u16], bytes: &[u8], s: Shape, depth: u32, p: usize) ->
             depth,
         },
     );
-    if let Answer::Refused(r) = a {
+    let answer = a.answer;
+    if let Answer::Refused(r) = answer {
         say::refused(p, r, s);
         return false;
     }

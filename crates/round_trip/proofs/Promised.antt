@@ -5,8 +5,8 @@ use mathlib.Core.List.{List}
 use Prim.Native.Nat.{ℕ, _*_}
 use lib.ListN.{getD}
 use Rattle.rules.specs.declared.settings.Replay.{Replay}
-use Rattle.rules.specs.declared.refusals.Answer.{Answer}
 use Rattle.rules.specs.declared.refusals.Answer.the-variants.{Accepted}
+use Rattle.rules.specs.declared.refusals.PlaneAnswer.{PlaneAnswer}
 use Rattle.rules.specs.Numbers.{topOf}
 use Rattle.rules.specs.Record.{edgesIn}
 use Rattle.rules.specs.Replay.{replayCheck}
@@ -19,7 +19,7 @@ pub replay-demand-3 : (s : Replay) (bytes l : List ℕ) → replayCheck s bytes 
 replay-demand-3 s bytes l ok = edges-promised (topOf (s .depth)) (s .stride) (4 * s .cols) (4 * s .rows) (edgesIn bytes) l (accepted-inside s bytes l ok)
 
 -- whatever the entry may leave of an accepted record
-pub replay-kept : (s : Replay) (bytes l : List ℕ) {a : Answer} {m : List ℕ} → Replayed s bytes l a m → a ≡ Accepted → (i : ℕ) → SparedBy (topOf (s .depth)) (s .stride) (edgesIn bytes) l i
+pub replay-kept : (s : Replay) (bytes l : List ℕ) {a : PlaneAnswer} {m : List ℕ} → Replayed s bytes l a m → a .answer ≡ Accepted → (i : ℕ) → SparedBy (topOf (s .depth)) (s .stride) (edgesIn bytes) l i
     → getD m i 0 ≡ getD l i 0
 replay-kept s bytes l done ok i h =
     ap (λ (x : List ℕ). getD x i 0) (runs-entries s bytes l done ok) ∙ spared-kept (topOf (s .depth)) (s .stride) (edgesIn bytes) l i h

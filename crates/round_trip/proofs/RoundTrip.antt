@@ -1,9 +1,10 @@
--- Ticket 2: "A record written by Ticket 1 with its own input plane gives exactly the plane that run gave", of the rules and of both entries.
+-- Ticket 2: "A record written by Ticket 1 with its own input plane gives exactly the plane that run gave", of the rules and of both entries; and
+-- so it gives the counts that the run gave.
 -- Assumes nothing.
 use mathlib.Core.Path.{_≡_, refl, sym, ap, _∙_}
 use mathlib.Core.Bool.{true}
 use mathlib.Core.List.{List}
-use Prim.Native.Nat.{ℕ, _*_, _≤_}
+use Prim.Native.Nat.{ℕ, _*_, _≤_, _<_}
 use native.Mathlib.Omega.{arith}
 use borrow.Author.Tests.{le-leb}
 use lib.ListN.{length, take}
@@ -12,27 +13,30 @@ use Rattle.laws.specs.Lists.{Each, each-map, each-both}
 use Rattle.rules.specs.declared.edge.Edge.{Edge}
 use Rattle.rules.specs.declared.settings.Plane.{Plane}
 use Rattle.rules.specs.declared.refusals.Refusal.the-variants.{Size, Sample}
-use Rattle.rules.specs.declared.refusals.Answer.{Answer}
 use Rattle.rules.specs.declared.refusals.Answer.the-variants.{Accepted}
 use Rattle.rules.specs.declared.refusals.Found.the-variants.{Nothing}
+use Rattle.rules.specs.declared.refusals.PlaneAnswer.{PlaneAnswer}
+use Rattle.rules.specs.declared.refusals.RecordAnswer.{RecordAnswer}
 use Rattle.rules.specs.declared.refusals.Recorded.the-variants.{Bytes}
 use Rattle.rules.specs.Numbers.{topOf}
 use Rattle.rules.specs.Refusals.{settle}
 use Rattle.rules.specs.Segment.{rangesOk, hasRoom, runEdges}
-use Rattle.rules.specs.Plane.{Grid, edgeAt, edgesOf, runPlane, planeSizesOk, overPlane, planeCheck}
-use Rattle.rules.specs.Record.{recordOf}
-use Rattle.rules.specs.Replay.{replaySizesOk, overReplay, replayCheck, replayOf, replayAfter}
+use Rattle.rules.specs.Counts.{storedBy, changedBy}
+use Rattle.rules.specs.Plane.{Grid, edgeAt, edgesOf, runPlane, runStored, runChanged, planeSizesOk, overPlane, planeCheck}
+use Rattle.rules.specs.Record.{recordOf, entryCount}
+use Rattle.rules.specs.Replay.{replaySizesOk, overReplay, replayCheck, replayOf, replayAfter, replayStored, replayChanged}
 use Rattle.scan.proofs.Checks.{else-parts, unless-true, found-nothing}
-use Rattle.records.proofs.RoundTrip.{read-record}
+use Rattle.records.proofs.RoundTrip.{record-length, read-record}
 use Rattle.segment.specs.Fit.{InPlane}
 use Rattle.plane.specs.Checked.{Checked}
 use Rattle.plane.proofs.Accepting.{checked, lengths}
 use Rattle.plane.proofs.Everywhere.{every-edge}
 use Rattle.orders.proofs.Once.{Marked, only-marked}
+use Rattle.promises.proofs.Counts.{largest, plane-edges}
 use Rattle.recorded.specs.Stated.{Stated}
-use Rattle.record_promises.proofs.Theorems.{edges-in-bytes, plane-passed, plane-ran, record-is}
+use Rattle.record_promises.proofs.Theorems.{edges-in-bytes, plane-passed, plane-ran, counts-ran, record-is}
 use Rattle.replay.specs.Fit.{Replayed}
-use Rattle.replay.proofs.Theorems.{Written, record-accepted}
+use Rattle.replay.proofs.Theorems.{Written, record-accepted, counts-exact}
 use Rattle.round_trip.specs.Again.{againOf}
 
 -- ---- an accepted plane's edges, as a record
@@ -93,14 +97,42 @@ module _ (s : Plane) (steps : List ℕ) (g : Grid) (l : List ℕ) (ok : planeChe
   again-plane =
       rw again-accepted (ap (λ (es : List Edge). runEdges (topOf (s .depth)) (s .stride) es l) (read-record edges (edges-written .fits)))
 
+  -- and the counts
+  pub again-counts : (replayStored (againOf s) (recordOf edges) l ≡ runStored s steps g l) × (replayChanged (againOf s) (recordOf edges) l ≡ runChanged s steps g l)
+  unfolding replayStored replayChanged runStored runChanged settle
+  again-counts =
+      let read = read-record edges (edges-written .fits) in (
+        rw again-accepted (ap (λ (es : List Edge). storedBy (topOf (s .depth)) (s .stride) es l) read),
+        rw again-accepted (ap (λ (es : List Edge). changedBy (topOf (s .depth)) (s .stride) es l) read),
+      )
+
+  -- its entries are few
+  again-few : entryCount (recordOf edges) < 288230376151711744
+  unfolding entryCount
+  again-few = omega (arith, record-length edges, plane-edges s steps g l ok, largest s (checks .sizes-ok))
+
 -- ---- the two entries
 
--- whatever ticket 1's entry may answer and leave, n bytes, the plane m and the buffer c, ticket 2's accepts those bytes with the plane as it was lent, and leaves m
-pub round-trip : (s : Plane) (steps : List ℕ) (g : Grid) (l b : List ℕ) {n : ℕ} {m c : List ℕ} → Stated s steps g l b (Bytes n) m c
-    → {x : Answer} {k : List ℕ} → Replayed (againOf s) (take n c) l x k → (x ≡ Accepted) × (k ≡ m)
-round-trip s steps g l b written done =
-    let ok = plane-passed s steps g l b written in
-    let is = record-is s steps g l b written in (
-      done .answer ∙ ap (λ (r : List ℕ). replayCheck (againOf s) r l) is ∙ again-accepted s steps g l ok,
-      done .plane ∙ ap (λ (r : List ℕ). replayAfter (againOf s) r l) is ∙ again-plane s steps g l ok ∙ sym (plane-ran s steps g l b written),
-    )
+-- whatever ticket 1's entry may answer and leave, n bytes, the plane m and the buffer c, ticket 2's accepts those bytes with the plane as it was lent, leaves m
+-- and tells the same counts
+module _ (s : Plane) (steps : List ℕ) (g : Grid) (l b : List ℕ) {a : RecordAnswer} {n : ℕ} {m c : List ℕ} (written : Stated s steps g l b a m c) (told : a .«record» ≡ Bytes n)
+    {x : PlaneAnswer} {k : List ℕ} (done : Replayed (againOf s) (take n c) l x k) where
+  ok : planeCheck s steps g l ≡ Accepted
+  ok = plane-passed s steps g l b written told
+
+  is : take n c ≡ recordOf (edgesOf s steps g)
+  is = record-is s steps g l b written told
+
+  pub round-trip : (x .answer ≡ Accepted) × (k ≡ m)
+  round-trip = (
+    done .answer ∙ ap (λ (r : List ℕ). replayCheck (againOf s) r l) is ∙ again-accepted s steps g l ok,
+    done .plane ∙ ap (λ (r : List ℕ). replayAfter (againOf s) r l) is ∙ again-plane s steps g l ok ∙ sym (plane-ran s steps g l b written told),
+  )
+
+  pub counts-trip : (x .stored ≡ a .stored) × (x .changed ≡ a .changed)
+  counts-trip =
+      let exact = counts-exact (againOf s) (take n c) l done (rw is (again-few s steps g l ok)) in
+      let run = counts-ran s steps g l b written told in (
+        exact .0 ∙ ap (λ (r : List ℕ). replayStored (againOf s) r l) is ∙ again-counts s steps g l ok .0 ∙ sym (run .0),
+        exact .1 ∙ ap (λ (r : List ℕ). replayChanged (againOf s) r l) is ∙ again-counts s steps g l ok .1 ∙ sym (run .1),
+      )

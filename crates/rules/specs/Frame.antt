@@ -18,7 +18,7 @@ use Rattle.rules.specs.declared.refusals.Answer.the-variants.{Accepted, 
 use Rattle.rules.specs.Numbers.{depthOk, inRange, subsamplingOk, deltaOk, down}
 use Rattle.rules.specs.Refusals.{orElse, unless, found, onlyIf, settle}
 use Rattle.rules.specs.Thresholds.{stepsCheck}
-use Rattle.rules.specs.Plane.{Grid, grid, runPlane, noRoom, overPlane}
+use Rattle.rules.specs.Plane.{Grid, grid, runPlane, runStored, runChanged, noRoom, overPlane}
 use Rattle.rules.specs.TuGrid.{Marks, marks, txGridOf, capOk, foursOk, badLeaf}
 use Rattle.rules.specs.QindexGrid.{qGridOf}
 
@@ -256,6 +256,19 @@ runFrame f steps g p =
     (pick (chromaOn f) (runPlane (chromaPlane f) steps (g .chroma) (p .u)) (p .u))
     (pick (chromaOn f) (runPlane (chromaPlane f) steps (g .chroma) (p .v)) (p .v))
 
+-- document 02, ticket 4: "segment, plane and frame pass sums on", over the planes that are filtered
+unfoldable pub runFrameStored : Frame → List ℕ → Grids → Planes → ℕ
+runFrameStored f steps g p =
+    runStored (lumaPlane f) steps (g .luma) (p .y)
+    + pick (chromaOn f) (runStored (chromaPlane f) steps (g .chroma) (p .u)) 0
+    + pick (chromaOn f) (runStored (chromaPlane f) steps (g .chroma) (p .v)) 0
+
+unfoldable pub runFrameChanged : Frame → List ℕ → Grids → Planes → ℕ
+runFrameChanged f steps g p =
+    runChanged (lumaPlane f) steps (g .luma) (p .y)
+    + pick (chromaOn f) (runChanged (chromaPlane f) steps (g .chroma) (p .u)) 0
+    + pick (chromaOn f) (runChanged (chromaPlane f) steps (g .chroma) (p .v)) 0
+
 -- ---- the answer with every lent list afterwards
 
 pub record Done : Type 0 where
@@ -279,3 +292,10 @@ orDone Accepted l d = d
 
 unfoldable pub frameOf : Frame → Given → Lent → Done
 frameOf f n l = orDone (frameEarly f (lengthsOf n l) n) l (frameBuilt f (n .steps) (builtGrids f n (l .grids)) (l .planes))
+
+-- ticket 4: stored and changed samples; "A refusal reports zero for both."
+unfoldable pub frameStored : Frame → Given → Lent → ℕ
+frameStored f n l = settle (frameOf f n l .answer) 0 (runFrameStored f (n .steps) (builtGrids f n (l .grids)) (l .planes))
+
+unfoldable pub frameChanged : Frame → Given → Lent → ℕ
+frameChanged f n l = settle (frameOf f n l .answer) 0 (runFrameChanged f (n .steps) (builtGrids f n (l .grids)) (l .planes))

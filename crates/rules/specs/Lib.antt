@@ -7,6 +7,7 @@ pub mod Width
 pub mod Taps
 pub mod Ramp
 pub mod Segment
+pub mod Counts
 pub mod Lone
 pub mod Plane
 pub mod Record

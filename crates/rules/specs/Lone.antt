@@ -18,6 +18,7 @@ use Rattle.rules.specs.Numbers.{depthOk, topOf, inRange}
 use Rattle.rules.specs.Refusals.{orElse, unless, found, settle, overBox}
 use Rattle.rules.specs.Lengths.{reachBefore, reachAfter}
 use Rattle.rules.specs.Segment.{rangesOk, hasRoom, widthAt, segmentOf}
+use Rattle.rules.specs.Counts.{storedAt, changedAt}
 
 unfoldable pub edgeOf : Lone → Edge
 edgeOf s = record { x = s .x; y = s .y; dir = s .dir; pair = s .pair; q = s .q; side = s .side }
@@ -58,3 +59,10 @@ answerWidth (Refused r) w = «NoWidth» r
 
 unfoldable pub loneWidth : Lone → List ℕ → Width
 loneWidth s l = answerWidth (loneCheck s l) (widthAt (s .stride) (edgeOf s) l)
+
+-- document 02, ticket 4: stored and changed samples; "A refusal reports zero for both."
+unfoldable pub loneStored : Lone → List ℕ → ℕ
+loneStored s l = settle (loneCheck s l) 0 (storedAt (topOf (s .depth)) (s .stride) (edgeOf s) l)
+
+unfoldable pub loneChanged : Lone → List ℕ → ℕ
+loneChanged s l = settle (loneCheck s l) 0 (changedAt (topOf (s .depth)) (s .stride) (edgeOf s) l)

@@ -18,6 +18,7 @@ use Rattle.rules.specs.Refusals.{orElse, unless, found, settle, sooner, 
 use Rattle.rules.specs.Thresholds.{qThreshold, sideThreshold, stepsCheck, deltasCheck}
 use Rattle.rules.specs.Lengths.{pairOf}
 use Rattle.rules.specs.Segment.{hasRoom, runEdges}
+use Rattle.rules.specs.Counts.{storedBy, changedBy}
 
 -- the five lists of a grid: two marks, two size indices and the qindex of each cell
 pub record Grid : Type 0 where
@@ -114,6 +115,13 @@ edgesOf s steps g = each (sbCols s) (λ sb. turnOf s steps g sb) ++ columnOf s s
 unfoldable pub runPlane : Plane → List ℕ → Grid → List ℕ → List ℕ
 runPlane s steps g l = runEdges (topOf (s .depth)) (s .stride) (edgesOf s steps g) l
 
+-- document 02, ticket 4: "segment, plane and frame pass sums on", of a plane that runs
+unfoldable pub runStored : Plane → List ℕ → Grid → List ℕ → ℕ
+runStored s steps g l = storedBy (topOf (s .depth)) (s .stride) (edgesOf s steps g) l
+
+unfoldable pub runChanged : Plane → List ℕ → Grid → List ℕ → ℕ
+runChanged s steps g l = changedBy (topOf (s .depth)) (s .stride) (edgesOf s steps g) l
+
 -- ---- the checks
 
 -- "mi_cols and mi_rows 1..1024. Stride 4·mi_cols..8192. width 1..4·mi_cols and height 1..4·mi_rows. Superblock width and height in cells: 8 or 16 each."
@@ -187,3 +195,10 @@ planeCheck s steps g l =
 -- the plane afterwards
 unfoldable pub planeAfter : Plane → List ℕ → Grid → List ℕ → List ℕ
 planeAfter s steps g l = settle (planeCheck s steps g l) l (runPlane s steps g l)
+
+-- ticket 4: stored and changed samples; "A refusal reports zero for both."
+unfoldable pub planeStored : Plane → List ℕ → Grid → List ℕ → ℕ
+planeStored s steps g l = settle (planeCheck s steps g l) 0 (runStored s steps g l)
+
+unfoldable pub planeChanged : Plane → List ℕ → Grid → List ℕ → ℕ
+planeChanged s steps g l = settle (planeCheck s steps g l) 0 (runChanged s steps g l)

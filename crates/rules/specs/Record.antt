@@ -16,7 +16,7 @@ use Rattle.rules.specs.declared.refusals.Answer.the-variants.{Accepted, 
 use Rattle.rules.specs.declared.refusals.Recorded.{Recorded}
 use Rattle.rules.specs.declared.refusals.Recorded.the-variants.{Bytes, Refused as «NoRecord»}
 use Rattle.rules.specs.Refusals.{orElse, unless, settle}
-use Rattle.rules.specs.Plane.{Grid, isEdge, edgesOf, runPlane, planeCheck}
+use Rattle.rules.specs.Plane.{Grid, isEdge, edgesOf, runPlane, runStored, runChanged, planeCheck}
 
 -- ---- ticket 1: the bytes
 
@@ -61,6 +61,13 @@ recordedAnswer s steps g l n = answerBytes (recordedCheck s steps g l n) (length
 -- "the plane ends as without it"; refused, "the plane and buffer stay unchanged"
 unfoldable pub recordedPlane : Plane → List ℕ → Grid → List ℕ → ℕ → List ℕ
 recordedPlane s steps g l n = settle (recordedCheck s steps g l n) l (runPlane s steps g l)
+
+-- ticket 4: stored and changed samples; "A refusal reports zero for both."
+unfoldable pub recordedStored : Plane → List ℕ → Grid → List ℕ → ℕ → ℕ
+recordedStored s steps g l n = settle (recordedCheck s steps g l n) 0 (runStored s steps g l)
+
+unfoldable pub recordedChanged : Plane → List ℕ → Grid → List ℕ → ℕ → ℕ
+recordedChanged s steps g l n = settle (recordedCheck s steps g l n) 0 (runChanged s steps g l)
 
 -- "one entry for each visited edge in 01's order"
 unfoldable pub recordedBuffer : Plane → List ℕ → Grid → List ℕ → List ℕ → List ℕ

@@ -15,6 +15,7 @@ use Rattle.rules.specs.declared.refusals.Found.{Found}
 use Rattle.rules.specs.Numbers.{depthOk, topOf, inRange}
 use Rattle.rules.specs.Refusals.{orElse, unless, found, settle, first, foundUnless, overBox}
 use Rattle.rules.specs.Segment.{rangesOk, hasRoom, runEdges}
+use Rattle.rules.specs.Counts.{storedBy, changedBy}
 use Rattle.rules.specs.Record.{edgeIn, entryAt, entryCount, edgesIn}
 
 -- ---- the checks
@@ -80,3 +81,10 @@ replayOf s bytes l = runEdges (topOf (s .depth)) (s .stride) (edgesIn bytes) l
 -- "Refusals, all before writing"
 unfoldable pub replayAfter : Replay → List ℕ → List ℕ → List ℕ
 replayAfter s bytes l = settle (replayCheck s bytes l) l (replayOf s bytes l)
+
+-- ticket 4: stored and changed samples; "A refusal reports zero for both."
+unfoldable pub replayStored : Replay → List ℕ → List ℕ → ℕ
+replayStored s bytes l = settle (replayCheck s bytes l) 0 (storedBy (topOf (s .depth)) (s .stride) (edgesIn bytes) l)
+
+unfoldable pub replayChanged : Replay → List ℕ → List ℕ → ℕ
+replayChanged s bytes l = settle (replayCheck s bytes l) 0 (changedBy (topOf (s .depth)) (s .stride) (edgesIn bytes) l)

@@ -9,6 +9,9 @@ pub mod refusals;
 // An edge, where it stands in a plane, and the samples of a line across it.
 pub mod edge;
 
+// How many samples were stored and changed.
+pub mod counts;
+
 // What each entry is told: settings by value.
 pub mod settings;
 

@@ -43,6 +43,27 @@ pub enum Width {
     Refused(Refusal),
 }
 
+// A lone segment's width or refusal, how many samples it stored, and how many of those differ from before.
+pub struct LoneAnswer {
+    pub width: Width,
+    pub stored: usize,
+    pub changed: usize,
+}
+
+// A plane's or a frame's answer, how many samples it stored, and how many of those differ from before.
+pub struct PlaneAnswer {
+    pub answer: Answer,
+    pub stored: usize,
+    pub changed: usize,
+}
+
+// The same of a recorded plane, with its record's length or refusal.
+pub struct RecordAnswer {
+    pub record: Recorded,
+    pub stored: usize,
+    pub changed: usize,
+}
+
 // What a search for the first bad place found.
 pub enum Found {
     At(usize),

@@ -95,7 +95,10 @@ fn compare(
         ct,
         cq,
     );
-    held::both(tally::same(answer, told.number, told.place), lists)
+    held::both(
+        tally::same_counted(answer, told.number, told.place, told.stored, told.changed),
+        lists,
+    )
 }
 
 // One line more; of one that is read, the answer and the lists were held against the stream's.
@@ -134,7 +137,7 @@ fn with_chroma(
     let mut ct = [0u8; 16384];
     let mut cq = [0u16; 16384];
     let n = read::grid(text, at, &mut cv, &mut ch, &mut cw, &mut ct, &mut cq);
-    let told = cases::read_told(text, n.rest);
+    let told = cases::read_counted(text, n.rest);
     let ncv = n.vedge;
     let nch = n.hedge;
     let ncw = n.sqw;

@@ -38,7 +38,7 @@ fn compare(
     plane: &mut [u16],
 ) -> bool {
     let answer = replay_plane(plane, record, s);
-    tally::same(answer, told.number, told.place) && crate::case::held(text, lent, told, plane)
+    crate::case::same(answer, told) && crate::case::held(text, lent, told, plane)
 }
 
 // A line after its kind.
@@ -49,7 +49,7 @@ pub fn replay(text: &[u8], c: Cursor, t: Tally) -> Tally {
     let r = cases::read_u8s(text, asked.rest, &mut record);
     let lent = r.rest;
     let p = cases::read_u16s(text, lent, &mut plane);
-    let told = cases::read_told(text, p.rest);
+    let told = cases::read_counted(text, p.rest);
     let rest = told.rest;
     if !rest.good {
         return tally::unread(t);

@@ -5,6 +5,8 @@ use cases::Listed;
 use cases::Told;
 use plane::deblock_plane;
 use recorded::record_plane;
+use rules::refusals::PlaneAnswer;
+use rules::refusals::RecordAnswer;
 use rules::refusals::Recorded;
 use rules::settings::Plane;
 use tally::Tally;
@@ -47,6 +49,11 @@ fn settings(text: &[u8], c: Cursor) -> Asked {
     }
 }
 
+// Whether a plane's answer and both counts are the stream's.
+pub fn same(a: PlaneAnswer, told: Told) -> bool {
+    tally::same_counted(a, told.number, told.place, told.stored, told.changed)
+}
+
 // Whether the plane is the stream's: the new one of an accepted case, the lent one of a refused case.
 pub fn held(text: &[u8], lent: Cursor, told: Told, plane: &[u16]) -> bool {
     if told.number == 0 {
@@ -72,12 +79,18 @@ fn held_both(text: &[u8], lent: Cursor, told: Told, plane: &[u16], buffer: &[u8]
     old.same && kept.same && cases::ended(told.rest)
 }
 
-// Whether a recorded plane's answer is the stream's: the length of the record, or the refusal.
-fn same_record(answer: Recorded, told: Told) -> bool {
-    match answer {
+// Whether a recorded plane's record is the stream's: its length, or the refusal.
+fn same_length(record: Recorded, told: Told) -> bool {
+    match record {
         Recorded::Bytes(n) => told.number == 0 && n == told.place,
         Recorded::Refused(r) => tally::refused(r, told.number, told.place),
     }
+}
+
+// Whether a recorded plane's answer and both counts are the stream's.
+fn same_record(a: RecordAnswer, told: Told) -> bool {
+    let r = a.record;
+    a.stored == told.stored && a.changed == told.changed && same_length(r, told)
 }
 
 // The recorded plane's answer, its plane and its buffer, held against the stream's.
@@ -124,7 +137,7 @@ fn compare(
     steps: &[u32],
 ) -> bool {
     let answer = deblock_plane(plane, vedge, hedge, sqw, sqh, qindex, steps, s);
-    tally::same(answer, told.number, told.place) && held(text, lent, told, plane)
+    same(answer, told) && held(text, lent, told, plane)
 }
 
 // The lists after the grid's marks and size indices, and the answer.
@@ -147,7 +160,7 @@ fn replay_samples(
     let lent = q.rest;
     let p = cases::read_u16s(text, lent, &mut plane);
     let b = read_buffer(text, p.rest, recorded, &mut buffer);
-    let told = cases::read_told(text, b.rest);
+    let told = cases::read_counted(text, b.rest);
     let rest = told.rest;
     if !rest.good {
         return tally::unread(t);

@@ -1,21 +1,20 @@
 // One case: what the entry is asked, and what the stream says that it answers and leaves.
 use cases::Cursor;
+use cases::Told;
 use lone::filter_lone;
+use rules::refusals::LoneAnswer;
 use rules::refusals::Width;
 use rules::settings::Lone;
 use tally::Tally;
 ghost use mathlib.Core.Path.{_≡_};
 ghost use lib.ListN.{length};
 
-// The segment, its plane's length, the refusal's number or 0, the width or the place, and where the plane's samples stand:
-// as lent, and after the answer.
+// The segment, its plane's length, where the plane's samples stand as lent, and what the stream answers: an accepted case's place is its width.
 pub struct Case {
     pub s: Lone,
     pub length: usize,
-    pub number: usize,
-    pub a: usize,
     pub lent: Cursor,
-    pub after: Cursor,
+    pub told: Told,
 }
 
 // A coordinate, and what follows it.
@@ -78,32 +77,34 @@ pub fn read(text: &[u8], c: Cursor, plane: &mut [u16]) -> Case
     let lent = count.rest;
     let list = cases::read_u16s(text, settings.rest, plane);
     let length = list.length;
-    let number = cases::read_unsigned(text, list.rest, 9);
-    let a = cases::read_unsigned(text, number.rest, 4294967295);
-    let after = a.rest;
+    let told = cases::read_counted(text, list.rest);
     Case {
         s,
         length,
-        number: number.value,
-        a: a.value,
         lent,
-        after,
+        told,
     }
 }
 
-// Whether the answer is the stream's.
-fn same(answer: Width, c: Case) -> bool {
-    match answer {
-        Width::Samples(w) => c.number == 0 && w == c.a,
-        Width::Refused(r) => tally::refused(r, c.number, c.a),
+// Whether the width or the refusal is the stream's.
+fn same_width(width: Width, told: Told) -> bool {
+    match width {
+        Width::Samples(w) => told.number == 0 && w == told.place,
+        Width::Refused(r) => tally::refused(r, told.number, told.place),
     }
+}
+
+// Whether the answer and both counts are the stream's.
+fn same(a: LoneAnswer, told: Told) -> bool {
+    let w = a.width;
+    a.stored == told.stored && a.changed == told.changed && same_width(w, told)
 }
 
 // Whether the plane is the stream's, the one after the answer or where refused the one that was lent, and the line ends where it should.
-fn same_plane(text: &[u8], c: Case, plane: &[u16]) -> bool {
-    let stands = if c.number == 0 { c.after } else { c.lent };
+fn same_plane(text: &[u8], lent: Cursor, told: Told, plane: &[u16]) -> bool {
+    let stands = if told.number == 0 { told.rest } else { lent };
     let h = cases::hold_u16s(text, stands, plane);
-    let last = if c.number == 0 { h.rest } else { c.after };
+    let last = if told.number == 0 { h.rest } else { told.rest };
     h.same && cases::ended(last)
 }
 
@@ -111,15 +112,16 @@ fn same_plane(text: &[u8], c: Case, plane: &[u16]) -> bool {
 pub fn compare(text: &[u8], c: Case, plane: &mut [u16], t: Tally) -> Tally
     ensures { λ r. ⌜ length (now (plane .exit)) ≡ length (now (plane .entry)) ⌝ }
 {
-    let after = c.after;
-    if !after.good {
+    let told = c.told;
+    let rest = told.rest;
+    if !rest.good {
         return tally::unread(t);
     }
     let answer = filter_lone(plane, c.s);
-    let same = same(answer, c) && same_plane(text, c, plane);
-    let counted = tally::case(t, c.number, same);
-    if c.number == 0 {
-        return tally::width(counted, c.a);
+    let same = same(answer, told) && same_plane(text, c.lent, told, plane);
+    let counted = tally::case(t, told.number, same);
+    if told.number == 0 {
+        return tally::width(counted, told.place);
     }
     counted
 }

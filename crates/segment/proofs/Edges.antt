@@ -9,23 +9,26 @@ use native.Mathlib.Decide.{decLe}
 use native.Mathlib.Omega.{arith}
 use borrow.Author.Tests.{eq-eqb, ne-eqb}
 use lib.Dec.{eqb}
-use lib.ListN.{getD}
+use lib.ListN.{length, getD}
 use lib.IntN.{ℤ}
 use Rattle.laws.specs.Loops.{each, each-same}
 use Rattle.laws.specs.Stores.{Store, puts}
+use Rattle.laws.specs.Changes.{changes, Put, put-as}
 use Rattle.rules.specs.declared.edge.Edge.{Edge}
 use Rattle.rules.specs.declared.edge.Place.{Place}
 use Rattle.rules.specs.declared.edge.Line.{Line}
+use Rattle.rules.specs.declared.counts.Counts.{Counts}
 use Rattle.rules.specs.Lengths.{mostBefore, mostAfter, reachBefore, reachAfter}
 use Rattle.rules.specs.Width.{blank}
 use Rattle.rules.specs.Taps.{mostOf, before, after}
 use Rattle.rules.specs.Segment.{placed, placeOf, hasRoom, pAt, qAt, differenceOf, windowOf, chosenOf, storesOf, fourStores, lineStores, widthAt, segmentOf}
+use Rattle.rules.specs.Counts.{storedAt, changedAt}
 use Rattle.lengths.proofs.Lengths.{PairFacts, pair-facts}
 use Rattle.width.specs.Tests.{offOf}
 use Rattle.width.proofs.Most.{width-most}
 use Rattle.segment.specs.declared.outcome.Outcome.{Outcome}
 use Rattle.segment.specs.Fit.{Room, Spread, Fit, Filtered, InPlane, EdgeFiltered}
-use Rattle.segment.specs.Sides.{differenceIn, lineTaps, fourTaps, Lanes}
+use Rattle.segment.specs.Sides.{differenceIn, lineTaps, fourTaps, Lanes, none, Tapped}
 use Rattle.segment.proofs.Window.{window-p, window-q}
 use Rattle.segment.proofs.Cells.{Along, along-of, spread-of}
 
@@ -114,30 +117,29 @@ module _ (top : ℕ) (e : Place) (l : List ℕ) (f : PairFacts (e .pair)) (n w :
   taps-are = each-same _ _ 4 line-taps
 
 -- ---- the answer
-no-stores : (top at step line n q : ℕ) (ls : List Line) (l : List ℕ) → n ≡ 0 → l ≡ puts (fourStores top at step line n 0 q ls) l
-unfolding fourStores lineStores each puts
-no-stores top at step line n q ls l h = rw h
+no-stores : (top at step line n q : ℕ) (ls : List Line) → n ≡ 0 → [] ≡ fourStores top at step line n 0 q ls
+unfolding fourStores lineStores each
+no-stores top at step line n q ls h = rw h
 
-pub filtered-none : (top : ℕ) (e : Place) (l : List ℕ) {w : ℕ} → w ≡ chosenOf e (windowOf e l) → w ≡ 0 → Filtered top e l record { width = 0 } l
-unfolding storesOf
+pub filtered-none : (top : ℕ) (e : Place) (l : List ℕ) {w : ℕ} → w ≡ chosenOf e (windowOf e l) → w ≡ 0 → Filtered top e l record { width = 0; stored = 0; changed = 0 } l
+unfolding storesOf puts changes
 filtered-none top e l {w} hw hz =
     let z : chosenOf e (windowOf e l) ≡ 0 = cc in
-    record {
-      width = sym z;
-      plane = rw z (no-stores top (e .at) (e .step) (e .line) (min 0 (mostBefore (e .pair))) (e .q) (windowOf e l) l (omega arith));
-    }
+    let f = no-stores top (e .at) (e .step) (e .line) (min 0 (mostBefore (e .pair))) (e .q) (windowOf e l) (omega arith) in
+    record { width = sym z; plane = rw (z, ← f); stored = rw (z, ← f); changed = rw (z, ← f) }
 
-pub filtered-some : (top : ℕ) (e : Place) (l m : List ℕ) {size n w k lim : ℕ} → Fit e size → w ≡ chosenOf e (windowOf e l) → (w ≡ 0 → ⊥) → n ≡ mostBefore (e .pair) → k ≡ min w n
-    → m ≡ puts (fourTaps top (e .at) (e .step) (e .line) k w lim l) l → lim ≡ e .q * mostOf w → Filtered top e l record { width = w } m
+pub filtered-some : (top : ℕ) (e : Place) (l m : List ℕ) {r : Counts} {size n w k lim : ℕ} → Fit e size → w ≡ chosenOf e (windowOf e l) → (w ≡ 0 → ⊥) → n ≡ mostBefore (e .pair) → k ≡ min w n
+    → Tapped (fourTaps top (e .at) (e .step) (e .line) k w lim l) l none r m → lim ≡ e .q * mostOf w → Filtered top e l record { width = w; stored = r .stored; changed = r .changed } m
 unfolding storesOf
-filtered-some top e l m {size} {n} {w} {k} {lim} fit hw some hn hk hm hl =
+filtered-some top e l m {r} {size} {n} {w} {k} {lim} fit hw some hn hk hm hl =
     let f = pair-facts (e .pair) (fit .pair-is) in
     let fb = f .before in
     let fa = f .after in
     let g = after-most e l fit hw some hn hk in
     let t = taps-are top e l f k w (omega arith) (omega arith) in
     let z : min w n ≡ min (chosenOf e (windowOf e l)) (mostBefore (e .pair)) = cc in
-    record { width = hw; plane = cc }
+    let ss : fourTaps top (e .at) (e .step) (e .line) k w lim l ≡ storesOf top e (windowOf e l) = cc in
+    record { width = hw; plane = put-as ss (hm .put) .list; stored = omega (arith, hm .stored, ap length ss); changed = omega (arith, put-as ss (hm .put) .count) }
 
 -- ---- room in a plane, over the direction
 room-of : (t : Bool) (stride columns rows size : ℕ) (e : Edge) → columns ≤ stride → rows * stride ≤ size → PairFacts (e .pair)
@@ -192,8 +194,10 @@ unfolding placeOf
 place-horizontal stride e h = rw (ne-eqb _ _ h)
 
 pub edge-filtered : (top stride : ℕ) (e : Edge) {g : Place} {l : List ℕ} {r : Outcome} {m : List ℕ} → g ≡ placeOf stride e → Filtered top g l r m → EdgeFiltered top stride e l r m
-unfolding widthAt segmentOf
+unfolding widthAt segmentOf storedAt changedAt
 edge-filtered top stride e {g} {l} q f = record {
   width = f .width ∙ ap (λ (p : Place). chosenOf p (windowOf p l)) q;
   plane = f .plane ∙ ap (λ (p : Place). puts (storesOf top p (windowOf p l)) l) q;
+  stored = f .stored ∙ ap (λ (p : Place). length (storesOf top p (windowOf p l))) q;
+  changed = f .changed ∙ ap (λ (p : Place). changes (storesOf top p (windowOf p l)) l) q;
 }

@@ -15,9 +15,9 @@ after-in i s step h = let l : i ≤ s - 1 = omega arith in mul-le-mul-right step
 pub line-in : (j line : ℕ) → j < 4 → j * line ≤ 3 * line
 line-in j line h = let l : j ≤ 3 = omega arith in mul-le-mul-right line l
 
--- each of the four lines has room
-pub lane-line : {at step line n w size : ℕ} → Lanes at step line n w size → (j k : ℕ) → j < 4 → k ≡ size → Lane (at + j * line) step n w k
-lane-line {at} {step} {line} r j k h e = let m = line-in j line h in record {
+-- each of the four lines has room, wherever its q0 is known to stand
+pub lane-line : {at step line n w size : ℕ} → Lanes at step line n w size → (j here k : ℕ) → j < 4 → here ≡ at + j * line → k ≡ size → Lane here step n w k
+lane-line {at} {step} {line} r j here k h p e = let m = line-in j line h in record {
   step-some = r .step-some;
   after-some = r .after-some;
   before-most = r .before-most;

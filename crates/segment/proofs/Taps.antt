@@ -3,21 +3,24 @@
 use mathlib.Core.Path.{_≡_, refl, sym, ap, ap₂, _∙_}
 use mathlib.Core.Bool.{Bool}
 use mathlib.Core.List.{List, [], _∷_, _++_}
-use Prim.Native.Nat.{ℕ, _+_, _-_, _*_, _≤_, _<_, max}
-use native.Mathlib.Nat.{mul-le-mul-right, add-mul, le-antisymm}
+use Prim.Native.Nat.{ℕ, _+_, _-_, _*_, _%_, _≤_, _<_, max}
+use native.Mathlib.Nat.{mul-le-mul-right, add-mul, le-antisymm, mod-eq-of-lt}
 use native.Mathlib.Omega.{arith}
-use lib.ListN.{length, getD, set}
+use lib.ListN.{length, length-append, getD, set}
 use lib.IntN.{ℤ}
 use Rattle.laws.specs.Lists.{Each, each-append, each-loop}
-use Rattle.laws.specs.Loops.{each, each-same}
-use Rattle.laws.specs.Stores.{Store, puts, puts-append, puts-then, puts-one, puts-none, puts-more, puts-other, puts-length, puts-set}
+use Rattle.laws.specs.Loops.{each, each-same, singles-length}
+use Rattle.laws.specs.Stores.{Store, puts, puts-append, puts-one, puts-none, puts-more, puts-other, puts-length, puts-set}
+use Rattle.laws.specs.Changes.{differ, changes, changes-one, changes-more, changes-append, Put, put-as, put-one, put-then, put-none, put-more, length-more}
 use Rattle.laws.specs.Whole.{within}
+use Rattle.rules.specs.declared.counts.Counts.{Counts}
 use Rattle.rules.specs.Taps.{weightOf, difference, before, after}
 use Rattle.rules.specs.Segment.{pAt, qAt}
 use Rattle.taps.specs.Signed.{signed, along, against}
 use Rattle.taps.proofs.Signs.{before-is, after-is}
 use Rattle.segment.specs.Fit.{Spread}
-use Rattle.segment.specs.Sides.{alongStores, againstStores, bothStores, differenceIn, beforeTaps, afterTaps, lineTaps, fourTaps, Scales}
+use Rattle.segment.specs.Sides.{alongStores, againstStores, bothStores, differenceIn, beforeTaps, afterTaps, lineTaps, fourTaps, Scales, none, Tapped}
+use Rattle.segment.proofs.Places.{line-in}
 
 -- ---- places of one line
 p-apart : (at step j i : ℕ) → 1 ≤ step → j < i → (i + 1) * step ≤ at → pAt at step j ≡ pAt at step i → ⊥
@@ -44,12 +47,14 @@ module _ (top at step s by : ℕ) (plus : Bool) (l : List ℕ) (one : 1 ≤ step
       (each-loop (λ st. st .0 ≡ pAt at step i → ⊥) i (λ j. (pAt at step j, along top (getD l (pAt at step j) 0) plus (by * (s - j))) ∷ [])
       (λ j b. (p-apart at step j i one b h, tt)))
 
-  pub before-more : (i v : ℕ) {q : List ℕ} → (i + 1) * step ≤ at → q ≡ puts (alongStores top at step s plus by l i) l → v ≡ along top (getD q (pAt at step i) 0) plus (by * (s - i))
-      → set q (pAt at step i) v ≡ puts (alongStores top at step s plus by l (i + 1)) l
-  before-more i v {q} h e g =
-      puts-more (λ j. (pAt at step j, along top (getD l (pAt at step j) 0) plus (by * (s - j))) ∷ []) l i e
-      (puts-one q (pAt at step i) v (along top (getD l (pAt at step i) 0) plus (by * (s - i)))
-      (g ∙ ap (λ (x : ℕ). along top x plus (by * (s - i))) (before-unread i h e)))
+  pub before-more : (i v d : ℕ) {q : List ℕ} {m n : ℕ} → (i + 1) * step ≤ at → Put (alongStores top at step s plus by l i) l q m n
+      → v ≡ along top (getD q (pAt at step i) 0) plus (by * (s - i)) → d ≡ differ (getD q (pAt at step i) 0) v
+      → Put (alongStores top at step s plus by l (i + 1)) l (set q (pAt at step i) v) m (n + d)
+  before-more i v d {q} {m} {n} h e g k =
+      let u = before-unread i h (e .list) in
+      put-more (λ j. (pAt at step j, along top (getD l (pAt at step j) 0) plus (by * (s - j))) ∷ []) l i e
+      (put-one q (pAt at step i) v (along top (getD l (pAt at step i) 0) plus (by * (s - i))) n d (g ∙ ap (λ (x : ℕ). along top x plus (by * (s - i))) u) k)
+      (u, tt)
 
   after-unread : (i : ℕ) {q : List ℕ} → q ≡ puts (againstStores top at step s plus by l i) l → getD q (qAt at step i) 0 ≡ getD l (qAt at step i) 0
   after-unread i e =
@@ -58,24 +63,37 @@ module _ (top at step s by : ℕ) (plus : Bool) (l : List ℕ) (one : 1 ≤ step
       (each-loop (λ st. st .0 ≡ qAt at step i → ⊥) i (λ j. (qAt at step j, against top (getD l (qAt at step j) 0) plus (by * (s - j))) ∷ [])
       (λ j b. (q-apart at step j i one b, tt)))
 
-  pub after-more : (i v : ℕ) {q : List ℕ} → q ≡ puts (againstStores top at step s plus by l i) l → v ≡ against top (getD q (qAt at step i) 0) plus (by * (s - i))
-      → set q (qAt at step i) v ≡ puts (againstStores top at step s plus by l (i + 1)) l
-  after-more i v {q} e g =
-      puts-more (λ j. (qAt at step j, against top (getD l (qAt at step j) 0) plus (by * (s - j))) ∷ []) l i e
-      (puts-one q (qAt at step i) v (against top (getD l (qAt at step i) 0) plus (by * (s - i)))
-      (g ∙ ap (λ (x : ℕ). against top x plus (by * (s - i))) (after-unread i e)))
+  pub after-more : (i v d : ℕ) {q : List ℕ} {m n : ℕ} → Put (againstStores top at step s plus by l i) l q m n
+      → v ≡ against top (getD q (qAt at step i) 0) plus (by * (s - i)) → d ≡ differ (getD q (qAt at step i) 0) v
+      → Put (againstStores top at step s plus by l (i + 1)) l (set q (qAt at step i) v) m (n + d)
+  after-more i v d {q} {m} {n} e g k =
+      let u = after-unread i (e .list) in
+      put-more (λ j. (qAt at step j, against top (getD l (qAt at step j) 0) plus (by * (s - j))) ∷ []) l i e
+      (put-one q (qAt at step i) v (against top (getD l (qAt at step i) 0) plus (by * (s - i))) n d (g ∙ ap (λ (x : ℕ). against top x plus (by * (s - i))) u) k)
+      (u, tt)
 
 -- ---- both sides, one store more on each
 
 module _ (top at step s by : ℕ) (plus : Bool) (l : List ℕ) (one : 1 ≤ step) where
+  -- one store, and the first i of them
+  abbrev P1 : ℕ → List Store
+  P1 i = (pAt at step i, along top (getD l (pAt at step i) 0) plus (by * (s - i))) ∷ []
+
+  abbrev Q1 : ℕ → List Store
+  Q1 i = (qAt at step i, against top (getD l (qAt at step i) 0) plus (by * (s - i))) ∷ []
+
   abbrev P : ℕ → List Store
   P i = alongStores top at step s plus by l i
 
   abbrev Q : ℕ → List Store
   Q i = againstStores top at step s plus by l i
 
-  pub pair-none : l ≡ puts (Q 0) (puts (P 0) l)
-  pair-none = puts-none _ l ∙ puts-none _ (puts (P 0) l)
+  -- the plane q after i stores on either side; those that changed a sample took the count from m to n
+  abbrev pub Pairs : ℕ → List ℕ → ℕ → ℕ → Type 0
+  Pairs i q m n = (q ≡ puts (Q i) (puts (P i) l)) × (n ≡ m + (changes (P i) l + changes (Q i) l))
+
+  pub pair-none : (m : ℕ) → Pairs 0 l m m
+  pair-none m = (puts-none _ l ∙ puts-none _ (puts (P 0) l), omega (arith, put-none (λ j. P1 j) l 0 .count, put-none (λ j. Q1 j) l 0 .count))
 
   -- those after the edge store nowhere before it
   none-before-edge : (i : ℕ) → (i + 1) * step ≤ at → Each (λ (st : Store). st .0 ≡ pAt at step i → ⊥) (Q i)
@@ -83,34 +101,44 @@ module _ (top at step s by : ℕ) (plus : Bool) (l : List ℕ) (one : 1 ≤ step
       each-loop (λ (st : Store). st .0 ≡ pAt at step i → ⊥) i (λ j. (qAt at step j, against top (getD l (qAt at step j) 0) plus (by * (s - j))) ∷ [])
       (λ j b. (λ z. p-below at step (i + 1) i j one (omega arith) h (sym z), tt))
 
+  -- p_i is as it was, and so is q_i after p_i was stored
+  unread-p : (i : ℕ) {q : List ℕ} → (i + 1) * step ≤ at → q ≡ puts (Q i) (puts (P i) l) → getD q (pAt at step i) 0 ≡ getD (puts (P i) l) (pAt at step i) 0
+  unread-p i h e = ap (λ (x : List ℕ). getD x (pAt at step i) 0) e ∙ puts-other (Q i) (puts (P i) l) (pAt at step i) (none-before-edge i h)
+
+  unread-q : (i : ℕ) {q : List ℕ} → (i + 1) * step ≤ at → q ≡ puts (Q i) (puts (P (i + 1)) l) → getD q (qAt at step i) 0 ≡ getD l (qAt at step i) 0
+  unread-q i h e =
+      ap (λ (x : List ℕ). getD x (qAt at step i) 0) e
+      ∙ puts-other (Q i) (puts (P (i + 1)) l) (qAt at step i) (each-loop (λ (st : Store). st .0 ≡ qAt at step i → ⊥) i Q1 (λ j b. (q-apart at step j i one b, tt)))
+      ∙ puts-other (P (i + 1)) l (qAt at step i) (each-loop (λ (st : Store). st .0 ≡ qAt at step i → ⊥) (i + 1) P1 (λ j b. (p-below at step (i + 1) j i one b h, tt)))
+
   pair-before : (i v : ℕ) {q : List ℕ} → (i + 1) * step ≤ at → q ≡ puts (Q i) (puts (P i) l) → v ≡ along top (getD q (pAt at step i) 0) plus (by * (s - i))
       → set q (pAt at step i) v ≡ puts (Q i) (puts (P (i + 1)) l)
   pair-before i v {q} h e g =
-      let unread : getD q (pAt at step i) 0 ≡ getD (puts (P i) l) (pAt at step i) 0 =
-      ap (λ (x : List ℕ). getD x (pAt at step i) 0) e ∙ puts-other (Q i) (puts (P i) l) (pAt at step i) (none-before-edge i h) in
       ap (λ (x : List ℕ). set x (pAt at step i) v) e
       ∙ puts-set (Q i) (puts (P i) l) (pAt at step i) v (none-before-edge i h)
-      ∙ ap (λ (x : List ℕ). puts (Q i) x) (before-more top at step s by plus l one i v h refl (g ∙ ap (λ (x : ℕ). along top x plus (by * (s - i))) unread))
+      ∙ ap (λ (x : List ℕ). puts (Q i) x)
+      (puts-more P1 l i refl (puts-one (puts (P i) l) (pAt at step i) v (along top (getD l (pAt at step i) 0) plus (by * (s - i)))
+      (g ∙ ap (λ (x : ℕ). along top x plus (by * (s - i))) (unread-p i h e ∙ before-unread top at step s by plus l one i h refl))))
 
-  pub pair-more : (i v u : ℕ) {q : List ℕ} → (i + 1) * step ≤ at → q ≡ puts (Q i) (puts (P i) l) → v ≡ along top (getD q (pAt at step i) 0) plus (by * (s - i))
-      → u ≡ against top (getD (set q (pAt at step i) v) (qAt at step i) 0) plus (by * (s - i))
-      → set (set q (pAt at step i) v) (qAt at step i) u ≡ puts (Q (i + 1)) (puts (P (i + 1)) l)
-  pair-more i v u {q} h e g f =
-      let a = pair-before i v h e g in
-      let unread : getD (set q (pAt at step i) v) (qAt at step i) 0 ≡ getD l (qAt at step i) 0 =
-      ap (λ (x : List ℕ). getD x (qAt at step i) 0) a
-      ∙ puts-other (Q i) (puts (P (i + 1)) l) (qAt at step i)
-      (each-loop (λ (st : Store). st .0 ≡ qAt at step i → ⊥) i (λ j. (qAt at step j, against top (getD l (qAt at step j) 0) plus (by * (s - j))) ∷ [])
-      (λ j b. (q-apart at step j i one b, tt)))
-      ∙ puts-other (P (i + 1)) l (qAt at step i)
-      (each-loop (λ (st : Store). st .0 ≡ qAt at step i → ⊥) (i + 1) (λ j. (pAt at step j, along top (getD l (pAt at step j) 0) plus (by * (s - j))) ∷ [])
-      (λ j b. (p-below at step (i + 1) j i one b h, tt))) in
-      puts-more (λ j. (qAt at step j, against top (getD l (qAt at step j) 0) plus (by * (s - j))) ∷ []) (puts (P (i + 1)) l) i a
-      (puts-one (set q (pAt at step i) v) (qAt at step i) u (against top (getD l (qAt at step i) 0) plus (by * (s - i)))
-      (f ∙ ap (λ (x : ℕ). against top x plus (by * (s - i))) unread))
+  pub pair-more : (m i v u a b : ℕ) {q : List ℕ} {n : ℕ} → (i + 1) * step ≤ at → Pairs i q m n
+      → v ≡ along top (getD q (pAt at step i) 0) plus (by * (s - i)) → a ≡ differ (getD q (pAt at step i) 0) v
+      → u ≡ against top (getD (set q (pAt at step i) v) (qAt at step i) 0) plus (by * (s - i)) → b ≡ differ (getD (set q (pAt at step i) v) (qAt at step i) 0) u
+      → Pairs (i + 1) (set (set q (pAt at step i) v) (qAt at step i) u) m (n + (a + b))
+  pair-more m i v u a b {q} {n} h e g ga f fb =
+      let mid = pair-before i v h (e .0) g in
+      let p = unread-p i h (e .0) ∙ before-unread top at step s by plus l one i h refl in
+      let r = unread-q i h mid in
+      let x : a ≡ changes (P1 i) l = ga ∙ ap₂ differ p (g ∙ ap (λ (x : ℕ). along top x plus (by * (s - i))) p) ∙ sym (changes-one _ _ l) in
+      let y : b ≡ changes (Q1 i) l = fb ∙ ap₂ differ r (f ∙ ap (λ (x : ℕ). against top x plus (by * (s - i))) r) ∙ sym (changes-one _ _ l) in (
+        puts-more Q1 (puts (P (i + 1)) l) i mid (puts-one (set q (pAt at step i) v) (qAt at step i) u (against top (getD l (qAt at step i) 0) plus (by * (s - i)))
+            (f ∙ ap (λ (x : ℕ). against top x plus (by * (s - i))) r)),
+        omega (arith, e .1, x, y, changes-more P1 l i, changes-more Q1 l i),
+      )
 
-  pub pair-end : (i : ℕ) {q : List ℕ} → q ≡ puts (Q i) (puts (P i) l) → i ≤ s → s ≤ i → q ≡ puts (bothStores top at step s s plus by by l) l
-  pair-end i e a b = (rw (le-antisymm a b) at e) ∙ sym (puts-append (P s) (Q s) l)
+  pub pair-end : (i : ℕ) {q : List ℕ} {m n : ℕ} → Pairs i q m n → i ≤ s → s ≤ i → Put (bothStores top at step s s plus by by l) l q m n
+  pair-end i {q} {m} {n} e a b =
+      let f : Pairs s q m n = rw (le-antisymm a b) at e in
+      record { list = f .0 ∙ sym (puts-append (P s) (Q s) l); count = f .1 ∙ ap (λ (x : ℕ). m + x) (sym (changes-append (P s) (Q s) l)) }
 
 -- ---- a side by D
 module _ (top at step s size by : ℕ) (plus : Bool) (e : by ≡ size * weightOf s) (l : List ℕ) where
@@ -121,24 +149,24 @@ module _ (top at step s size by : ℕ) (plus : Bool) (e : by ≡ size * weightOf
   against-is = each-same _ _ s (λ i h. ap (λ (v : ℕ). (qAt at step i, v) ∷ []) (after-is top (getD l (qAt at step i) 0) s i size by plus e))
 
 -- the samples after the edge are as they were before those before it moved
-after-still : (top at step n w bn bw : ℕ) (plus : Bool) (a b : List ℕ) → 1 ≤ step → n * step ≤ at → b ≡ puts (alongStores top at step n plus bn a n) a
-    → againstStores top at step w plus bw b w ≡ againstStores top at step w plus bw a w
-after-still top at step n w bn bw plus a b one low e =
-    each-same _ _ w (λ i h. ap (λ (x : ℕ). (qAt at step i, against top x plus (bw * (w - i))) ∷ []) (still i))
-  where
-    still : (i : ℕ) → getD b (qAt at step i) 0 ≡ getD a (qAt at step i) 0
-    still i =
-        ap (λ (x : List ℕ). getD x (qAt at step i) 0) e
-        ∙ puts-other (alongStores top at step n plus bn a n) a (qAt at step i)
-        (each-loop (λ (st : Store). st .0 ≡ qAt at step i → ⊥) n (λ j. (pAt at step j, along top (getD a (pAt at step j) 0) plus (bn * (n - j))) ∷ [])
-        (λ j c. (p-below at step n j i one c low, tt)))
+module _ (top at step n w bn bw : ℕ) (plus : Bool) (a b : List ℕ) (one : 1 ≤ step) (low : n * step ≤ at) where
+  still : (i : ℕ) → b ≡ puts (alongStores top at step n plus bn a n) a → getD b (qAt at step i) 0 ≡ getD a (qAt at step i) 0
+  still i e =
+      ap (λ (x : List ℕ). getD x (qAt at step i) 0) e
+      ∙ puts-other (alongStores top at step n plus bn a n) a (qAt at step i)
+      (each-loop (λ (st : Store). st .0 ≡ qAt at step i → ⊥) n (λ j. (pAt at step j, along top (getD a (pAt at step j) 0) plus (bn * (n - j))) ∷ [])
+      (λ j c. (p-below at step n j i one c low, tt)))
 
--- one side after the other; a, b and c are the plane before, between and after
-pub sides-then : (top at step n w bn bw : ℕ) (plus : Bool) (a b c : List ℕ) → 1 ≤ step → n * step ≤ at
-    → b ≡ puts (alongStores top at step n plus bn a n) a → c ≡ puts (againstStores top at step w plus bw b w) b → c ≡ puts (bothStores top at step n w plus bn bw a) a
-sides-then top at step n w bn bw plus a b c one low e f =
-    puts-then (alongStores top at step n plus bn a n) (againstStores top at step w plus bw a w) a e
-    (f ∙ ap (λ (ss : List Store). puts ss b) (after-still top at step n w bn bw plus a b one low e))
+  after-still : b ≡ puts (alongStores top at step n plus bn a n) a → againstStores top at step w plus bw b w ≡ againstStores top at step w plus bw a w
+  after-still e = each-same _ _ w (λ i h. ap (λ (x : ℕ). (qAt at step i, against top x plus (bw * (w - i))) ∷ []) (still i e))
+
+  -- one side after the other; a, b and c are the plane before, between and after
+  pub sides-then : (c : List ℕ) {i k m : ℕ} → Put (alongStores top at step n plus bn a n) a b i k → Put (againstStores top at step w plus bw b w) b c k m
+      → Put (bothStores top at step n w plus bn bw a) a c i m
+  sides-then c e f =
+      put-then (alongStores top at step n plus bn a n) (againstStores top at step w plus bw a w) a e (put-as (after-still (e .list)) f)
+      (each-loop (λ (st : Store). getD b (st .0) 0 ≡ getD a (st .0) 0) w (λ i. (qAt at step i, against top (getD a (qAt at step i) 0) plus (bw * (w - i))) ∷ [])
+      (λ i h. (still i (e .list), tt)))
 
 -- D from the four samples that the code reads
 read-difference : (l : List ℕ) (at step m : ℕ) → within m (difference (getD l (at - 2 * step) 0) (getD l (at - step) 0) (getD l at 0) (getD l (at + step) 0)) ≡ differenceIn l at step m
@@ -149,26 +177,37 @@ read-difference l at step m =
     cc
 
 -- a line's taps: a and c are the plane before and after
-pub line-both : (top at step n w m size wn ww bn bw : ℕ) (plus : Bool) (a c : List ℕ) → Scales n w m wn ww
+pub line-both : (top at step n w m size wn ww bn bw : ℕ) (plus : Bool) (a c : List ℕ) {i k : ℕ} → Scales n w m wn ww
     → signed plus size ≡ within m (difference (getD a (at - 2 * step) 0) (getD a (at - step) 0) (getD a at 0) (getD a (at + step) 0)) → bn ≡ size * wn → bw ≡ size * ww
-    → c ≡ puts (bothStores top at step n w plus bn bw a) a → c ≡ puts (lineTaps top at step n w m a) a
+    → Put (bothStores top at step n w plus bn bw a) a c i k → Put (lineTaps top at step n w m a) a c i k
 unfolding lineTaps
 line-both top at step n w m size wn ww bn bw plus a c sc hs hn hw e =
     let x : bn ≡ size * weightOf n = rw (← sc .weight-before) hn in
     let y : bw ≡ size * weightOf w = rw (← sc .weight-after) hw in
     let hd : signed plus size ≡ differenceIn a at step m = hs ∙ read-difference a at step m in
-    e
-    ∙ ap₂ (λ (s t : List Store). puts (s ++ t) a)
+    put-as
+    (ap₂ (λ (s t : List Store). s ++ t)
     (along-is top at step n size bn plus x a ∙ ap (λ (z : ℤ). beforeTaps top at step n z a) hd)
-    (against-is top at step w size bw plus y a ∙ ap (λ (z : ℤ). afterTaps top at step w z a) hd)
+    (against-is top at step w size bw plus y a ∙ ap (λ (z : ℤ). afterTaps top at step w z a) hd))
+    e
 
 -- of equal widths
-pub line-equal : (top at step n w m size wn ww by : ℕ) (plus : Bool) (a c : List ℕ) → n ≡ w → Scales n w m wn ww
+pub line-equal : (top at step n w m size wn ww by : ℕ) (plus : Bool) (a c : List ℕ) {i k : ℕ} → n ≡ w → Scales n w m wn ww
     → signed plus size ≡ within m (difference (getD a (at - 2 * step) 0) (getD a (at - step) 0) (getD a at 0) (getD a (at + step) 0)) → by ≡ size * ww
-    → c ≡ puts (bothStores top at step w w plus by by a) a → c ≡ puts (lineTaps top at step n w m a) a
+    → Put (bothStores top at step w w plus by by a) a c i k → Put (lineTaps top at step n w m a) a c i k
 line-equal top at step n w m size wn ww by plus a c q sc hs hw e =
     let z : ww ≡ wn = sc .weight-after ∙ ap weightOf (sym q) ∙ sym (sc .weight-before) in
     line-both top at step n w m size wn ww by by plus a c sc hs (hw ∙ ap (λ (x : ℕ). size * x) z) hw (rw q e)
+
+-- "how many samples were stored on a line"
+pub line-stored : (top at step n w m : ℕ) (l : List ℕ) → n + w ≡ length (lineTaps top at step n w m l)
+unfolding lineTaps
+line-stored top at step n w m l =
+    let d = differenceIn l at step m in
+    ap₂ (λ (x y : ℕ). x + y)
+    (sym (singles-length (λ i. (pAt at step i, before top (getD l (pAt at step i) 0) d n i)) n))
+    (sym (singles-length (λ i. (qAt at step i, after top (getD l (qAt at step i) 0) d w i)) w))
+    ∙ sym (length-append (beforeTaps top at step n d l) (afterTaps top at step w d l))
 
 -- ---- one line more
 pub as-long : (ss : List Store) (l : List ℕ) {q : List ℕ} {n : ℕ} → q ≡ puts ss l → length l ≡ n → length q ≡ n
@@ -183,6 +222,13 @@ taps-agree top at step n w m l q hp hq =
     ap₂ (λ (x y : List Store). x ++ y)
     (each-same _ _ n (λ i h. ap₂ (λ (x : ℕ) (z : ℤ). (pAt at step i, before top x z n i) ∷ []) (hp i (omega arith)) d))
     (each-same _ _ w (λ i h. ap₂ (λ (x : ℕ) (z : ℤ). (qAt at step i, after top x z w i) ∷ []) (hq i (omega arith)) d))
+
+none-stored : (f : ℕ → List Store) → 0 ≡ 0 + length (each 0 f)
+unfolding each
+none-stored f = omega arith
+
+pub taps-none : (f : ℕ → List Store) (l : List ℕ) → Tapped (each 0 f) l none none l
+taps-none f l = record { put = put-none f l 0; stored = none-stored f }
 
 module _ (top at step line n w m : ℕ) (l : List ℕ) (r : Spread at step line (max n 2) (max w 2)) where
   abbrev taps : ℕ → List Store
@@ -212,9 +258,35 @@ module _ (top at step line n w m : ℕ) (l : List ℕ) (r : Spread at step line 
       (each-loop (λ (st : Store). st .0 ≡ qAt (at + j * line) step k → ⊥) n (oneP i) (λ p c. (λ z. r .across i p j k (omega arith) (omega arith) hj hk z, tt)))
       (each-loop (λ (st : Store). st .0 ≡ qAt (at + j * line) step k → ⊥) w (oneQ i) (λ p c. (λ z. absurd (let f = r .afters i p j k (omega arith) (omega arith) hj hk z in omega arith), tt))))
 
-  pub line-more : (j : ℕ) {q c : List ℕ} → j < 4 → q ≡ puts (each j taps) l → c ≡ puts (lineTaps top (at + j * line) step n w m q) q → c ≡ puts (each (j + 1) taps) l
-  line-more j {q} {c} hj e g =
-      let t = taps-agree top (at + j * line) step n w m l q
-      (λ k h. ap (λ (x : List ℕ). getD x (pAt (at + j * line) step k) 0) e ∙ puts-other (each j taps) l (pAt (at + j * line) step k) (none-before j k hj h))
-      (λ k h. ap (λ (x : List ℕ). getD x (qAt (at + j * line) step k) 0) e ∙ puts-other (each j taps) l (qAt (at + j * line) step k) (none-after j k hj h)) in
-      puts-more taps l j e (g ∙ ap (λ (ss : List Store). puts ss q) t)
+  -- so that it is still as it was
+  module _ (j : ℕ) (hj : j < 4) {q : List ℕ} (e : q ≡ puts (each j taps) l) where
+    still-p : (k : ℕ) → k < max n 2 → getD q (pAt (at + j * line) step k) 0 ≡ getD l (pAt (at + j * line) step k) 0
+    still-p k h = ap (λ (x : List ℕ). getD x (pAt (at + j * line) step k) 0) e ∙ puts-other (each j taps) l (pAt (at + j * line) step k) (none-before j k hj h)
+
+    still-q : (k : ℕ) → k < max w 2 → getD q (qAt (at + j * line) step k) 0 ≡ getD l (qAt (at + j * line) step k) 0
+    still-q k h = ap (λ (x : List ℕ). getD x (qAt (at + j * line) step k) 0) e ∙ puts-other (each j taps) l (qAt (at + j * line) step k) (none-after j k hj h)
+
+    still-line : Each (λ (st : Store). getD q (st .0) 0 ≡ getD l (st .0) 0) (taps j)
+    unfolding lineTaps
+    still-line =
+        each-append (λ (st : Store). getD q (st .0) 0 ≡ getD l (st .0) 0) (each n (oneP j)) (each w (oneQ j))
+        (each-loop (λ (st : Store). getD q (st .0) 0 ≡ getD l (st .0) 0) n (oneP j) (λ k c. (still-p k (omega arith), tt)))
+        (each-loop (λ (st : Store). getD q (st .0) 0 ≡ getD l (st .0) 0) w (oneQ j) (λ k c. (still-q k (omega arith), tt)))
+
+  -- one line more, whose q0 stands at h
+  pub line-more : (j h : ℕ) {q c : List ℕ} {a b d : Counts} → j < 4 → h ≡ at + j * line → Tapped (each j taps) l a b q → Tapped (lineTaps top h step n w m q) q b d c
+      → Tapped (each (j + 1) taps) l a d c
+  line-more j h {q} hj hh e g =
+      let t : lineTaps top h step n w m q ≡ taps j = ap (λ (x : ℕ). lineTaps top x step n w m q) hh ∙ taps-agree top (at + j * line) step n w m l q (still-p j hj (e .put .list)) (still-q j hj (e .put .list)) in
+      record {
+        put = put-more taps l j (e .put) (put-as t (g .put)) (still-line j hj (e .put .list));
+        stored = omega (arith, e .stored, g .stored, ap length t, length-more taps j refl refl);
+      }
+
+-- ---- the next line's q0, which wraps at most beyond the last line
+pub next-line : (at line j here : ℕ) {r : ℕ} → at + 3 * line < 18446744073709551616 → here ≡ at + j * line → r ≡ (here + line) % 18446744073709551616
+    → j + 1 < 4 → r ≡ at + (j + 1) * line
+next-line at line j here {r} h e g b =
+    let m = line-in (j + 1) line b in
+    let x : here + line ≡ at + (j + 1) * line = omega (arith, add-mul j 1 line) in
+    g ∙ ap (λ (y : ℕ). y % 18446744073709551616) x ∙ mod-eq-of-lt (omega arith)

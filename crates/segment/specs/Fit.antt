@@ -4,12 +4,14 @@ use mathlib.Core.Path.{_≡_}
 use mathlib.Core.Bool.{true}
 use mathlib.Core.List.{List}
 use Prim.Native.Nat.{ℕ, _+_, _*_, _-_, _≤_, _<_}
-use lib.ListN.{getD}
+use lib.ListN.{length, getD}
 use Rattle.laws.specs.Stores.{puts}
+use Rattle.laws.specs.Changes.{changes}
 use Rattle.rules.specs.declared.edge.Edge.{Edge}
 use Rattle.rules.specs.declared.edge.Place.{Place}
 use Rattle.rules.specs.Lengths.{reachBefore, reachAfter}
 use Rattle.rules.specs.Segment.{pAt, qAt, hasRoom, windowOf, chosenOf, storesOf, widthAt, segmentOf}
+use Rattle.rules.specs.Counts.{storedAt, changedAt}
 use Rattle.segment.specs.declared.outcome.Outcome.{Outcome}
 
 -- b samples before the edge and a after it lie in the plane, on four lines
@@ -38,6 +40,8 @@ pub record Fit (e : Place) (size : ℕ) : Type 0 where
 pub record Filtered (top : ℕ) (e : Place) (l : List ℕ) (r : Outcome) (m : List ℕ) : Type 0 where
   pub width : r .width ≡ chosenOf e (windowOf e l)
   pub plane : m ≡ puts (storesOf top e (windowOf e l)) l
+  pub stored : r .stored ≡ length (storesOf top e (windowOf e l))
+  pub changed : r .changed ≡ changes (storesOf top e (windowOf e l)) l
 
 -- an edge of a plane of columns by rows samples, of accepted numbers, that has room there
 pub record InPlane (stride columns rows : ℕ) (e : Edge) (size : ℕ) : Type 0 where
@@ -52,6 +56,8 @@ pub record InPlane (stride columns rows : ℕ) (e : Edge) (size : ℕ) : Type 0 
 pub record EdgeFiltered (top stride : ℕ) (e : Edge) (l : List ℕ) (r : Outcome) (m : List ℕ) : Type 0 where
   pub width : r .width ≡ widthAt stride e l
   pub plane : m ≡ segmentOf top stride e l
+  pub stored : r .stored ≡ storedAt top stride e l
+  pub changed : r .changed ≡ changedAt top stride e l
 
 -- two planes are equal within an edge's reach on its four lines
 pub record Within (e : Place) (l m : List ℕ) : Type 0 where

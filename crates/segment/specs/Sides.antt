@@ -4,11 +4,13 @@ use mathlib.Core.Path.{_≡_}
 use mathlib.Core.Bool.{Bool}
 use mathlib.Core.List.{List, [], _∷_, _++_}
 use Prim.Native.Nat.{ℕ, _+_, _*_, _-_, _≤_, _<_, max}
-use lib.ListN.{getD}
+use lib.ListN.{length, getD}
 use lib.IntN.{ℤ}
 use Rattle.laws.specs.Loops.{each}
 use Rattle.laws.specs.Stores.{Store}
+use Rattle.laws.specs.Changes.{Put}
 use Rattle.laws.specs.Whole.{within}
+use Rattle.rules.specs.declared.counts.Counts.{Counts}
 use Rattle.rules.specs.Taps.{weightOf, difference, before, after}
 use Rattle.rules.specs.Segment.{pAt, qAt}
 use Rattle.taps.specs.Signed.{along, against}
@@ -43,6 +45,14 @@ lineTaps top at step n w m l =
 
 unfoldable pub fourTaps : ℕ → ℕ → ℕ → ℕ → ℕ → ℕ → ℕ → List ℕ → List Store
 fourTaps top at step line n w m l = each 4 (λ j. lineTaps top (at + j * line) step n w m l)
+
+abbrev pub none : Counts
+none = record { stored = 0; changed = 0 }
+
+-- the plane m after stores into l, which took the counts from n to r
+pub record Tapped (ss : List Store) (l : List ℕ) (n r : Counts) (m : List ℕ) : Type 0 where
+  pub put : Put ss l m (n .changed) (r .changed)
+  pub stored : r .stored ≡ n .stored + length ss
 
 -- the limit and both weights of an edge of these widths
 pub record Scales (n w m wn ww : ℕ) : Type 0 where

@@ -14,10 +14,10 @@ use taps::tables::weight;
 use width::choice::filt_choice;
 use width::choice::off;
 ghost use mathlib.Core.Path.{_≡_};
-ghost use mathlib.Core.Bool.{false};
+ghost use mathlib.Core.Bool.{true, false};
 ghost use Prim.Native.Nat.{_+_, _*_, _<_};
 ghost use lib.ListN.{length};
-ghost use Rattle.rules.specs.Segment.{placeOf, windowOf, chosenOf};
+ghost use Rattle.rules.specs.Segment.{placed, windowOf, chosenOf};
 ghost use Rattle.width.specs.Tests.{offOf};
 ghost use Rattle.segment.specs.Fit.{Fit, Filtered, InPlane, EdgeFiltered};
 
@@ -47,10 +47,14 @@ fn filter_segment(plane: &mut [u16], e: Place, top: u16) -> Outcome
 {
     let w = chosen_width(plane, e);
     if w == 0 {
-        return Outcome { width: 0 };
+        return Outcome {
+            width: 0,
+            stored: 0,
+            changed: 0,
+        };
     }
     let n = least(w, most_before(e.pair));
-    filter_lines(
+    let t = filter_lines(
         plane,
         e.at,
         e.step,
@@ -62,37 +66,45 @@ fn filter_segment(plane: &mut [u16], e: Place, top: u16) -> Outcome
         weight(w),
         top,
     );
-    Outcome { width: w }
-}
-
-// Where an edge stands in rows of stride samples.
-fn locate(e: Edge, stride: usize) -> Place
-    requires { ⌜ e .y * stride + e .x < 18446744073709551616 ⌝ }
-    ensures { λ r. ⌜ r ≡ placeOf stride e ⌝ }
-{
-    let at = e.y * stride + e.x;
-    if e.dir == 0 {
-        Place {
-            at: at,
-            step: 1,
-            line: stride,
-            pair: e.pair,
-            q: e.q,
-            side: e.side,
-        }
-    } else {
-        Place {
-            at: at,
-            step: stride,
-            line: 1,
-            pair: e.pair,
-            q: e.q,
-            side: e.side,
-        }
+    Outcome {
+        width: w,
+        stored: t.stored,
+        changed: t.changed,
     }
 }
 
-// Filters an edge of columns by rows samples that lie in rows of stride samples; none of them is read where a threshold is 0.
+// Where a vertical edge stands in rows of stride samples.
+fn upright(e: Edge, stride: usize) -> Place
+    requires { ⌜ e .y * stride + e .x < 18446744073709551616 ⌝ }
+    ensures { λ r. ⌜ r ≡ placed true stride e ⌝ }
+{
+    Place {
+        at: e.y * stride + e.x,
+        step: 1,
+        line: stride,
+        pair: e.pair,
+        q: e.q,
+        side: e.side,
+    }
+}
+
+// Where a horizontal one stands.
+fn level(e: Edge, stride: usize) -> Place
+    requires { ⌜ e .y * stride + e .x < 18446744073709551616 ⌝ }
+    ensures { λ r. ⌜ r ≡ placed false stride e ⌝ }
+{
+    Place {
+        at: e.y * stride + e.x,
+        step: stride,
+        line: 1,
+        pair: e.pair,
+        q: e.q,
+        side: e.side,
+    }
+}
+
+// Filters an edge of columns by rows samples that lie in rows of stride samples; none of them is read where a threshold is 0. Each direction
+// has a call of its own, so that the compiler keeps this function's tests with the caller and an edge that is off costs no call.
 pub fn filter_edge(
     plane: &mut [u16],
     stride: usize,
@@ -105,7 +117,14 @@ pub fn filter_edge(
     ensures { λ r. ⌜ EdgeFiltered top stride e (now (plane .entry)) r (now (plane .exit)) ⌝ }
 {
     if off(e.q, e.side) {
-        return Outcome { width: 0 };
+        return Outcome {
+            width: 0,
+            stored: 0,
+            changed: 0,
+        };
     }
-    filter_segment(plane, locate(e, stride), top)
+    if e.dir == 0 {
+        return filter_segment(plane, upright(e, stride), top);
+    }
+    filter_segment(plane, level(e, stride), top)
 }

@@ -1,4 +1,6 @@
-// The taps of document 01, line after line, each from the edge outwards; a sample is read just before it is moved.
+// The taps of document 01, line after line, each from the edge outwards; a sample is read just before it is moved, and counted where that changes it.
+use rules::counts::Counts;
+use std::num::wrapping_add_usize;
 use taps::difference::limited;
 use taps::moves::move_after;
 use taps::moves::move_before;
@@ -6,51 +8,92 @@ use taps::tables::weighted;
 ghost use mathlib.Core.Path.{_≡_};
 ghost use Prim.Native.Nat.{_+_, _-_, _*_, _≤_, _<_};
 ghost use lib.ListN.{length};
-ghost use Rattle.laws.specs.Stores.{puts};
-ghost use Rattle.segment.specs.Sides.{alongStores, againstStores, bothStores, lineTaps, fourTaps, Scales, Lane, Lanes};
+ghost use Rattle.laws.specs.Changes.{Put};
+ghost use Rattle.segment.specs.Sides.{alongStores, againstStores, bothStores, lineTaps, fourTaps, Scales, Lane, Lanes, none, Tapped};
 
-// The s samples of a line before the edge, moved by D·W of this sign and size.
-fn side_before(plane: &mut [u16], at: usize, step: usize, s: usize, plus: bool, by: u32, top: u16)
-    requires { ⌜ (by ≤ 5570560) × (s ≤ 8) × (1 ≤ step) × (s * step ≤ at) × (at < length (now plane)) ⌝ }
-    ensures { λ r. ⌜ now (plane .exit) ≡ puts (alongStores top at step s plus by (now (plane .entry)) s) (now (plane .entry)) ⌝ }
+// The s samples of a line before the edge, moved by D·W of this sign and size; how many changed, with those so far.
+fn side_before(
+    plane: &mut [u16],
+    at: usize,
+    step: usize,
+    s: usize,
+    plus: bool,
+    by: u32,
+    top: u16,
+    sofar: usize,
+) -> usize
+    requires { ⌜ (by ≤ 5570560) × (s ≤ 8) × (sofar ≤ 64) × (1 ≤ step) × (s * step ≤ at) × (at < length (now plane)) ⌝ }
+    ensures { λ r. ⌜ (Put (alongStores top at step s plus by (now (plane .entry)) s) (now (plane .entry)) (now (plane .exit)) sofar r) × (r ≤ sofar + s) ⌝ }
 {
+    let mut changed = sofar;
     let mut i: usize = 0;
     while i < s {
         let k = at - (i + 1) * step;
-        plane[k] = move_before(plane[k], plus, by, s - i, top);
+        let p = move_before(plane[k], plus, by, s - i, top);
+        plane[k] = p.to;
+        changed += p.changed;
         i += 1;
     }
+    changed
 }
 
 // The s samples of a line after the edge.
-fn side_after(plane: &mut [u16], at: usize, step: usize, s: usize, plus: bool, by: u32, top: u16)
-    requires { ⌜ (by ≤ 5570560) × (s ≤ 8) × (1 ≤ step) × (at + (s - 1) * step < length (now plane)) ⌝ }
-    ensures { λ r. ⌜ now (plane .exit) ≡ puts (againstStores top at step s plus by (now (plane .entry)) s) (now (plane .entry)) ⌝ }
+fn side_after(
+    plane: &mut [u16],
+    at: usize,
+    step: usize,
+    s: usize,
+    plus: bool,
+    by: u32,
+    top: u16,
+    sofar: usize,
+) -> usize
+    requires { ⌜ (by ≤ 5570560) × (s ≤ 8) × (sofar ≤ 64) × (1 ≤ step) × (at + (s - 1) * step < length (now plane)) ⌝ }
+    ensures { λ r. ⌜ (Put (againstStores top at step s plus by (now (plane .entry)) s) (now (plane .entry)) (now (plane .exit)) sofar r) × (r ≤ sofar + s) ⌝ }
 {
+    let mut changed = sofar;
     let mut i: usize = 0;
     while i < s {
         let k = at + i * step;
-        plane[k] = move_after(plane[k], plus, by, s - i, top);
+        let q = move_after(plane[k], plus, by, s - i, top);
+        plane[k] = q.to;
+        changed += q.changed;
         i += 1;
     }
+    changed
 }
 
 // The s samples of a line on either side of the edge, where both widths are s: each move is worked out once for two samples.
-fn both_sides(plane: &mut [u16], at: usize, step: usize, s: usize, plus: bool, by: u32, top: u16)
-    requires { ⌜ (by ≤ 5570560) × (s ≤ 8) × (1 ≤ step) × (s * step ≤ at) × (at + (s - 1) * step < length (now plane)) ⌝ }
-    ensures { λ r. ⌜ now (plane .exit) ≡ puts (bothStores top at step s s plus by by (now (plane .entry))) (now (plane .entry)) ⌝ }
+fn both_sides(
+    plane: &mut [u16],
+    at: usize,
+    step: usize,
+    s: usize,
+    plus: bool,
+    by: u32,
+    top: u16,
+    sofar: usize,
+) -> usize
+    requires { ⌜ (by ≤ 5570560) × (s ≤ 8) × (sofar ≤ 64) × (1 ≤ step) × (s * step ≤ at) × (at + (s - 1) * step < length (now plane)) ⌝ }
+    ensures { λ r. ⌜ (Put (bothStores top at step s s plus by by (now (plane .entry))) (now (plane .entry)) (now (plane .exit)) sofar r) × (r ≤ sofar + 2 * s) ⌝ }
 {
+    let mut changed = sofar;
     let mut i: usize = 0;
     while i < s {
         let k = at - (i + 1) * step;
-        plane[k] = move_before(plane[k], plus, by, s - i, top);
+        let p = move_before(plane[k], plus, by, s - i, top);
+        plane[k] = p.to;
         let m = at + i * step;
-        plane[m] = move_after(plane[m], plus, by, s - i, top);
+        let q = move_after(plane[m], plus, by, s - i, top);
+        plane[m] = q.to;
+        changed += p.changed + q.changed;
         i += 1;
     }
+    changed
 }
 
-// Both sides of a line: n samples before the edge and w after it, of weights wn and ww, by D limited to ±limit.
+// Both sides of a line: n samples before the edge and w after it, of weights wn and ww, by D limited to ±limit; how many are stored and
+// changed, with those so far.
 fn apply_taps(
     plane: &mut [u16],
     at: usize,
@@ -61,9 +104,10 @@ fn apply_taps(
     wn: u32,
     ww: u32,
     top: u16,
-)
-    requires { ⌜ (Scales n w limit wn ww) × (Lane at step n w (length (now plane))) ⌝ }
-    ensures { λ r. ⌜ now (plane .exit) ≡ puts (lineTaps top at step n w limit (now (plane .entry))) (now (plane .entry)) ⌝ }
+    sofar: Counts,
+) -> Counts
+    requires { ⌜ (Scales n w limit wn ww) × (Lane at step n w (length (now plane))) × (sofar .stored ≤ 48) × (sofar .changed ≤ 48) ⌝ }
+    ensures { λ r. ⌜ (Tapped (lineTaps top at step n w limit (now (plane .entry))) (now (plane .entry)) sofar r (now (plane .exit))) × (r .stored ≤ sofar .stored + 16) × (r .changed ≤ sofar .changed + 16) ⌝ }
 {
     let d = limited(
         plane[at - 2 * step],
@@ -73,14 +117,39 @@ fn apply_taps(
         limit,
     );
     if n == w {
-        both_sides(plane, at, step, w, d.plus, weighted(d.size, ww), top);
-        return;
+        let both = both_sides(
+            plane,
+            at,
+            step,
+            w,
+            d.plus,
+            weighted(d.size, ww),
+            top,
+            sofar.changed,
+        );
+        return Counts {
+            stored: sofar.stored + (n + w),
+            changed: both,
+        };
     }
-    side_before(plane, at, step, n, d.plus, weighted(d.size, wn), top);
-    side_after(plane, at, step, w, d.plus, weighted(d.size, ww), top);
+    let p = side_before(
+        plane,
+        at,
+        step,
+        n,
+        d.plus,
+        weighted(d.size, wn),
+        top,
+        sofar.changed,
+    );
+    let q = side_after(plane, at, step, w, d.plus, weighted(d.size, ww), top, p);
+    Counts {
+        stored: sofar.stored + (n + w),
+        changed: q,
+    }
 }
 
-// The four lines of an edge.
+// The four lines of an edge, `here` at each one's q0; beyond the last it may wrap.
 pub fn filter_lines(
     plane: &mut [u16],
     at: usize,
@@ -92,13 +161,20 @@ pub fn filter_lines(
     wn: u32,
     ww: u32,
     top: u16,
-)
+) -> Counts
     requires { ⌜ (Scales n w limit wn ww) × (Lanes at step line n w (length (now plane))) ⌝ }
-    ensures { λ r. ⌜ now (plane .exit) ≡ puts (fourTaps top at step line n w limit (now (plane .entry))) (now (plane .entry)) ⌝ }
+    ensures { λ r. ⌜ Tapped (fourTaps top at step line n w limit (now (plane .entry))) (now (plane .entry)) none r (now (plane .exit)) ⌝ }
 {
+    let mut done = Counts {
+        stored: 0,
+        changed: 0,
+    };
+    let mut here = at;
     let mut j: usize = 0;
     while j < 4 {
-        apply_taps(plane, at + j * line, step, n, w, limit, wn, ww, top);
+        done = apply_taps(plane, here, step, n, w, limit, wn, ww, top, done);
+        here = wrapping_add_usize(here, line);
         j += 1;
     }
+    done
 }

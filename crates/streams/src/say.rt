@@ -32,13 +32,18 @@ pub fn unwritten() {
     words(b"3\n");
 }
 
-// A line of a file that is not as it should be.
-pub fn expected(name: &[u8], line: usize, what: &[u8]) {
+// How the answer on a line that is not as it should be begins.
+pub fn at_line(name: &[u8], line: usize) {
     words(b"2");
     words(name);
     words(b": line ");
     number(line);
     words(b": expected ");
+}
+
+// A line of a file that is not as it should be.
+pub fn expected(name: &[u8], line: usize, what: &[u8]) {
+    at_line(name, line);
     words(what);
     words(b"\n");
 }

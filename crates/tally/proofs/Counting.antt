@@ -9,8 +9,9 @@ use borrow.Author.Tests.{not-true, not-false}
 use Rattle.laws.specs.Choose.{pick-yes, pick-no, both-bad, both-ok, is-lt, not-lt, is-eq, not-eq}
 use Rattle.rules.specs.Refusals.{numberOf, placeOf}
 use Rattle.rules.specs.declared.refusals.Refusal.{Refusal}
+use Rattle.rules.specs.declared.refusals.PlaneAnswer.{PlaneAnswer}
 use Rattle.tally.specs.declared.Tally.{Tally}
-use Rattle.tally.specs.Counts.{nextOf, bumped, counts, unreadMore, noCase, differentMore, numberMore, caseMore, widthMore, isRefusal}
+use Rattle.tally.specs.Counts.{nextOf, bumped, counts, unreadMore, noCase, differentMore, numberMore, caseMore, widthMore, isRefusal, isAnswer, isCounted}
 
 pub unread-counted : (t : Tally) (v : ℕ) → v ≡ nextOf (t .unread) → counts (t .numbers) (t .widths) (t .different) v ≡ unreadMore t
 unfolding unreadMore
@@ -65,5 +66,18 @@ pub refusal-placed : (r : Refusal) (m n p k : ℕ) → m ≡ numberOf r → m �
 unfolding isRefusal
 refusal-placed r m n p k e f g = both-ok _ _ _ (is-eq (numberOf r) n (sym e ∙ f)) (ap (λ (x : ℕ). eqb x k) g)
 
+-- another count, and both counts: then the answer decides
+pub stored-other : (a : PlaneAnswer) (n k s t : ℕ) → (a .stored ≡ s → ⊥) → false ≡ isCounted a n k s t
+unfolding isCounted
+stored-other a n k s t h = both-bad _ _ (not-eq (a .stored) s h)
+
+pub changed-other : (a : PlaneAnswer) (n k s t : ℕ) → a .stored ≡ s → (a .changed ≡ t → ⊥) → false ≡ isCounted a n k s t
+unfolding isCounted
+changed-other a n k s t e h = both-ok _ _ _ (is-eq (a .stored) s e) (both-bad _ _ (not-eq (a .changed) t h))
+
+pub counts-same : (a : PlaneAnswer) (n k s t : ℕ) (b : Bool) → a .stored ≡ s → a .changed ≡ t → b ≡ isAnswer (a .answer) n k → b ≡ isCounted a n k s t
+unfolding isCounted
+counts-same a n k s t b e f h = both-ok _ _ _ (is-eq (a .stored) s e) (both-ok _ _ _ (is-eq (a .changed) t f) h)
+
 pub ruleset counting =
-    (needs, unread-counted, line-read, line-unread, number-counted, number-unknown, case-same, case-different, width-counted, width-unknown, refusal-other, refusal-placed)
+    (needs, unread-counted, line-read, line-unread, number-counted, number-unknown, case-same, case-different, width-counted, width-unknown, refusal-other, refusal-placed, stored-other, changed-other, counts-same)

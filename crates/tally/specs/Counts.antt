@@ -9,6 +9,7 @@ use Rattle.rules.specs.Refusals.{numberOf, placeOf}
 use Rattle.rules.specs.declared.refusals.Refusal.{Refusal}
 use Rattle.rules.specs.declared.refusals.Answer.{Answer}
 use Rattle.rules.specs.declared.refusals.Answer.the-variants.{Accepted, Refused}
+use Rattle.rules.specs.declared.refusals.PlaneAnswer.{PlaneAnswer}
 use Rattle.tally.specs.declared.Tally.{Tally}
 
 -- a count and one more, as 64 bits hold it
@@ -53,3 +54,7 @@ isRefusal r n k = both (eqb (numberOf r) n) (eqb (placeOf r) k)
 unfoldable pub isAnswer : Answer → ℕ → ℕ → Bool
 isAnswer Accepted n k = eqb n 0
 isAnswer (Refused r) n k = isRefusal r n k
+
+-- an answer with its counts is what the stream says
+unfoldable pub isCounted : PlaneAnswer → ℕ → ℕ → ℕ → ℕ → Bool
+isCounted a n k stored changed = both (eqb (a .stored) stored) (both (eqb (a .changed) changed) (isAnswer (a .answer) n k))

@@ -1,8 +1,9 @@
 // What a replay of recorded cases counts, and what it prints: the programs run_* speak through it, and oracle/compare reads it.
 ghost use mathlib.Core.Path.{_≡_};
-ghost use Rattle.tally.specs.Counts.{nextOf, noCounts, unreadMore, noCase, numberMore, caseMore, widthMore, isRefusal, isAnswer};
+ghost use Rattle.tally.specs.Counts.{nextOf, noCounts, unreadMore, noCase, numberMore, caseMore, widthMore, isRefusal, isAnswer, isCounted};
 use rules::refusals;
 use rules::refusals::Answer;
+use rules::refusals::PlaneAnswer;
 use rules::refusals::Refusal;
 use std::num::wrapping_add_u64;
 
@@ -103,6 +104,26 @@ pub fn same(answer: Answer, number: usize, place: usize) -> bool
         Answer::Accepted => number == 0,
         Answer::Refused(r) => refused(r, number, place),
     }
+}
+
+// Whether a plane's or a frame's answer is this one, with both counts.
+pub fn same_counted(
+    a: PlaneAnswer,
+    number: usize,
+    place: usize,
+    stored: usize,
+    changed: usize,
+) -> bool
+    ensures { λ b. ⌜ b ≡ isCounted a number place stored changed ⌝ }
+{
+    let answer = a.answer;
+    if a.stored != stored {
+        return false;
+    }
+    if a.changed != changed {
+        return false;
+    }
+    same(answer, number, place)
 }
 
 // A number after its name.

@@ -1,7 +1,15 @@
-// One sample moved by n/2048, n = D·W[s]·(s-i) given as a sign and a size: the code's form of rules' before and after.
+// One sample moved by n/2048, n = D·W[s]·(s-i) given as a sign and a size: the code's form of rules' before and after. With it goes whether that
+// changes it.
 ghost use mathlib.Core.Path.{_≡_};
-ghost use Prim.Native.Nat.{_+_, _-_, _*_, _/_, _≤_, min};
+ghost use Prim.Native.Nat.{_+_, _-_, _*_, _/_, _≤_, min, max};
+ghost use Rattle.laws.specs.Changes.{differ};
 ghost use Rattle.taps.specs.Signed.{along, against};
+
+// A sample's new value, and 1 where it differs from the old.
+pub struct Moved {
+    pub to: u16,
+    pub changed: usize,
+}
 
 // The size of a move, rounded: half is 1024 for a D above 0 and 1023 for one below.
 fn move_of(half: u32, by: u32, k: usize) -> u32
@@ -17,27 +25,52 @@ fn capped(y: u32, top: u16) -> u16
     if y < (top as u32) { y as u16 } else { top }
 }
 
-fn raised(x: u16, n: u32, top: u16) -> u16
-    requires { ⌜ n ≤ 30000 ⌝ }
-    ensures { λ r. ⌜ r ≡ min (x + n) top ⌝ }
+fn larger(x: u32, n: u32) -> u32
+    ensures { λ r. ⌜ r ≡ max x n ⌝ }
 {
-    capped((x as u32) + n, top)
+    if x < n { n } else { x }
 }
 
-fn lowered(x: u16, n: u32, top: u16) -> u16
-    ensures { λ r. ⌜ r ≡ min (x - n) top ⌝ }
+// 1 where y differs from x.
+fn other(x: u16, y: u16) -> usize
+    ensures { λ r. ⌜ (r ≡ differ x y) × (r ≤ 1) ⌝ }
 {
-    if n < (x as u32) {
-        capped((x as u32) - n, top)
-    } else {
-        0
+    if x == y { 0 } else { 1 }
+}
+
+// The same of a y that is never above x: this test is the shorter one.
+fn below(x: u16, y: u16) -> usize
+    requires { ⌜ y ≤ x ⌝ }
+    ensures { λ r. ⌜ (r ≡ differ x y) × (r ≤ 1) ⌝ }
+{
+    if y < x { 1 } else { 0 }
+}
+
+fn raised(x: u16, n: u32, top: u16) -> Moved
+    requires { ⌜ n ≤ 30000 ⌝ }
+    ensures { λ r. ⌜ (r .to ≡ min (x + n) top) × (r .changed ≡ differ x (r .to)) × (r .changed ≤ 1) ⌝ }
+{
+    let y = capped((x as u32) + n, top);
+    Moved {
+        to: y,
+        changed: other(x, y),
+    }
+}
+
+fn lowered(x: u16, n: u32, top: u16) -> Moved
+    ensures { λ r. ⌜ (r .to ≡ min (x - n) top) × (r .changed ≡ differ x (r .to)) × (r .changed ≤ 1) ⌝ }
+{
+    let y = capped(larger(x as u32, n) - n, top);
+    Moved {
+        to: y,
+        changed: below(x, y),
     }
 }
 
 // A sample before the edge, whose place leaves k of its side's width; by is the size of D times W.
-pub fn move_before(x: u16, plus: bool, by: u32, k: usize, top: u16) -> u16
+pub fn move_before(x: u16, plus: bool, by: u32, k: usize, top: u16) -> Moved
     requires { ⌜ (by ≤ 5570560) × (k ≤ 8) ⌝ }
-    ensures { λ r. ⌜ r ≡ along top x plus (by * k) ⌝ }
+    ensures { λ r. ⌜ (r .to ≡ along top x plus (by * k)) × (r .changed ≡ differ x (r .to)) × (r .changed ≤ 1) ⌝ }
 {
     if plus {
         raised(x, move_of(1024, by, k), top)
@@ -47,9 +80,9 @@ pub fn move_before(x: u16, plus: bool, by: u32, k: usize, top: u16) -> u16
 }
 
 // A sample after the edge.
-pub fn move_after(x: u16, plus: bool, by: u32, k: usize, top: u16) -> u16
+pub fn move_after(x: u16, plus: bool, by: u32, k: usize, top: u16) -> Moved
     requires { ⌜ (by ≤ 5570560) × (k ≤ 8) ⌝ }
-    ensures { λ r. ⌜ r ≡ against top x plus (by * k) ⌝ }
+    ensures { λ r. ⌜ (r .to ≡ against top x plus (by * k)) × (r .changed ≡ differ x (r .to)) × (r .changed ≤ 1) ⌝ }
 {
     if plus {
         lowered(x, move_of(1024, by, k), top)

@@ -13,8 +13,8 @@ enum-known-a c = search needs
 place-requires : tie.Need-place-requires
 place-requires c κs = search needs
 
-put-place-requires : tie.Need-put-place-requires
-put-place-requires c κs = search needs
+put-requires : tie.Need-put-requires
+put-requires c κs = search needs
 
 minus-requires : tie.Need-minus-requires
 minus-requires c κs = search needs
@@ -26,7 +26,7 @@ same-length : tie.Need-same-length
 same-length c = search needs
 
 returns-2 : tie.Need-returns-2
-returns-2 c = told-refused _ (c .before .before .before .before .before .before .before .a .given .1) (c .before .before .before .before .place .ensures) (c .before .before .before .put-place .ensures) (c .minus .ensures)
+returns-2 c = told-refused _ (c .before .before .before .before .before .before .before .a .given .1) (c .before .before .before .before .place .ensures) (c .before .before .before .put .ensures) (c .minus .ensures)
 
 pub told-spec : {M : Type 1} → statement M
 told-spec =
@@ -35,7 +35,7 @@ told-spec =
     enum-told
     enum-known-a
     place-requires
-    put-place-requires
+    put-requires
     minus-requires
     returns
     same-length

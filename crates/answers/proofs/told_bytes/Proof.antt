@@ -17,8 +17,8 @@ enum-known-a-2 c = search needs
 place-requires : tie.Need-place-requires
 place-requires c κs = search needs
 
-put-place-requires : tie.Need-put-place-requires
-put-place-requires c κs = search needs
+put-requires : tie.Need-put-requires
+put-requires c κs = search needs
 
 minus-requires : tie.Need-minus-requires
 minus-requires c κs = search needs
@@ -30,7 +30,7 @@ same-length : tie.Need-same-length
 same-length c = search needs
 
 returns-2 : tie.Need-returns-2
-returns-2 c = bytes-refused _ (c .before .before .before .before .before .before .before .a2 .given .1) (c .before .before .before .before .place .ensures) (c .before .before .before .put-place .ensures) (c .minus .ensures)
+returns-2 c = bytes-refused _ (c .before .before .before .before .before .before .before .a2 .given .1) (c .before .before .before .before .place .ensures) (c .before .before .before .put .ensures) (c .minus .ensures)
 
 pub told-bytes-spec : {M : Type 1} → statement M
 told-bytes-spec =
@@ -40,7 +40,7 @@ told-bytes-spec =
     count-requires
     enum-known-a-2
     place-requires
-    put-place-requires
+    put-requires
     minus-requires
     returns
     same-length

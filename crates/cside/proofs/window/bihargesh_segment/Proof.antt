@@ -1,4 +1,4 @@
--- `bihargesh_segment` answers and leaves the window as document 01's C side says. Assumes nothing.
+-- `bihargesh_segment` answers, leaves the window and counts as document 01's C side and ticket 4 say. Assumes nothing.
 use mathlib.Core.Path.{sym, _∙_}
 use native.Mathlib.Omega.{arith}
 use borrow.Author.Needs.{needs}
@@ -7,20 +7,29 @@ use Rattle.cside.proofs.Windows.{bad-depth, bad-length, width-range, to
 use Rattle.cside.proofs.window.bihargesh_segment.Statement.{statement}
 use Rattle.cside.proofs.window.bihargesh_segment.Tie as tie
 
+put-counts-requires : tie.Need-put-counts-requires
+put-counts-requires c κs = search needs
+
 is-requires : tie.Need-is-requires
 is-requires c κs = search needs
 
 minus-requires : tie.Need-minus-requires
 minus-requires c κs = search needs
 
+same-length : tie.Need-same-length
+same-length c = search needs
+
 returns : tie.Need-returns
-returns c = bad-depth _ _ _ _ _ (c .minus .ensures) (sym (not-true _ (c .before .if1 .taken)) ∙ c .before .before .is .ensures)
+returns c = bad-depth _ _ _ _ _ (c .minus .ensures) (c .before .before .before .before .before .put-counts .ensures) (sym (not-true _ (c .before .if1 .taken)) ∙ c .before .before .is .ensures)
 
 minus-requires-2 : tie.Need-minus-requires-2
 minus-requires-2 c κs = search needs
 
+same-length-2 : tie.Need-same-length-2
+same-length-2 c = search needs
+
 returns-2 : tie.Need-returns-2
-returns-2 c = bad-length _ _ _ _ _ (c .minus2 .ensures) (sym (not-false _ (c .before .before .if1 .left)) ∙ c .before .before .before .is .ensures) (c .before .if2 .taken)
+returns-2 c = bad-length _ _ _ _ _ (c .minus2 .ensures) (c .before .before .before .before .before .before .put-counts .ensures) (sym (not-false _ (c .before .before .if1 .left)) ∙ c .before .before .before .is .ensures) (c .before .if2 .taken)
 
 samples-requires : tie.Need-samples-requires
 samples-requires c κs = search needs
@@ -40,9 +49,12 @@ enum-known-w c = search needs
 put-samples-requires : tie.Need-put-samples-requires
 put-samples-requires c κs = search needs
 
+put-counts-requires-2 : tie.Need-put-counts-requires-2
+put-counts-requires-2 c κs = search needs
+
 count-requires : tie.Need-count-requires
 count-requires c κs =
-    let way = c .before .before .before .before .before .before in
+    let way = c .before .before .before .before .before .before .before .before .before .before in
     let filtered = way .before .before .before in
     let edged = filtered .before .before in
     let read = edged .before in
@@ -54,23 +66,27 @@ count-requires c κs =
           (long .if2 .left)
           (read .samples .ensures)
           (edged .edge .ensures)
-          (filtered .filter-lone .ensures .0)
-          (filtered .filter-lone .ensures .1)
+          (filtered .filter-lone .ensures)
           (way .w .given .1),
     )
 
-enum-known-r : tie.Need-enum-known-r
-enum-known-r c = search needs
+enum-known-w-2 : tie.Need-enum-known-w-2
+enum-known-w-2 c = search needs
 
 minus-requires-3 : tie.Need-minus-requires-3
 minus-requires-3 c κs = search needs
 
-same-length : tie.Need-same-length
-same-length c = search needs
+same-length-3 : tie.Need-same-length-3
+same-length-3 c = search needs
+
+same-length-4 : tie.Need-same-length-4
+same-length-4 c = search needs
 
 returns-3 : tie.Need-returns-3
 returns-3 c =
-    let way = c .before .before .before .before .before .before .before in
+    let counted = c .before .before .before in
+    let put = counted .before .before .before .before in
+    let way = put .before .before .before .before in
     let filtered = way .before .before .before in
     let edged = filtered .before .before in
     let read = edged .before in
@@ -80,14 +96,18 @@ returns-3 c =
     (long .if2 .left)
     (read .samples .ensures)
     (edged .edge .ensures)
-    (filtered .filter-lone .ensures .0)
-    (filtered .filter-lone .ensures .1)
+    (filtered .filter-lone .ensures)
     (way .w .given .1)
     (c .count .ensures)
-    (c .before .before .before .put-samples .ensures)
+    (put .put-samples .ensures)
+    (long .before .before .before .before .before .put-counts .ensures)
+    (counted .put-counts2 .ensures)
 
-same-length-2 : tie.Need-same-length-2
-same-length-2 c = search needs
+same-length-5 : tie.Need-same-length-5
+same-length-5 c = search needs
+
+same-length-6 : tie.Need-same-length-6
+same-length-6 c = search needs
 
 returns-4 : tie.Need-returns-4
 returns-4 c =
@@ -101,19 +121,22 @@ returns-4 c =
     (long .if2 .left)
     (read .samples .ensures)
     (edged .edge .ensures)
-    (filtered .filter-lone .ensures .0)
-    (filtered .filter-lone .ensures .1)
-    (way .r .given .1)
+    (filtered .filter-lone .ensures)
+    (way .w2 .given .1)
     (c .minus3 .ensures)
+    (long .before .before .before .before .before .put-counts .ensures)
 
 pub bihargesh-segment-spec : {M : Type 1} → statement M
 bihargesh-segment-spec =
     tie.close
     (tie.spec
+    put-counts-requires
     is-requires
     minus-requires
+    same-length
     returns
     minus-requires-2
+    same-length-2
     returns-2
     samples-requires
     edge-requires
@@ -121,10 +144,13 @@ bihargesh-segment-spec =
     filter-lone-requires
     enum-known-w
     put-samples-requires
+    put-counts-requires-2
     count-requires
-    enum-known-r
+    enum-known-w-2
     minus-requires-3
-    same-length
+    same-length-3
+    same-length-4
     returns-3
-    same-length-2
+    same-length-5
+    same-length-6
     returns-4)

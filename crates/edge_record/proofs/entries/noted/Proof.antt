@@ -72,16 +72,17 @@ same-length c = search needs
 
 returns : tie.Need-returns
 returns c =
-    let s0 = c .before .before .before .before in
-    let s1 = s0 .before .before .before .before .before .before .before .before .before in
-    let s2 = s1 .before .before .before .before .before .before in
-    let s3 = s2 .before .before .before .before .before in
-    let s4 = s3 .before in
-    let s5 = s4 .before in
-    let s6 = s5 .before in
-    let s7 = s6 .before in
-    let s8 = s7 .before in
-    noted-by _ _ _ _ _ _ _ _ (s2 .build-tx-grid .ensures .1) (s1 .build-qindex-grid .ensures .1) (s7 .marks .ensures) (s6 .marks2 .ensures) (s5 .marks3 .ensures) (s4 .marks4 .ensures) (s3 .indices .ensures) (s8 .dark-plane .ensures) (s0 .record-plane .ensures) (c .bytes-of .ensures)
+    noted-by _ _ _ _ _ _ _ _
+    (c .before .before .before .before .before .before .before .before .before .before .before .before .before .before .before .before .before .before .before .build-tx-grid .ensures .1)
+    (c .before .before .before .before .before .before .before .before .before .before .before .before .before .build-qindex-grid .ensures .1)
+    (c .before .before .before .before .before .before .before .before .before .before .before .before .before .before .before .before .before .before .before .before .before .before .before .before .before .before .before .before .marks .ensures)
+    (c .before .before .before .before .before .before .before .before .before .before .before .before .before .before .before .before .before .before .before .before .before .before .before .before .before .before .before .marks2 .ensures)
+    (c .before .before .before .before .before .before .before .before .before .before .before .before .before .before .before .before .before .before .before .before .before .before .before .before .before .before .marks3 .ensures)
+    (c .before .before .before .before .before .before .before .before .before .before .before .before .before .before .before .before .before .before .before .before .before .before .before .before .before .marks4 .ensures)
+    (c .before .before .before .before .before .before .before .before .before .before .before .before .before .before .before .before .before .before .before .before .before .before .before .before .indices .ensures)
+    (c .before .before .before .before .before .before .before .before .before .before .before .before .before .before .before .before .before .before .before .before .before .before .before .before .before .before .before .before .before .dark-plane .ensures)
+    (c .before .before .before .before .record-plane .ensures)
+    (c .bytes-of .ensures)
 
 pub noted-spec : {M : Type 1} → statement M
 noted-spec =

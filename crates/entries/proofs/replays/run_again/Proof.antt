@@ -1,12 +1,11 @@
 -- `run_again` tests the settings' length, and hands on what the entry gives. Assumes nothing.
-use Rattle.answers.proofs.Numbers.{short}
-use Rattle.entries.proofs.Done.{replay-done}
+use Rattle.entries.proofs.Done.{replay-short, replay-done}
 use borrow.Author.Needs.{needs}
 use Rattle.entries.proofs.replays.run_again.Statement.{statement}
 use Rattle.entries.proofs.replays.run_again.Tie as tie
 
 returns : tie.Need-returns
-returns c = short _ _ _ _ _ (c .if1 .taken)
+returns c = replay-short _ _ _ (c .if1 .taken)
 
 replay-of-requires : tie.Need-replay-of-requires
 replay-of-requires c κs = search needs

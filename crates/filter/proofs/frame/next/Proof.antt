@@ -10,6 +10,9 @@ slice-aggregate-next-mark c = search needs
 next-mark-requires : tie.Need-next-mark-requires
 next-mark-requires c κs = tt
 
+ended-requires : tie.Need-ended-requires
+ended-requires c κs = tt
+
 returns : tie.Need-returns
 returns c = search needs
 
@@ -20,28 +23,22 @@ slice-aggregate-work : tie.Need-slice-aggregate-work
 slice-aggregate-work c = front _ _ (search needs)
 
 work-requires : tie.Need-work-requires
-work-requires c κs = c .before .before .before .before .before .before .before .before .before .before .before .before .before .before .before .before .before .before .before .before .before .before .before .before .before .before .before .before .pre
+work-requires c κs = c .before .before .before .before .before .before .before .before .before .before .before .before .before .before .before .before .before .before .before .before .before .before .before .before .pre
 
 same-length : tie.Need-same-length
-same-length c = c .before .before .before .before .before .before .before .before .before .before .before .before .before .before .work .kept .0
+same-length c = c .before .before .before .before .before .before .before .before .before .before .work .kept .0
 
 same-length-2 : tie.Need-same-length-2
-same-length-2 c = c .before .before .before .before .before .before .before .before .before .before .before .before .before .before .work .kept .1 .0
+same-length-2 c = c .before .before .before .before .before .before .before .before .before .before .work .kept .1 .0
 
 same-length-3 : tie.Need-same-length-3
-same-length-3 c = c .before .before .before .before .before .before .before .before .before .before .before .before .before .before .work .kept .1 .1 .0
+same-length-3 c = c .before .before .before .before .before .before .before .before .before .before .work .kept .1 .1 .0
 
 same-length-4 : tie.Need-same-length-4
-same-length-4 c = c .before .before .before .before .before .before .before .before .before .before .before .before .before .before .work .kept .1 .1 .1 .0
+same-length-4 c = c .before .before .before .before .before .before .before .before .before .before .work .kept .1 .1 .1 .0
 
 same-length-5 : tie.Need-same-length-5
-same-length-5 c = c .before .before .before .before .before .before .before .before .before .before .before .before .before .before .work .kept .1 .1 .1 .1 .0
-
-same-length-6 : tie.Need-same-length-6
-same-length-6 c = c .before .before .before .before .before .before .before .before .before .before .before .before .before .before .work .kept .1 .1 .1 .1 .1 .0
-
-same-length-7 : tie.Need-same-length-7
-same-length-7 c = c .before .before .before .before .before .before .before .before .before .before .before .before .before .before .work .kept .1 .1 .1 .1 .1 .1 .0
+same-length-5 c = c .before .before .before .before .before .before .before .before .before .before .work .kept .1 .1 .1 .1 .0
 
 returns-2 : tie.Need-returns-2
 returns-2 c = search needs
@@ -52,6 +49,7 @@ next-spec =
     (tie.spec
     slice-aggregate-next-mark
     next-mark-requires
+    ended-requires
     returns
     array-share-prefix-mark
     slice-aggregate-work
@@ -61,6 +59,4 @@ next-spec =
     same-length-3
     same-length-4
     same-length-5
-    same-length-6
-    same-length-7
     returns-2)

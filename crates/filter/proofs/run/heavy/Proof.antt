@@ -40,12 +40,6 @@ large-room-requires-4 c κs = tt
 large-room-requires-5 : tie.Need-large-room-requires-5
 large-room-requires-5 c κs = tt
 
-large-room-requires-6 : tie.Need-large-room-requires-6
-large-room-requires-6 c κs = tt
-
-large-room-requires-7 : tie.Need-large-room-requires-7
-large-room-requires-7 c κs = tt
-
 slice-aggregate-told : tie.Need-slice-aggregate-told
 slice-aggregate-told c = search needs
 
@@ -61,20 +55,14 @@ slice-aggregate-told-4 c = search needs
 slice-aggregate-told-5 : tie.Need-slice-aggregate-told-5
 slice-aggregate-told-5 c = search needs
 
-slice-aggregate-told-6 : tie.Need-slice-aggregate-told-6
-slice-aggregate-told-6 c = search needs
-
-slice-aggregate-told-7 : tie.Need-slice-aggregate-told-7
-slice-aggregate-told-7 c = search needs
-
 array-share-prefix-text : tie.Need-array-share-prefix-text
 array-share-prefix-text c = search needs
 
-slice-aggregate-told-8 : tie.Need-slice-aggregate-told-8
-slice-aggregate-told-8 c = front _ _ (search needs)
+slice-aggregate-told-6 : tie.Need-slice-aggregate-told-6
+slice-aggregate-told-6 c = front _ _ (search needs)
 
-slice-aggregate-told-9 : tie.Need-slice-aggregate-told-9
-slice-aggregate-told-9 c = search needs
+slice-aggregate-told-7 : tie.Need-slice-aggregate-told-7
+slice-aggregate-told-7 c = search needs
 
 told-requires : tie.Need-told-requires
 told-requires c κs = search needs
@@ -98,17 +86,13 @@ heavy-spec =
     large-room-requires-3
     large-room-requires-4
     large-room-requires-5
-    large-room-requires-6
-    large-room-requires-7
     slice-aggregate-told
     slice-aggregate-told-2
     slice-aggregate-told-3
     slice-aggregate-told-4
     slice-aggregate-told-5
+    array-share-prefix-text
     slice-aggregate-told-6
     slice-aggregate-told-7
-    array-share-prefix-text
-    slice-aggregate-told-8
-    slice-aggregate-told-9
     told-requires
     returns-2)

@@ -21,12 +21,6 @@ small-room-requires-4 c κs = tt
 small-room-requires-5 : tie.Need-small-room-requires-5
 small-room-requires-5 c κs = tt
 
-small-room-requires-6 : tie.Need-small-room-requires-6
-small-room-requires-6 c κs = tt
-
-small-room-requires-7 : tie.Need-small-room-requires-7
-small-room-requires-7 c κs = tt
-
 slice-aggregate-told : tie.Need-slice-aggregate-told
 slice-aggregate-told c = search needs
 
@@ -45,12 +39,6 @@ slice-aggregate-told-5 c = search needs
 slice-aggregate-told-6 : tie.Need-slice-aggregate-told-6
 slice-aggregate-told-6 c = search needs
 
-slice-aggregate-told-7 : tie.Need-slice-aggregate-told-7
-slice-aggregate-told-7 c = search needs
-
-slice-aggregate-told-8 : tie.Need-slice-aggregate-told-8
-slice-aggregate-told-8 c = search needs
-
 told-requires : tie.Need-told-requires
 told-requires c κs = search needs
 
@@ -67,15 +55,11 @@ light-spec =
     small-room-requires-3
     small-room-requires-4
     small-room-requires-5
-    small-room-requires-6
-    small-room-requires-7
     slice-aggregate-told
     slice-aggregate-told-2
     slice-aggregate-told-3
     slice-aggregate-told-4
     slice-aggregate-told-5
     slice-aggregate-told-6
-    slice-aggregate-told-7
-    slice-aggregate-told-8
     told-requires
     returns)

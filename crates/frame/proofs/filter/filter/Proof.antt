@@ -1,7 +1,7 @@
 -- `filter` stops where the late checks refuse, and else runs planes whose edges have room. Assumes nothing.
 use mathlib.Core.Path.{refl}
 use mathlib.Core.List.{[]}
-use Rattle.frame.proofs.Grids.{marked, checked}
+use Rattle.frame.proofs.Grids.{marked, runnable}
 use Rattle.frame.proofs.Ways.{luma-room, chroma-room, late-stop, late-run}
 use borrow.Author.Needs.{needs}
 use Rattle.frame.proofs.filter.filter.Statement.{statement}
@@ -30,34 +30,24 @@ returns c = late-stop _ _ _ _ _ (c .before .before .before .late .ensures _ _) (
 enum-told : tie.Need-enum-told
 enum-told c = search needs
 
-run-requires : tie.Need-run-requires
-run-requires c κs =
-    let p = c .before .before .before .before .before .before .before .before .before .before .before .before .before .before .before .before .before .before .before .before .before .pre .0 in
-    λ _. checked (p .1) (p .0) (luma-room _ _ _ _ (c .before .before .before .late .ensures _ []) (c .before .enum-told .given .1))
-
-run-requires-2 : tie.Need-run-requires-2
-run-requires-2 c κs =
-    let p = c .before .before .before .before .before .before .before .before .before .before .before .before .before .before .before .before .before .before .before .before .before .before .before .before .before .pre .1 in
-    λ on. checked (p on .1) (p on .0) (chroma-room _ _ _ _ (c .before .before .before .before .before .before .before .late .ensures [] _) (c .before .before .before .before .before .enum-told .given .1) on)
-
-run-requires-3 : tie.Need-run-requires-3
-run-requires-3 c κs =
-    let p = c .before .before .before .before .before .before .before .before .before .before .before .before .before .before .before .before .before .before .before .before .before .before .before .before .before .before .before .before .before .pre .1 in
-    λ on. checked (p on .2) (p on .0) (chroma-room _ _ _ _ (c .before .before .before .before .before .before .before .before .before .before .before .late .ensures [] _) (c .before .before .before .before .before .before .before .before .before .enum-told .given .1) on)
+run-planes-requires : tie.Need-run-planes-requires
+run-planes-requires c κs =
+    let p = c .before .before .before .before .before .before .before .before .before .before .before .before .before .before .before .before .before .before .before .before .before .before .before .pre in
+    let is = c .before .before .before .before .before .late .ensures in
+    let ok = c .before .before .before .enum-told .given .1 in
+    (runnable (p .0 .1) (p .0 .0) (luma-room _ _ _ _ (is _ []) ok), λ on. (runnable (p .1 on .1) (p .1 on .0) (chroma-room _ _ _ _ (is [] _) ok on), runnable (p .1 on .2) (p .1 on .0) (chroma-room _ _ _ _ (is [] _) ok on)))
 
 same-length-4 : tie.Need-same-length-4
-same-length-4 c = c .before .before .before .before .before .before .before .before .before .before .run .kept .0
+same-length-4 c = c .before .before .before .before .before .before .run-planes .kept .0
 
 same-length-5 : tie.Need-same-length-5
-same-length-5 c = c .before .before .before .before .before .before .run2 .kept .0
+same-length-5 c = c .before .before .before .before .before .before .run-planes .kept .1 .0
 
 same-length-6 : tie.Need-same-length-6
-same-length-6 c = c .before .before .run3 .kept .0
+same-length-6 c = c .before .before .before .before .before .before .run-planes .kept .1 .1 .0
 
 returns-2 : tie.Need-returns-2
-returns-2 c =
-    late-run _ _ _ _ _ (c .before .before .before .before .before .before .before .before .before .before .before .before .before .before .late .ensures _ _) (c .before .before .before .before .before .before .before .before .before .before .before .before .enum-told .given .1)
-    (c .before .before .before .before .before .before .before .before .before .before .run .ensures) (c .before .before .before .before .before .before .run2 .ensures) (c .before .before .run3 .ensures)
+returns-2 c = late-run _ _ _ _ _ (c .before .before .before .before .before .before .before .before .before .before .before .before .late .ensures _ _) (c .before .before .before .before .before .before .before .before .before .before .enum-told .given .1) (c .before .before .before .before .before .before .run-planes .ensures)
 
 pub filter-spec : {M : Type 1} → statement M
-filter-spec = tie.close (tie.spec late-requires enum-known-a same-length same-length-2 same-length-3 returns enum-told run-requires run-requires-2 run-requires-3 same-length-4 same-length-5 same-length-6 returns-2)
+filter-spec = tie.close (tie.spec late-requires enum-known-a same-length same-length-2 same-length-3 returns enum-told run-planes-requires same-length-4 same-length-5 same-length-6 returns-2)

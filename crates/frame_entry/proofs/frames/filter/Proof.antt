@@ -1,26 +1,23 @@
 -- `filter` tests the settings, and hands on what the entry gives. Assumes nothing.
-use Rattle.frame_entry.proofs.Given.{frame-short, no-depth, no-flags, frame-done}
+use Rattle.frame_entry.proofs.Given.{list-long, frame-refused, frame-done}
 use borrow.Author.Needs.{needs}
 use Rattle.frame_entry.proofs.frames.filter.Statement.{statement}
 use Rattle.frame_entry.proofs.frames.filter.Tie as tie
 
+list-check-requires : tie.Need-list-check-requires
+list-check-requires c κs = search needs
+
+enum-known-a : tie.Need-enum-known-a
+enum-known-a c = search needs
+
 returns : tie.Need-returns
-returns c = frame-short _ _ _ (c .if1 .taken)
+returns c = frame-refused _ _ _ (c .before .before .before .list-check .ensures) (c .before .a .given .1)
+
+enum-told : tie.Need-enum-told
+enum-told c = search needs
 
 frame-of-requires : tie.Need-frame-of-requires
-frame-of-requires c κs = search needs
-
-is-requires : tie.Need-is-requires
-is-requires c κs = search needs
-
-returns-2 : tie.Need-returns-2
-returns-2 c = no-depth _ _ _ (c .before .before .before .if1 .left) (c .before .before .frame-of .ensures) (c .before .is .ensures) (c .if2 .taken)
-
-flags-ok-requires : tie.Need-flags-ok-requires
-flags-ok-requires c κs = search needs
-
-returns-3 : tie.Need-returns-3
-returns-3 c = no-flags _ _ _ (c .before .before .before .before .before .if1 .left) (c .before .before .before .before .frame-of .ensures) (c .before .before .before .is .ensures) (c .before .before .if2 .left) (c .before .flags-ok .ensures) (c .if3 .taken)
+frame-of-requires c κs = list-long _ (c .before .before .list-check .ensures) (c .enum-told .given .1)
 
 deblock-frame-requires : tie.Need-deblock-frame-requires
 deblock-frame-requires c κs = search needs
@@ -64,32 +61,22 @@ same-length-12 c = c .before .before .before .before .before .before .before .be
 same-length-13 : tie.Need-same-length-13
 same-length-13 c = c .before .before .before .before .before .before .before .before .before .before .before .before .before .before .before .before .before .before .before .before .before .before .before .before .before .before .deblock-frame .kept .1 .1 .1 .1 .1 .1 .1 .1 .1 .1 .1 .1 .0
 
-returns-4 : tie.Need-returns-4
-returns-4 c =
-    frame-done _ _ _
-    (c .before .before .before .before .before .before .before .before .before .before .before .before .before .before .before .before .before .before .before .before .before .before .before .before .before .before .before .before .before .before .before .before .before .before .before .before
-    .before .before .before .before .before .before .before .before .before .if1 .left)
-    (c .before .before .before .before .before .before .before .before .before .before .before .before .before .before .before .before .before .before .before .before .before .before .before .before .before .before .before .before .before .before .before .before .before .before .before .before
-    .before .before .before .before .before .before .before .before .frame-of .ensures)
-    (c .before .before .before .before .before .before .before .before .before .before .before .before .before .before .before .before .before .before .before .before .before .before .before .before .before .before .before .before .before .before .before .before .before .before .before .before
-    .before .before .before .before .before .before .before .is .ensures)
-    (c .before .before .before .before .before .before .before .before .before .before .before .before .before .before .before .before .before .before .before .before .before .before .before .before .before .before .before .before .before .before .before .before .before .before .before .before
-    .before .before .before .before .before .before .if2 .left)
-    (c .before .before .before .before .before .before .before .before .before .before .before .before .before .before .before .before .before .before .before .before .before .before .before .before .before .before .before .before .before .before .before .before .before .before .before .before
-    .before .before .before .before .before .flags-ok .ensures)
-    (c .before .before .before .before .before .before .before .before .before .before .before .before .before .before .before .before .before .before .before .before .before .before .before .before .before .before .before .before .before .before .before .before .before .before .before .before .before .before .before .before .if3 .left)
-    (c .before .before .before .before .before .before .before .before .before .before .before .before .before .before .before .before .before .before .before .before .before .before .before .before .before .before .deblock-frame .ensures)
+returns-2 : tie.Need-returns-2
+returns-2 c =
+    let done = c .before .before .before .before .before .before .before .before .before .before .before .before .before .before .before .before .before .before .before .before .before .before .before .before .before .before in
+    let read = done .before .before .before .before .before .before .before .before .before .before .before .before .before .before in
+    let told = read .before in
+    frame-done _ _ _ (told .before .before .list-check .ensures) (told .enum-told .given .1) (read .frame-of .ensures) (done .deblock-frame .ensures)
 
 pub filter-spec : {M : Type 1} → statement M
 filter-spec =
     tie.close
     (tie.spec
+    list-check-requires
+    enum-known-a
     returns
+    enum-told
     frame-of-requires
-    is-requires
-    returns-2
-    flags-ok-requires
-    returns-3
     deblock-frame-requires
     same-length
     same-length-2
@@ -104,4 +91,4 @@ filter-spec =
     same-length-11
     same-length-12
     same-length-13
-    returns-4)
+    returns-2)

@@ -7,13 +7,13 @@ use Rattle.framed.proofs.listed.deblock_given.Tie as tie
 deblock-requires : tie.Need-deblock-requires
 deblock-requires c κs = tt
 
-enum-known-a : tie.Need-enum-known-a
-enum-known-a c = search needs
+enum-known-answer : tie.Need-enum-known-answer
+enum-known-answer c = search needs
 
 place-of-requires : tie.Need-place-of-requires
 place-of-requires c κs =
     let s0 = c .before .before .before .before .before .before .before .before .before .before .before in
-    λ k is. luma-fit (s0 .deblock .ensures) (c .before .before .before .a .given .1) is
+    λ k is. luma-fit (s0 .deblock .ensures) (c .before .before .before .answer .given .1) is
 
 same-length : tie.Need-same-length
 same-length c =
@@ -33,7 +33,7 @@ same-length-3 c =
 returns : tie.Need-returns
 returns c =
     let s0 = c .before .before .before .before .before .before .before .before .before .before .before .before in
-    told-refused (s0 .deblock .ensures) (c .before .before .before .before .a .given .1) (c .place-of .ensures _ _)
+    told-refused (s0 .deblock .ensures) (c .before .before .before .before .answer .given .1) (c .place-of .ensures _ _)
 
 enum-told : tie.Need-enum-told
 enum-told c = search needs
@@ -66,7 +66,7 @@ deblock-given-spec =
     tie.close
     (tie.spec
     deblock-requires
-    enum-known-a
+    enum-known-answer
     place-of-requires
     same-length
     same-length-2

@@ -5,9 +5,9 @@ use Prim.Native.Nat.{_*_, _-_, _≤_}
 use lib.ListN.{length}
 use mathlib.Core.Path.{_≡_, refl}
 use Rattle.laws.specs.Loops.{each}
-use Rattle.plane.specs.Run.{none, state, Ran}
+use Rattle.plane.specs.Run.{none, Few, state, Ran}
 use Rattle.rules.specs.Plane.{grid, turnOf, sbCols}
-use Rattle.plane.proofs.Runs.{field-same, ran-none, ran-more}
+use Rattle.plane.proofs.Runs.{field-same, few-none, few-then, few-most, most-none, ran-none, ran-more}
 use Rattle.plane.proofs.Superblocks.{sb-some, sb-last, sb-most, sb-part, horz-of, edges-are}
 use Rattle.plane.proofs.order.run.Statement.{statement}
 use Rattle.plane.proofs.order.run.Tie as tie
@@ -16,7 +16,7 @@ abbrev Inv-loop : tie.InvT-loop
 Inv-loop plane₀ buffer₀ vedge hedge sqw sqh qindex table s n done₀ sb₀ plane buffer done sb =
     (sb ≤ n)
     × Ran s table (λ steps. each sb (λ k. turnOf s steps (grid vedge hedge sqw sqh qindex) k)) (state plane₀ buffer₀ none) (state plane buffer done)
-    × (length plane ≡ length plane₀) × (length buffer ≡ length buffer₀) × (done .edges ≤ sb * (2 * (1024 * 1024)))
+    × (length plane ≡ length plane₀) × (length buffer ≡ length buffer₀) × Few (sb * 2097152) none done
 
 abbrev μ-loop : tie.MeasureT-loop
 μ-loop plane₀ buffer₀ vedge hedge sqw sqh qindex table s n done₀ sb₀ plane buffer done sb = n - sb
@@ -31,14 +31,14 @@ div-n : tie.Need-div-n Inv-loop μ-loop
 div-n c = let some = c .before .before .before .before .before .before .before .before .before .pre .0 .ready .sizes-ok .some-sbw in search needs
 
 loop-holds : tie.Need-loop-holds Inv-loop μ-loop
-loop-holds c = (search needs, ran-none _ _, refl, refl, search needs)
+loop-holds c = (search needs, ran-none _ _, refl, refl, few-none _ _)
 
 turn-requires : tie.Need-turn-requires Inv-loop μ-loop
 unfolding sbCols
 turn-requires c κs =
     let given = c .before .before .before .before .before .before .before .before .before .before .before .before .before .pre in
     let turns = c .before .before .before .loop in
-    (field-same (turns .inv .2) (given .0), field-same (turns .inv .2) (given .1), search needs, omega (arith, turns .inv .4, turns .inv .0, sb-most (given .0 .ready .sizes-ok)))
+    (field-same (turns .inv .2) (given .0), field-same (turns .inv .2) (given .1), search needs, few-most most-none (turns .inv .4) (omega (arith, turns .inv .0, sb-most (given .0 .ready .sizes-ok))))
 
 add-sb : tie.Need-add-sb Inv-loop μ-loop
 unfolding sbCols
@@ -50,7 +50,7 @@ loop-less c = search needs
 loop-again : tie.Need-loop-again Inv-loop μ-loop
 loop-again c =
     let turns = c .before .before .before .before .before .before .before .before .loop in
-    (search needs, ran-more _ _ (turns .inv .1) (c .before .before .before .before .turn .ensures .ran), search needs, search needs, omega (arith, turns .inv .4, c .before .before .before .before .turn .ensures .few))
+    (search needs, ran-more _ _ (turns .inv .1) (c .before .before .before .before .turn .ensures .ran), search needs, search needs, few-then (turns .inv .4) (c .before .before .before .before .turn .ensures .few) (omega arith))
 
 sub-superblock : tie.Need-sub-superblock Inv-loop μ-loop
 unfolding sbCols
@@ -66,7 +66,7 @@ sweep-requires c κs =
     let given = c .before .before .before .before .before .before .before .before .before .before .before .before .before .before .pre in
     let turns = c .before .before .before .before .loop in
     let last = sb-last (given .0 .ready .sizes-ok) in
-    (field-same (turns .inv .2) (given .1), sb-part (given .0 .ready .sizes-ok) _ (c .superblock .ensures) last, omega arith, omega (arith, turns .inv .4, turns .inv .0, sb-most (given .0 .ready .sizes-ok)))
+    (field-same (turns .inv .2) (given .1), sb-part (given .0 .ready .sizes-ok) _ (c .superblock .ensures) last, omega arith, few-most most-none (turns .inv .4) (omega (arith, turns .inv .0, sb-most (given .0 .ready .sizes-ok))))
 
 same-length : tie.Need-same-length Inv-loop μ-loop
 same-length c = search needs

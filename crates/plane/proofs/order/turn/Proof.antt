@@ -2,7 +2,7 @@
 use mathlib.Core.Path.{refl}
 use native.Mathlib.Omega.{arith}
 use borrow.Author.Needs.{needs}
-use Rattle.plane.proofs.Runs.{field-same}
+use Rattle.plane.proofs.Runs.{field-same, few-none, few-same, few-then, few-most}
 use Rattle.plane.proofs.Superblocks.{sb-part, vert-of, horz-of, turn-first, turn-later}
 use Rattle.plane.proofs.order.turn.Statement.{statement}
 use Rattle.plane.proofs.order.turn.Tie as tie
@@ -13,7 +13,7 @@ superblock-requires c κs = (c .before .before .before .before .before .before .
 sweep-requires : tie.Need-sweep-requires
 sweep-requires c κs =
     let given = c .before .before .before .before .before .before .before .before .before .before .pre in
-    (given .0, sb-part (given .0 .ready .sizes-ok) _ (c .superblock .ensures) (given .2), omega arith, omega (arith, given .3))
+    (given .0, sb-part (given .0 .ready .sizes-ok) _ (c .superblock .ensures) (given .2), omega arith, few-most (given .3) (few-none 0 _) (omega arith))
 
 same-length : tie.Need-same-length
 same-length c = search needs
@@ -24,7 +24,7 @@ same-length-2 c = search needs
 returns : tie.Need-returns
 returns c =
     let vertical = c .before .before .before .before .before .sweep .ensures in
-    record { ran = turn-first _ _ (vert-of _ _ _ _ _ _ (c .before .before .before .before .before .before .superblock .ensures) (vertical .ran)) (c .if1 .taken); few = omega (arith, vertical .few) }
+    record { ran = turn-first _ _ (vert-of _ _ _ _ _ _ (c .before .before .before .before .before .before .superblock .ensures) (vertical .ran)) (c .if1 .taken); few = few-same (vertical .few) (omega arith) }
 
 sub-superblock : tie.Need-sub-superblock
 sub-superblock c = search needs
@@ -35,7 +35,7 @@ superblock-requires-2 c κs = (c .before .before .before .before .before .before
 sweep-requires-2 : tie.Need-sweep-requires-2
 sweep-requires-2 c κs =
     let given = c .before .before .before .before .before .before .before .before .before .before .before .before .before .before .before .before .before .before .before .pre in
-    (field-same (search needs) (given .1), sb-part (given .0 .ready .sizes-ok) _ (c .superblock2 .ensures) (omega (arith, given .2)), omega arith, omega (arith, c .before .before .before .before .before .before .before .before .sweep .ensures .few, given .3))
+    (field-same (search needs) (given .1), sb-part (given .0 .ready .sizes-ok) _ (c .superblock2 .ensures) (omega (arith, given .2)), omega arith, few-most (given .3) (c .before .before .before .before .before .before .before .before .sweep .ensures .few) (omega arith))
 
 same-length-3 : tie.Need-same-length-3
 same-length-3 c = search needs
@@ -48,7 +48,7 @@ returns-2 c =
     let vertical = c .before .before .before .before .before .before .before .before .before .before .before .before .before .sweep .ensures in
     let horizontal = c .before .before .before .before .sweep2 .ensures in
     let first = vert-of _ _ _ _ _ _ (c .before .before .before .before .before .before .before .before .before .before .before .before .before .before .superblock .ensures) (vertical .ran) in
-    record { ran = turn-later _ _ first (c .before .before .before .before .before .before .before .before .if1 .left) (horz-of _ _ _ _ _ _ (c .before .before .before .before .before .superblock2 .ensures) (horizontal .ran)) refl; few = omega (arith, vertical .few, horizontal .few) }
+    record { ran = turn-later _ _ first (c .before .before .before .before .before .before .before .before .if1 .left) (horz-of _ _ _ _ _ _ (c .before .before .before .before .before .superblock2 .ensures) (horizontal .ran)) refl; few = few-then (vertical .few) (horizontal .few) (omega arith) }
 
 pub turn-spec : {M : Type 1} → statement M
 turn-spec =

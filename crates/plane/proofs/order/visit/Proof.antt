@@ -1,10 +1,10 @@
 -- `visit` meets its contract. Assumes nothing.
 use mathlib.Core.Path.{refl}
 use native.Mathlib.Omega.{arith}
+use borrow.Author.Needs.{needs}
 use Rattle.cells.proofs.Accepted.{rows-fit}
-use Rattle.plane.proofs.Runs.{visit-none, visit-edge}
+use Rattle.plane.proofs.Runs.{visits, visit-none, visit-edge, few-none, few-edge, edge-stored, edge-changed}
 use Rattle.plane.proofs.Edges.{asked, in-plane, in-bytes}
-use Rattle.plane.proofs.Runs.{visits}
 use Rattle.plane.proofs.order.visit.Statement.{statement}
 use Rattle.plane.proofs.order.visit.Tie as tie
 
@@ -12,7 +12,7 @@ is-edge-requires : tie.Need-is-edge-requires
 is-edge-requires c κs = search visits
 
 returns : tie.Need-returns
-returns c = record { ran = visit-none _ _ _ _ _ _ _ (c .before .is-edge .ensures) (c .if1 .taken) _; few = omega arith }
+returns c = record { ran = visit-none _ _ _ _ _ _ _ (c .before .is-edge .ensures) (c .if1 .taken) _; few = few-none 1 _ }
 
 shortened-at-requires : tie.Need-shortened-at-requires
 shortened-at-requires c κs = c .before .before .before .before .before .before .before .pre .0 .ready .sizes-ok
@@ -23,7 +23,7 @@ edge-at-requires c κs = search asked
 note-requires : tie.Need-note-requires
 note-requires c κs =
     let given = c .before .before .before .before .before .before .before .before .before .before .pre in
-    (in-bytes (given .0 .ready .sizes-ok) (given .1) (given .2) (c .before .edge-at .ensures), given .3)
+    (in-bytes (given .0 .ready .sizes-ok) (given .1) (given .2) (c .before .edge-at .ensures), given .3 .bytes-most)
 
 mul-filter-edge : tie.Need-mul-filter-edge
 mul-filter-edge c = record { fits = omega (arith, c .before .before .before .before .before .before .before .before .before .before .before .before .before .before .before .pre .0 .ready .sizes-ok .cols-most) }
@@ -40,7 +40,23 @@ filter-edge-requires c κs =
     in-plane _ _ _ _ _ _ (given .0) (given .1) (c .before .before .before .before .before .before .before .before .edge-at .ensures) (c .before .before .before .before .before .before .before .before .before .before .before .is-edge .ensures) (c .before .before .before .before .before .before .before .before .before .before .if1 .left)
 
 add-t23 : tie.Need-add-t23
-add-t23 c = record { fits = omega (arith, c .before .before .before .before .before .before .before .before .before .before .before .before .before .before .before .before .before .before .before .before .before .pre .3) }
+add-t23 c = record { fits = omega (arith, c .before .before .before .before .before .before .before .before .before .before .before .before .before .before .before .before .before .before .before .before .before .pre .3 .bytes-most) }
+
+add-t24 : tie.Need-add-t24
+add-t24 c =
+    let given = c .before .before .before .before .before .before .before .before .before .before .before .before .before .before .before .before .before .before .before .before .before .before .before .pre in
+    let is = c .before .before .before .before .before .before .before .before .before .before .before .before .before .before .edge-at .ensures in
+    let there = c .before .before .before .before .before .before .before .before .before .before .before .before .before .before .before .before .before .is-edge .ensures in
+    let k = in-plane _ _ _ _ _ _ (given .0) (given .1) is there (c .before .before .before .before .before .before .before .before .before .before .before .before .before .before .before .before .if1 .left) in
+    record { fits = omega (arith, given .3 .stored-most, edge-stored k (c .before .before .before .before .before .filter-edge .ensures)) }
+
+add-t26 : tie.Need-add-t26
+add-t26 c =
+    let given = c .before .before .before .before .before .before .before .before .before .before .before .before .before .before .before .before .before .before .before .before .before .before .before .before .before .pre in
+    let is = c .before .before .before .before .before .before .before .before .before .before .before .before .before .before .before .before .edge-at .ensures in
+    let there = c .before .before .before .before .before .before .before .before .before .before .before .before .before .before .before .before .before .before .before .is-edge .ensures in
+    let k = in-plane _ _ _ _ _ _ (given .0) (given .1) is there (c .before .before .before .before .before .before .before .before .before .before .before .before .before .before .before .before .before .before .if1 .left) in
+    record { fits = omega (arith, given .3 .changed-most, edge-changed k (c .before .before .before .before .before .before .before .filter-edge .ensures)) }
 
 same-length : tie.Need-same-length
 same-length c = search visits
@@ -50,10 +66,22 @@ same-length-2 c = search visits
 
 returns-2 : tie.Need-returns-2
 returns-2 c =
-    let asked-of = c .before .before .before .before .before .before .before .before .before .before .before .before .before .before .before .is-edge .ensures in
-    let is = c .before .before .before .before .before .before .before .before .before .before .before .before .edge-at .ensures in
-    let wrote = c .before .before .before .before .before .before .before .before .before .before .note .ensures in
-    record { ran = visit-edge _ _ _ _ _ _ _ asked-of (c .before .before .before .before .before .before .before .before .before .before .before .before .before .before .if1 .left) is (c .before .before .before .before .top .ensures) wrote (c .before .before .before .filter-edge .ensures) refl; few = omega arith }
+    let given = c .before .before .before .before .before .before .before .before .before .before .before .before .before .before .before .before .before .before .before .before .before .before .before .before .before .pre in
+    let is = c .before .before .before .before .before .before .before .before .before .before .before .before .before .before .before .before .edge-at .ensures in
+    let there = c .before .before .before .before .before .before .before .before .before .before .before .before .before .before .before .before .before .before .before .is-edge .ensures in
+    let k = in-plane _ _ _ _ _ _ (given .0) (given .1) is there (c .before .before .before .before .before .before .before .before .before .before .before .before .before .before .before .before .before .before .if1 .left) in
+    let done = c .before .before .before .before .before .before .before .filter-edge .ensures in
+    record {
+      ran =
+          visit-edge _ _ _ _ _ _ _ there
+          (c .before .before .before .before .before .before .before .before .before .before .before .before .before .before .before .before .before .before .if1 .left)
+          is
+          (c .before .before .before .before .before .before .before .before .top .ensures)
+          (c .before .before .before .before .before .before .before .before .before .before .before .before .before .before .note .ensures)
+          done
+          refl;
+      few = few-edge (edge-stored k done) (edge-changed k done);
+    }
 
 pub visit-spec : {M : Type 1} → statement M
 visit-spec =
@@ -69,6 +97,8 @@ visit-spec =
     top-requires
     filter-edge-requires
     add-t23
+    add-t24
+    add-t26
     same-length
     same-length-2
     returns-2)

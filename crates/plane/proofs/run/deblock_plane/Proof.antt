@@ -26,7 +26,7 @@ same-length-2 : tie.Need-same-length-2
 same-length-2 c = search needs
 
 returns-2 : tie.Need-returns-2
-returns-2 c = stated-run _ _ _ _ (c .before .before .before .before .before .before .plane-check .ensures) (search needs) (c .before .before .run-plane .ensures .plane)
+returns-2 c = stated-run _ _ _ _ (c .before .before .before .before .before .before .plane-check .ensures) (search needs) (c .before .before .run-plane .ensures)
 
 pub deblock-plane-spec : {M : Type 1} → statement M
 deblock-plane-spec =

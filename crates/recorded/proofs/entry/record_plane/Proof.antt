@@ -26,16 +26,6 @@ put-header-requires c κs = let ok = passed-by _ _ _ _ _ (c .before .before .bef
 run-noted-requires : tie.Need-run-noted-requires
 run-noted-requires c κs = let ok = passed-by _ _ _ _ _ (c .before .before .before .before .before .before .before .before .record-check .ensures) (search needs) in ok .checks
 
-mul-t23 : tie.Need-mul-t23
-mul-t23 c =
-    let ok = passed-by _ _ _ _ _ (c .before .before .before .before .before .before .before .before .before .before .before .before .before .before .record-check .ensures) (search needs) in
-    record { fits = omega (arith, ok .few, c .before .before .before .before .before .run-noted .ensures .visited) }
-
-add-t24 : tie.Need-add-t24
-add-t24 c =
-    let ok = passed-by _ _ _ _ _ (c .before .before .before .before .before .before .before .before .before .before .before .before .before .before .record-check .ensures) (search needs) in
-    record { fits = omega (arith, ok .few, c .before .before .before .before .before .run-noted .ensures .visited) }
-
 same-length-2 : tie.Need-same-length-2
 same-length-2 c = search needs
 
@@ -43,7 +33,7 @@ same-length-3 : tie.Need-same-length-3
 same-length-3 c = search needs
 
 returns-2 : tie.Need-returns-2
-returns-2 c = stated-run _ _ _ _ _ (c .before .before .before .before .before .before .before .before .before .before .before .before .before .before .record-check .ensures) (search needs) (c .before .before .before .before .before .before .before .before .before .before .put-header .ensures) (c .before .before .before .before .before .run-noted .ensures)
+returns-2 c = stated-run _ _ _ _ _ (c .before .before .before .before .before .before .before .before .before .before .before .before .before .record-check .ensures) (search needs) (c .before .before .before .before .before .before .before .before .before .put-header .ensures) (c .before .before .before .before .run-noted .ensures)
 
 pub record-plane-spec : {M : Type 1} → statement M
 record-plane-spec =
@@ -56,8 +46,6 @@ record-plane-spec =
     enum-told
     put-header-requires
     run-noted-requires
-    mul-t23
-    add-t24
     same-length-2
     same-length-3
     returns-2)

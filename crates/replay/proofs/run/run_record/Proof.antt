@@ -1,21 +1,19 @@
--- `run_record` meets its contract: the entries passed have run. Assumes nothing.
-use mathlib.Core.Path.{refl}
-use borrow.Author.Needs.{needs}
-use mathlib.Core.Path.{_≡_}
+-- `run_record` meets its contract: the entries passed have run and are counted. Assumes nothing.
+use mathlib.Core.Path.{_≡_, refl}
 use Prim.Native.Nat.{_-_, _≤_}
 use native.Mathlib.Omega.{arith}
+use borrow.Author.Needs.{needs}
 use lib.ListN.{length}
-use Rattle.rules.specs.Numbers.{topOf}
-use Rattle.rules.specs.Segment.{runEdges}
+use Rattle.replay.specs.Fit.{Ran}
 use Rattle.replay.proofs.Entries.{firstEntries, replayed-none, replayed-more, replayed-end, entry-runs, runnable-same}
 use Rattle.replay.proofs.run.run_record.Statement.{statement}
 use Rattle.replay.proofs.run.run_record.Tie as tie
 
 abbrev Inv-loop : tie.InvT-loop
-Inv-loop plane₀ bytes s top n k₀ plane k = (k ≤ n) × (plane ≡ runEdges (topOf (s .depth)) (s .stride) (firstEntries bytes k) plane₀) × (length plane ≡ length plane₀)
+Inv-loop plane₀ bytes s top n stored₀ changed₀ k₀ plane stored changed k = (k ≤ n) × Ran s (firstEntries bytes k) plane₀ stored changed plane × (length plane ≡ length plane₀)
 
 abbrev μ-loop : tie.MeasureT-loop
-μ-loop plane₀ bytes s top n k₀ plane k = n - k
+μ-loop plane₀ bytes s top n stored₀ changed₀ k₀ plane stored changed k = n - k
 
 count-requires : tie.Need-count-requires Inv-loop μ-loop
 count-requires c κs = c .before .before .pre .ranged .header-there
@@ -33,7 +31,15 @@ entry-requires : tie.Need-entry-requires Inv-loop μ-loop
 entry-requires c κs = let e = c .before .before .before .before .before .count .ensures in omega arith
 
 filter-edge-requires : tie.Need-filter-edge-requires Inv-loop μ-loop
-filter-edge-requires c κs = entry-runs _ _ (let e = c .before .before .before .before .before .before .count .ensures in omega arith) (c .entry .ensures .0) (runnable-same (c .before .before .before .before .before .loop .inv .2) (c .before .before .before .before .before .before .before .before .before .pre))
+filter-edge-requires c κs =
+    let e = c .before .before .before .before .before .before .count .ensures in
+    entry-runs _ _ (omega arith) (c .entry .ensures .0) (runnable-same (c .before .before .before .before .before .loop .inv .2) (c .before .before .before .before .before .before .before .before .before .pre))
+
+wrapping-add-usize-requires : tie.Need-wrapping-add-usize-requires Inv-loop μ-loop
+wrapping-add-usize-requires c κs = search needs
+
+wrapping-add-usize-requires-2 : tie.Need-wrapping-add-usize-requires-2 Inv-loop μ-loop
+wrapping-add-usize-requires-2 c κs = search needs
 
 add-k : tie.Need-add-k Inv-loop μ-loop
 add-k c = omega arith
@@ -42,19 +48,11 @@ loop-less : tie.Need-loop-less Inv-loop μ-loop
 loop-less c = omega arith
 
 loop-again : tie.Need-loop-again Inv-loop μ-loop
-loop-again c = (
-  omega arith,
-  replayed-more
-      (c .before .before .before .before .before .before .before .before .before .before .before .before .args .s)
-      _
-      _
-      _
-      (c .before .before .before .before .before .before .before .before .loop .inv .1)
-      (c .before .before .before .entry .ensures .0)
-      (c .before .before .before .before .before .before .before .before .before .before .before .before .pre .top-is)
-      (c .before .before .filter-edge .ensures),
-  search needs,
-)
+loop-again c =
+    let start = c .before .before .before .before .before .before .before .before .before .before .before .before .before .before in
+    let turns = c .before .before .before .before .before .before .before .before .before .before .loop in
+    let more = c .before .wrapping-add-usize .ensures in
+    (omega arith, replayed-more (start .args .s) _ _ _ (turns .inv .1) (c .before .before .before .before .before .entry .ensures .0) (start .pre .top-is) (c .before .before .before .before .filter-edge .ensures) more (c .wrapping-add-usize2 .ensures), search needs)
 
 same-length : tie.Need-same-length Inv-loop μ-loop
 same-length c = search needs
@@ -74,6 +72,8 @@ run-record-spec =
     mul-filter-edge-2
     entry-requires
     filter-edge-requires
+    wrapping-add-usize-requires
+    wrapping-add-usize-requires-2
     add-k
     loop-less
     loop-again

@@ -6,8 +6,8 @@ use Rattle.replay_picture.proofs.frame.run_plane.Tie as tie
 replay-plane-requires : tie.Need-replay-plane-requires
 replay-plane-requires c κs = search needs
 
-enum-known-a : tie.Need-enum-known-a
-enum-known-a c = search needs
+enum-known-answer : tie.Need-enum-known-answer
+enum-known-answer c = search needs
 
 refused-requires : tie.Need-refused-requires
 refused-requires c κs = search needs
@@ -32,7 +32,7 @@ run-plane-spec =
     tie.close
     (tie.spec
     replay-plane-requires
-    enum-known-a
+    enum-known-answer
     refused-requires
     same-length
     returns

@@ -9,8 +9,8 @@ deblock-frame-requires c κs = search needs
 same-requires : tie.Need-same-requires
 same-requires c κs = search needs
 
-same-requires-2 : tie.Need-same-requires-2
-same-requires-2 c κs = search needs
+same-counted-requires : tie.Need-same-counted-requires
+same-counted-requires c κs = search needs
 
 both-requires : tie.Need-both-requires
 both-requires c κs = search needs
@@ -73,7 +73,7 @@ compare-spec =
     (tie.spec
     deblock-frame-requires
     same-requires
-    same-requires-2
+    same-counted-requires
     both-requires
     same-length
     same-length-2

@@ -21,8 +21,8 @@ slice-aggregate-read-buffer c = search needs
 read-buffer-requires : tie.Need-read-buffer-requires
 read-buffer-requires c κs = search needs
 
-read-told-requires : tie.Need-read-told-requires
-read-told-requires c κs = search needs
+read-counted-requires : tie.Need-read-counted-requires
+read-counted-requires c κs = search needs
 
 unread-requires : tie.Need-unread-requires
 unread-requires c κs = search needs
@@ -88,7 +88,7 @@ replay-samples-spec =
     read-u16s-requires-2
     slice-aggregate-read-buffer
     read-buffer-requires
-    read-told-requires
+    read-counted-requires
     unread-requires
     returns
     array-share-prefix-qindex

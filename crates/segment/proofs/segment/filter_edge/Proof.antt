@@ -1,8 +1,9 @@
 -- Nothing by a threshold of 0; else the edge by its offsets, in either direction.
+use mathlib.Core.Path.{_∙_}
 use native.Mathlib.Omega.{arith}
-use Rattle.segment.proofs.Edges.{fit-of, at-below, edge-filtered}
-use Rattle.segment.proofs.Zero.{edge-none, edge-lit}
 use borrow.Author.Needs.{needs}
+use Rattle.segment.proofs.Edges.{fit-of, at-below, place-vertical, place-horizontal, edge-filtered}
+use Rattle.segment.proofs.Zero.{edge-none, edge-lit}
 use Rattle.segment.proofs.segment.filter_edge.Statement.{statement}
 use Rattle.segment.proofs.segment.filter_edge.Tie as tie
 
@@ -12,18 +13,45 @@ off-requires c κs = search needs
 returns : tie.Need-returns
 returns c = edge-none _ _ (c .before .off .ensures) _ _ (c .if1 .taken)
 
-locate-requires : tie.Need-locate-requires
-locate-requires c κs = omega (arith, at-below (c .before .before .before .before .pre))
+upright-requires : tie.Need-upright-requires
+upright-requires c κs = omega (arith, at-below (c .before .before .before .before .before .before .pre))
 
 filter-segment-requires : tie.Need-filter-segment-requires
 filter-segment-requires c κs =
-    (fit-of (c .before .before .before .before .before .pre) (c .locate .ensures), edge-lit _ _ (c .before .before .before .off .ensures) (c .locate .ensures) (c .before .before .if1 .left))
+    let here = c .upright .ensures ∙ place-vertical _ _ (c .before .before .if2 .taken) in
+    (fit-of (c .before .before .before .before .before .before .before .pre) here, edge-lit _ _ (c .before .before .before .before .before .off .ensures) here (c .before .before .before .before .if1 .left))
 
 same-length : tie.Need-same-length
 same-length c = search needs
 
 returns-2 : tie.Need-returns-2
-returns-2 c = edge-filtered _ _ _ (c .before .before .before .locate .ensures) (c .before .before .filter-segment .ensures)
+returns-2 c = edge-filtered _ _ _ (c .before .before .before .upright .ensures ∙ place-vertical _ _ (c .before .before .before .before .before .if2 .taken)) (c .before .before .filter-segment .ensures)
+
+level-requires : tie.Need-level-requires
+level-requires c κs = omega (arith, at-below (c .before .before .before .before .before .before .pre))
+
+filter-segment-requires-2 : tie.Need-filter-segment-requires-2
+filter-segment-requires-2 c κs =
+    let here = c .level .ensures ∙ place-horizontal _ _ (c .before .before .if2 .left) in
+    (fit-of (c .before .before .before .before .before .before .before .pre) here, edge-lit _ _ (c .before .before .before .before .before .off .ensures) here (c .before .before .before .before .if1 .left))
+
+same-length-2 : tie.Need-same-length-2
+same-length-2 c = search needs
+
+returns-3 : tie.Need-returns-3
+returns-3 c = edge-filtered _ _ _ (c .before .before .before .level .ensures ∙ place-horizontal _ _ (c .before .before .before .before .before .if2 .left)) (c .before .before .filter-segment2 .ensures)
 
 pub filter-edge-spec : {M : Type 1} → statement M
-filter-edge-spec = tie.close (tie.spec off-requires returns locate-requires filter-segment-requires same-length returns-2)
+filter-edge-spec =
+    tie.close
+    (tie.spec
+    off-requires
+    returns
+    upright-requires
+    filter-segment-requires
+    same-length
+    returns-2
+    level-requires
+    filter-segment-requires-2
+    same-length-2
+    returns-3)

@@ -1,10 +1,10 @@
--- The plane so far holds the stores of the samples passed; the next sample is still as it was.
-use mathlib.Core.Path.{_≡_, refl}
-use Prim.Native.Nat.{_-_, _≤_}
+-- The plane so far holds the stores of the samples passed, with the count of those that changed; the next sample is still as it was.
 use native.Mathlib.Omega.{arith}
+use mathlib.Core.Path.{_≡_, refl}
+use Prim.Native.Nat.{_+_, _-_, _≤_}
 use borrow.Author.Needs.{needs}
 use lib.ListN.{length, length-set}
-use Rattle.laws.specs.Stores.{puts, puts-none, puts-end}
+use Rattle.laws.specs.Changes.{Put, put-none, put-end}
 use Rattle.segment.specs.Sides.{alongStores}
 use Rattle.segment.proofs.Places.{before-in}
 use Rattle.segment.proofs.Taps.{before-more}
@@ -12,28 +12,28 @@ use Rattle.segment.proofs.store.side_before.Statement.{statement}
 use Rattle.segment.proofs.store.side_before.Tie as tie
 
 abbrev Inv-loop : tie.InvT-loop
-Inv-loop plane₀ at step s plus by top i₀ plane i = (i ≤ s) × (length plane ≡ length plane₀) × (plane ≡ puts (alongStores top at step s plus by plane₀ i) plane₀)
+Inv-loop plane₀ at step s plus by top sofar changed₀ i₀ plane changed i = (i ≤ s) × (changed ≤ sofar + i) × (length plane ≡ length plane₀) × Put (alongStores top at step s plus by plane₀ i) plane₀ plane sofar changed
 
 abbrev μ-loop : tie.MeasureT-loop
-μ-loop plane₀ at step s plus by top i₀ plane i = s - i
+μ-loop plane₀ at step s plus by top sofar changed₀ i₀ plane changed i = s - i
 
 loop-holds : tie.Need-loop-holds Inv-loop μ-loop
-loop-holds c = (omega arith, refl, puts-none _ _)
+loop-holds c = (omega arith, omega arith, refl, put-none _ _ _)
 
 add-k : tie.Need-add-k Inv-loop μ-loop
 add-k c = search needs
 
 mul-k : tie.Need-mul-k Inv-loop μ-loop
-mul-k c = omega (arith, before-in (c .before .loop .i) (c .before .before .before .args .s) (c .before .before .before .args .step) (c .before .before .before .args .at) (c .loop-test .taken) (c .before .before .before .pre .3))
+mul-k c = omega (arith, before-in (c .before .loop .i) (c .before .before .before .args .s) (c .before .before .before .args .step) (c .before .before .before .args .at) (c .loop-test .taken) (c .before .before .before .pre .4))
 
 sub-k : tie.Need-sub-k Inv-loop μ-loop
-sub-k c = before-in (c .before .loop .i) (c .before .before .before .args .s) (c .before .before .before .args .step) (c .before .before .before .args .at) (c .loop-test .taken) (c .before .before .before .pre .3)
+sub-k c = before-in (c .before .loop .i) (c .before .before .before .args .s) (c .before .before .before .args .step) (c .before .before .before .args .at) (c .loop-test .taken) (c .before .before .before .pre .4)
 
 mul-move-before : tie.Need-mul-move-before Inv-loop μ-loop
-mul-move-before c = omega (arith, before-in (c .before .loop .i) (c .before .before .before .args .s) (c .before .before .before .args .step) (c .before .before .before .args .at) (c .loop-test .taken) (c .before .before .before .pre .3))
+mul-move-before c = omega (arith, before-in (c .before .loop .i) (c .before .before .before .args .s) (c .before .before .before .args .step) (c .before .before .before .args .at) (c .loop-test .taken) (c .before .before .before .pre .4))
 
 slice-read-move-before : tie.Need-slice-read-move-before Inv-loop μ-loop
-slice-read-move-before c = omega (arith, before-in (c .before .before .loop .i) (c .before .before .before .before .args .s) (c .before .before .before .before .args .step) (c .before .before .before .before .args .at) (c .before .loop-test .taken) (c .before .before .before .before .pre .3))
+slice-read-move-before c = omega (arith, before-in (c .before .before .loop .i) (c .before .before .before .before .args .s) (c .before .before .before .before .args .step) (c .before .before .before .before .args .at) (c .before .loop-test .taken) (c .before .before .before .before .pre .4))
 
 sub-move-before : tie.Need-sub-move-before Inv-loop μ-loop
 sub-move-before c = search needs
@@ -42,10 +42,13 @@ move-before-requires : tie.Need-move-before-requires Inv-loop μ-loop
 move-before-requires c κs = search needs
 
 mul-plane : tie.Need-mul-plane Inv-loop μ-loop
-mul-plane c = omega (arith, before-in (c .before .before .before .loop .i) (c .before .before .before .before .before .args .s) (c .before .before .before .before .before .args .step) (c .before .before .before .before .before .args .at) (c .before .before .loop-test .taken) (c .before .before .before .before .before .pre .3))
+mul-plane c = omega (arith, before-in (c .before .before .before .loop .i) (c .before .before .before .before .before .args .s) (c .before .before .before .before .before .args .step) (c .before .before .before .before .before .args .at) (c .before .before .loop-test .taken) (c .before .before .before .before .before .pre .4))
 
 slice-write-plane : tie.Need-slice-write-plane Inv-loop μ-loop
-slice-write-plane c = omega (arith, before-in (c .before .before .before .loop .i) (c .before .before .before .before .before .args .s) (c .before .before .before .before .before .args .step) (c .before .before .before .before .before .args .at) (c .before .before .loop-test .taken) (c .before .before .before .before .before .pre .3))
+slice-write-plane c = omega (arith, before-in (c .before .before .before .loop .i) (c .before .before .before .before .before .args .s) (c .before .before .before .before .before .args .step) (c .before .before .before .before .before .args .at) (c .before .before .loop-test .taken) (c .before .before .before .before .before .pre .4))
+
+add-changed : tie.Need-add-changed Inv-loop μ-loop
+add-changed c = omega (arith, c .before .move-before .ensures)
 
 add-i : tie.Need-add-i Inv-loop μ-loop
 add-i c = search needs
@@ -55,24 +58,35 @@ loop-less c = search needs
 
 loop-again : tie.Need-loop-again Inv-loop μ-loop
 loop-again c =
-    let inv = c .before .before .before .loop .inv in (
+    let start = c .before .before .before .before .before .before in
+    let inv = c .before .before .before .before .loop .inv in
+    let moved = c .before .move-before .ensures in (
       omega arith,
-      simp length-set (inv .1),
+      omega arith,
+      simp length-set (inv .2),
       before-more _ _ _ _ _ _
-          (c .before .before .before .before .before .args .plane .now)
-          (c .before .before .before .before .before .pre .2)
+          (start .args .plane .now)
+          (start .pre .3)
           _
           _
-          (before-in (c .before .before .before .loop .i) (c .before .before .before .before .before .args .s) (c .before .before .before .before .before .args .step) (c .before .before .before .before .before .args .at) (c .before .before .loop-test .taken) (c .before .before .before .before .before .pre .3))
-          (inv .2)
-          (c .move-before .ensures),
+          _
+          (before-in
+          (c .before .before .before .before .loop .i)
+          (c .before .before .before .before .before .before .args .s)
+          (c .before .before .before .before .before .before .args .step)
+          (c .before .before .before .before .before .before .args .at)
+          (c .before .before .before .loop-test .taken)
+          (c .before .before .before .before .before .before .pre .4))
+          (inv .3)
+          (moved .0)
+          (moved .1),
     )
 
 same-length : tie.Need-same-length Inv-loop μ-loop
 same-length c = search needs
 
 returns : tie.Need-returns Inv-loop μ-loop
-returns c = let inv = c .before .loop .inv in puts-end _ _ _ _ (inv .2) (inv .0) (omega arith)
+returns c = let inv = c .before .loop .inv in (put-end _ _ _ _ (inv .3) (inv .0) (omega arith), omega arith)
 
 pub side-before-spec : {M : Type 1} → statement M
 side-before-spec =
@@ -90,6 +104,7 @@ side-before-spec =
     move-before-requires
     mul-plane
     slice-write-plane
+    add-changed
     add-i
     loop-less
     loop-again

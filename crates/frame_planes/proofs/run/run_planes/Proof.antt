@@ -1,0 +1,41 @@
+-- `run_planes` leaves each plane as its run does, and adds what the three tell. Assumes nothing.
+use Rattle.frame_planes.proofs.Counted.{frame-run}
+use borrow.Author.Needs.{needs}
+use Rattle.frame_planes.proofs.run.run_planes.Statement.{statement}
+use Rattle.frame_planes.proofs.run.run_planes.Tie as tie
+
+run-requires : tie.Need-run-requires
+run-requires c κs = search needs
+
+run-requires-2 : tie.Need-run-requires-2
+run-requires-2 c κs = λ on. c .before .before .before .before .before .before .before .before .before .before .before .before .before .before .before .before .before .before .before .pre .1 on .0
+
+run-requires-3 : tie.Need-run-requires-3
+run-requires-3 c κs = λ on. c .before .before .before .before .before .before .before .before .before .before .before .before .before .before .before .before .before .before .before .before .before .before .before .pre .1 on .1
+
+add-t25 : tie.Need-add-t25
+add-t25 c = search needs
+
+add-t26 : tie.Need-add-t26
+add-t26 c = search needs
+
+add-t27 : tie.Need-add-t27
+add-t27 c = search needs
+
+add-t28 : tie.Need-add-t28
+add-t28 c = search needs
+
+same-length : tie.Need-same-length
+same-length c = search needs
+
+same-length-2 : tie.Need-same-length-2
+same-length-2 c = search needs
+
+same-length-3 : tie.Need-same-length-3
+same-length-3 c = search needs
+
+returns : tie.Need-returns
+returns c = frame-run (c .before .before .before .before .before .before .before .before .before .before .before .before .before .before .before .before .run .ensures) (c .before .before .before .before .before .before .before .before .before .before .before .before .run2 .ensures) (c .before .before .before .before .before .before .before .before .run3 .ensures)
+
+pub run-planes-spec : {M : Type 1} → statement M
+run-planes-spec = tie.close (tie.spec run-requires run-requires-2 run-requires-3 add-t25 add-t26 add-t27 add-t28 same-length same-length-2 same-length-3 returns)
