@@ -30,6 +30,8 @@ mod random;
 mod record;
 #[path = "src/refusals.rs"]
 mod refusals;
+#[path = "src/replay.rs"]
+mod replay;
 #[path = "src/rust.rs"]
 mod rust;
 #[path = "src/segment.rs"]
