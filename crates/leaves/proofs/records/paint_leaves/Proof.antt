@@ -335,7 +335,9 @@ module _ {M : Type 1} (𝓤 : URA M) (H : Heap 𝓤) (A : Atoms 𝓤) (W : Given
 
   -- the locals once the parameters are passed: local k stands at 2 · (22 − k)
   abbrev Begun : ℕ → ℕ → ℕ → ℕ → ℕ → ℕ → ℕ → ℕ → ℕ → ℕ → ℕ → ℕ → ℕ → ℕ → ℕ → ℕ → ℕ → ℕ → ℕ → ℕ → ℕ → ℕ → ℕ → List (Item 𝓤)
-  Begun l₀ l₁ l₂ l₃ l₄ l₅ l₆ l₇ l₈ l₉ l₁₀ l₁₁ l₁₂ l₁₃ l₁₄ l₁₅ l₁₆ l₁₇ l₁₈ l₁₉ l₂₀ l₂₁ l₂₂ = ‵ (froom (sliceTy lentTy) l₂₂ 0) ∷ ‵ (fdies (sliceTy lentTy) l₂₂) ∷ ‵ (froom lentTy l₂₁ 0) ∷ ‵ (fdies lentTy l₂₁) ∷ ‵ (froom (sliceTy lentTy) l₂₀ 0) ∷ ‵ (fdies (sliceTy lentTy) l₂₀) ∷ ‵ (froom lentTy l₁₉ 0) ∷ ‵ (fdies lentTy l₁₉)
+  Begun l₀ l₁ l₂ l₃ l₄ l₅ l₆ l₇ l₈ l₉ l₁₀ l₁₁ l₁₂ l₁₃ l₁₄ l₁₅ l₁₆ l₁₇ l₁₈ l₁₉ l₂₀ l₂₁ l₂₂ =
+      ‵ (froom (sliceTy lentTy) l₂₂ 0) ∷ ‵ (fdies (sliceTy lentTy) l₂₂) ∷ ‵ (froom lentTy l₂₁ 0) ∷ ‵ (fdies lentTy l₂₁)
+      ∷ ‵ (froom (sliceTy lentTy) l₂₀ 0) ∷ ‵ (fdies (sliceTy lentTy) l₂₀) ∷ ‵ (froom lentTy l₁₉ 0) ∷ ‵ (fdies lentTy l₁₉)
       ∷ ‵ (froom (sliceTy lentTy) l₁₈ 0) ∷ ‵ (fdies (sliceTy lentTy) l₁₈) ∷ ‵ (froom lentTy l₁₇ 0) ∷ ‵ (fdies lentTy l₁₇) ∷ ‵ (froom (sliceTy lentTy) l₁₆ 0) ∷ ‵ (fdies (sliceTy lentTy) l₁₆) ∷ ‵ (froom lentTy l₁₅ 0) ∷ ‵ (fdies lentTy l₁₅)
       ∷ ‵ (froom tyUnit l₁₄ 0) ∷ ‵ (fdies tyUnit l₁₄) ∷ ‵ (froom T′.mir l₁₃ 0) ∷ ‵ (fdies T′.mir l₁₃) ∷ ‵ (froom tyPtr l₁₂ 0) ∷ ‵ (fdies tyPtr l₁₂) ∷ ‵ (froom tyBool l₁₁ 0) ∷ ‵ (fdies tyBool l₁₁)
       ∷ ‵ (froom word l₁₀ 0) ∷ ‵ (fdies word l₁₀) ∷ ‵ (froom T′.mir l₉ 0) ∷ ‵ (fdies T′.mir l₉) ∷ ‵ (froom word l₈ 0) ∷ ‵ (fdies word l₈) ∷ ‵ (fat fullShare tyBool l₇ 0 (vbool skip)) ∷ ‵ (fdies tyBool l₇)
