@@ -137,6 +137,7 @@ runChanged s steps g l = changedBy (topOf (s .depth)) (s .stride) (edgesOf s ste
 -- ---- the checks
 
 -- "mi_cols and mi_rows 1..1024. Stride 4·mi_cols..8192. width 1..4·mi_cols and height 1..4·mi_rows. Superblock width and height in cells: 8 or 16 each."
+-- Ticket 6 needs these widths: from two cells on the order of superblocks leaves the plane of all vertical edges and then all horizontal ones; "with a width of one cell it would be false"
 unfoldable pub planeSizesOk : Plane → Bool
 planeSizesOk s =
     all
