@@ -56,7 +56,7 @@ module _ (f : Frame) (steps : List ℕ) (l c : Grid) (p : Planes) {a : Answer} (
 
 -- ---- the ways out of the entry
 
-module _ (f : Frame) (n : Given) (p : Planes) (l c : Grid) {a : Answer} (is : a ≡ frameEarly f (lengthsOf n (lent p (grids l c))) n) where
+module _ (f : Frame) (n : Given) (p : Planes) (l c : Grid) {a : Answer} (is : a ≡ frameEarly f (lengthsOf n (lent p (grids l c))) (l .tiles) (c .tiles) n) where
   refused-is : {r : Refusal} → a ≡ Refused r → frameOf f n (lent p (grids l c)) ≡ done (Refused r) (lent p (grids l c))
   unfolding frameOf orDone
   refused-is e = rw (sym is ∙ e)

@@ -9,7 +9,7 @@ use Rattle.rules.specs.declared.refusals.Answer.the-variants.{Accepted}
 use Rattle.rules.specs.declared.refusals.Found.the-variants.{Nothing}
 use Rattle.rules.specs.Numbers.{deltaOk}
 use Rattle.rules.specs.Thresholds.{stepsCheck}
-use Rattle.rules.specs.Plane.{Grid, planeLengthsOk, badCell}
+use Rattle.rules.specs.Plane.{Grid, tilesCheck, planeLengthsOk, badCell}
 use Rattle.frame_checks.specs.Settings.{planeOf}
 use Rattle.frame_planes.specs.Fit.{Sampled}
 
@@ -19,8 +19,9 @@ pub record Stepped (f : Frame) (chroma : Bool) (steps : List ℕ) : Type 0 where
   pub deltaq-ok : deltaOk (planeOf f chroma .deltaq) ≡ true
   pub deltaside-ok : deltaOk (planeOf f chroma .deltaside) ≡ true
 
--- a plane of size samples with a grid that is long enough and whose cells are good
+-- a plane of size samples with a grid that is long enough, and whose tile starts and cells are good
 pub record Gridded (f : Frame) (chroma : Bool) (g : Grid) (size : ℕ) : Type 0 where
   pub sampled : Sampled f chroma size
   pub lengths : planeLengthsOk (planeOf f chroma) g size ≡ true
+  pub tiles-ok : tilesCheck (planeOf f chroma .cols) (g .tiles) ≡ Accepted
   pub cells : badCell (planeOf f chroma) g ≡ Nothing

@@ -7,7 +7,7 @@ use rules::lent::GridLengths;
 use rules::refusals::Answer;
 use rules::refusals::PlaneAnswer;
 use rules::settings::Frame;
-ghost use Rattle.rules.specs.Plane.{grid};
+ghost use Rattle.rules.specs.Plane.{tiled};
 ghost use Rattle.rules.specs.Frame.{planes, grids, lent, given};
 ghost use Rattle.frame.specs.Stated.{Stated};
 
@@ -31,17 +31,19 @@ pub fn deblock_frame(
     leaves: &[u16],
     chromaleaves: &[u16],
     skips: &[u16],
+    tiles: &[u16],
+    chromatiles: &[u16],
     f: Frame,
 ) -> PlaneAnswer
     ensures { λ a. ⌜ Stated f
         (given (now (steps .entry)) (now (sbq .entry)) (now (leaves .entry)) (now (chromaleaves .entry)) (now (skips .entry)))
         (lent
         (planes (now (y .entry)) (now (u .entry)) (now (v .entry)))
-        (grids (grid (now (lv .entry)) (now (lh .entry)) (now (lw .entry)) (now (lt .entry)) (now (lq .entry))) (grid (now (cv .entry)) (now (ch .entry)) (now (cw .entry)) (now (ct .entry)) (now (cq .entry)))))
+        (grids (tiled (now (lv .entry)) (now (lh .entry)) (now (lw .entry)) (now (lt .entry)) (now (lq .entry)) (now (tiles .entry))) (tiled (now (cv .entry)) (now (ch .entry)) (now (cw .entry)) (now (ct .entry)) (now (cq .entry)) (now (chromatiles .entry)))))
         a
         (lent
         (planes (now (y .exit)) (now (u .exit)) (now (v .exit)))
-        (grids (grid (now (lv .exit)) (now (lh .exit)) (now (lw .exit)) (now (lt .exit)) (now (lq .exit))) (grid (now (cv .exit)) (now (ch .exit)) (now (cw .exit)) (now (ct .exit)) (now (cq .exit))))) ⌝ }
+        (grids (tiled (now (lv .exit)) (now (lh .exit)) (now (lw .exit)) (now (lt .exit)) (now (lq .exit)) (now (tiles .entry))) (tiled (now (cv .exit)) (now (ch .exit)) (now (cw .exit)) (now (ct .exit)) (now (cq .exit)) (now (chromatiles .entry))))) ⌝ }
 {
     let luma = GridLengths {
         vedge: lv.len(),
@@ -68,7 +70,7 @@ pub fn deblock_frame(
         chromaleaves: chromaleaves.len(),
         skips: skips.len(),
     };
-    let a = frame_early(steps, leaves, chromaleaves, skips, f, n);
+    let a = frame_early(steps, leaves, chromaleaves, skips, tiles, chromatiles, f, n);
     if let Answer::Refused(r) = a {
         return PlaneAnswer {
             answer: Answer::Refused(r),
@@ -78,5 +80,23 @@ pub fn deblock_frame(
     }
     build(lv, lh, lw, lt, lq, leaves, skips, sbq, f, false);
     build(cv, ch, cw, ct, cq, chromaleaves, skips, sbq, f, true);
-    filter(y, u, v, lv, lh, lw, lt, lq, cv, ch, cw, ct, cq, steps, f)
+    filter(
+        y,
+        u,
+        v,
+        lv,
+        lh,
+        lw,
+        lt,
+        lq,
+        tiles,
+        cv,
+        ch,
+        cw,
+        ct,
+        cq,
+        chromatiles,
+        steps,
+        f,
+    )
 }

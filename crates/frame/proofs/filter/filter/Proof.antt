@@ -9,7 +9,7 @@ use Rattle.frame.proofs.filter.filter.Tie as tie
 
 late-requires : tie.Need-late-requires
 late-requires c κs =
-    let p = c .before .before .before .before .before .before .before .before .before .before .before .before .before .before .before .before .before .pre in
+    let p = c .before .before .before .before .before .before .before .before .before .before .before .before .before .before .before .before .before .before .before .pre in
     ((p .0 .1 .sampled, λ on. (p .1 on .1 .sampled, p .1 on .2 .sampled)), (marked (p .0 .1), λ on. marked (p .1 on .1)))
 
 enum-known-a : tie.Need-enum-known-a
@@ -32,7 +32,7 @@ enum-told c = search needs
 
 run-planes-requires : tie.Need-run-planes-requires
 run-planes-requires c κs =
-    let p = c .before .before .before .before .before .before .before .before .before .before .before .before .before .before .before .before .before .before .before .before .before .before .before .pre in
+    let p = c .before .before .before .before .before .before .before .before .before .before .before .before .before .before .before .before .before .before .before .before .before .before .before .before .before .pre in
     let is = c .before .before .before .before .before .late .ensures in
     let ok = c .before .before .before .enum-told .given .1 in
     (runnable (p .0 .1) (p .0 .0) (luma-room _ _ _ _ (is _ []) ok), λ on. (runnable (p .1 on .1) (p .1 on .0) (chroma-room _ _ _ _ (is [] _) ok on), runnable (p .1 on .2) (p .1 on .0) (chroma-room _ _ _ _ (is [] _) ok on)))
