@@ -55,7 +55,8 @@ long-enough s n v h w t q ts a b c d e f = rw (le-leb _ _ a, le-leb _ _ b, le-le
 
 -- lists of the same lengths that hold the built grid
 module _ {f : Frame} {chroma : Bool} {ls ks : List ℕ} (sbq : List ℕ) (g : Grid) {size count : ℕ} {v h w t q : List ℕ} {lv lh lw lt lq : ℕ} (ts : List ℕ) where
-  pub gridded : Sampled f chroma size → Buildable f chroma ls ks count lv lh lw lt lq → length v ≡ lv → length h ≡ lh → length w ≡ lw → length t ≡ lt → length q ≡ lq → kindOn f chroma ≡ true → tilesCheck (planeOf f chroma .cols) ts ≡ Accepted → tiled v h w t q ts ≡ pick (kindOn f chroma) (builtGrid (tuOf f chroma) (qOf f chroma) ls ks sbq g) g → Gridded f chroma (tiled v h w t q ts) size
+  pub gridded : Sampled f chroma size → Buildable f chroma ls ks count lv lh lw lt lq → length v ≡ lv → length h ≡ lh → length w ≡ lw → length t ≡ lt → length q ≡ lq
+      → kindOn f chroma ≡ true → tilesCheck (planeOf f chroma .cols) ts ≡ Accepted → tiled v h w t q ts ≡ pick (kindOn f chroma) (builtGrid (tuOf f chroma) (qOf f chroma) ls ks sbq g) g → Gridded f chroma (tiled v h w t q ts) size
   unfolding pick
   gridded sampled b ev eh ew et eq on starts is =
       record {

@@ -3,6 +3,7 @@ use frame_planes::late::late;
 use frame_planes::run::run_planes;
 use rules::refusals::Answer;
 use rules::refusals::PlaneAnswer;
+use rules::refusals::Refusal;
 use rules::settings::Frame;
 ghost use mathlib.Core.Path.{_≡_};
 ghost use mathlib.Core.Bool.{true, false};
@@ -10,7 +11,18 @@ ghost use lib.ListN.{length};
 ghost use Rattle.rules.specs.Plane.{tiled};
 ghost use Rattle.rules.specs.Frame.{planes, grids, chromaOn};
 ghost use Rattle.frame.specs.Fit.{Gridded, Stepped};
-ghost use Rattle.frame.specs.Stated.{Finished};
+ghost use Rattle.frame.specs.Stated.{refusedBy, Finished};
+
+// A refusal tells of no samples.
+pub fn refused(r: Refusal) -> PlaneAnswer
+    ensures { λ a. ⌜ a ≡ refusedBy r ⌝ }
+{
+    PlaneAnswer {
+        answer: Answer::Refused(r),
+        stored: 0,
+        changed: 0,
+    }
+}
 
 // Filters the planes and tells how many samples that stored and changed; or refuses them, and tells of none.
 pub fn filter(
@@ -43,11 +55,7 @@ pub fn filter(
 {
     let a = late(y, u, v, lv, lh, lw, lt, ltiles, cv, ch, cw, ct, ctiles, f);
     if let Answer::Refused(r) = a {
-        return PlaneAnswer {
-            answer: Answer::Refused(r),
-            stored: 0,
-            changed: 0,
-        };
+        return refused(r);
     }
     let n = run_planes(
         y,
