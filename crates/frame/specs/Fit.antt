@@ -1,4 +1,4 @@
--- What checking and filtering a plane of a frame by its built grid ask.
+-- What checking and filtering a plane of a frame by its built grid ask, and how long a frame's lists are.
 -- Assumes nothing.
 use mathlib.Core.Path.{_≡_}
 use mathlib.Core.Bool.{Bool, true}

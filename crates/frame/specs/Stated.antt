@@ -1,4 +1,4 @@
--- What a frame's filter and its entry state: the answer with the counts, and the lent lists afterwards.
+-- What a frame's filter and its entry state: the answer with the counts, a refusal's of none, and the lent lists afterwards.
 -- Assumes nothing.
 use mathlib.Core.Path.{_≡_}
 use mathlib.Core.List.{List}

@@ -1,4 +1,4 @@
-// The planes of a frame whose grids are built: the late checks, and the planes run where they accept.
+// The planes of a frame whose grids are built: the late checks, the planes run where they accept, and what a refusal tells.
 use frame_planes::late::late;
 use frame_planes::run::run_planes;
 use rules::refusals::Answer;

@@ -1,4 +1,4 @@
-// A frame's entry: the early checks, both grids built, and the planes filtered by them.
+// A frame's entry: the lengths of its lists, the early checks, both grids built, and the planes filtered by them.
 use super::filter::filter;
 use super::filter::refused;
 use frame_checks::early::frame_early;
