@@ -6,6 +6,7 @@ use mathlib.Core.List.{List, []}
 use Prim.Native.Nat.{ℕ, _*_, _/_, _%_, _≤_, _<_, min}
 use native.Mathlib.Omega.{arith}
 use borrow.Author.Needs.{needs}
+use borrow.Author.Tests.{ne-eqb}
 use lib.Dec.{eqb}
 use lib.ListN.{getD}
 use Rattle.laws.specs.Choose.{pick, told-yes-not}
@@ -32,6 +33,11 @@ block-most t k l = let h : min k 1415 ≤ 1415 = omega arith in (l .q-most (min 
 pub short-is : {s : Plane} {steps ts t : List ℕ} → Table s steps ts t → (m z q : List ℕ) (dir r c : ℕ) → c < s .cols → shortBy s (startBy t c) dir r ≡ shortenedAt s (oneWay m z q ts) dir r c
 unfolding shortBy shortenedAt
 short-is {s} of m z q dir r c h = ap (λ (b : Bool). pick (eqb dir 0) b (eqb (r % s .sbh) 0)) (of .starts c h)
+
+-- in another direction than 0 tile starts say nothing
+pub short-row : (s : Plane) (start : Bool) (dir r : ℕ) {u : Bool} → (dir ≡ 0 → ⊥) → u ≡ shortBy s false dir r → u ≡ shortBy s start dir r
+unfolding shortBy pick
+short-row s start dir r h e = e ∙ rw (ne-eqb dir 0 h)
 
 -- what the code made is the edge
 module _ (s : Plane)

@@ -12,13 +12,26 @@ use records::note;
 use rules::depth::Depth;
 use rules::settings::Plane;
 use segment::filter_edge;
+ghost use mathlib.Core.Path.{_≡_};
 ghost use Prim.Native.Nat.{_+_, _*_, _≤_, _<_};
 ghost use lib.Dec.{eqb};
 ghost use lib.ListN.{length};
 ghost use Rattle.laws.specs.Choose.{pick};
 ghost use Rattle.rules.specs.Plane.{tiled, visitOf, sbCols, turnOf, edgesOf};
-ghost use Rattle.cells.specs.Fit.{Cell, oneWay};
-ghost use Rattle.plane.specs.Run.{Field, PartOf, InPart, inLine, lineOf, inSweep, none, Most, state, Ran, RanFew};
+ghost use Rattle.cells.specs.Fit.{Sizes, Cell, oneWay, shortBy};
+ghost use Rattle.plane.specs.Run.{startBy, Field, PartOf, InPart, inLine, lineOf, inSweep, none, Most, state, Ran, RanFew};
+
+// Whether a cell's edge is shortened. Tile starts are looked up for a vertical edge alone: with less to do for a horizontal one the compiler
+// makes a visit for each direction.
+fn is_short(table: &[u32; 2440], s: Plane, dir: usize, r: usize, c: usize) -> bool
+    requires { ⌜ Sizes s × (c < s .cols) ⌝ }
+    ensures { λ t. ⌜ t ≡ shortBy s (startBy (now (table .entry)) c) dir r ⌝ }
+{
+    if dir == 0 {
+        return table[1416 + c] == 1;
+    }
+    shortened_by(s, false, dir, r)
+}
 
 // The edge of one cell, where it has one.
 fn visit(
@@ -40,8 +53,7 @@ fn visit(
     if !is_edge(marks, s, dir, r, c) {
         return done;
     }
-    let start = table[1416 + c] == 1;
-    let shortened = shortened_by(s, start, dir, r);
+    let shortened = is_short(table, s, dir, r, c);
     let e = edge_at(sizes, qindex, table, s, shortened, dir, r, c);
     note(buffer, done.bytes, e);
     let depth = Depth { bits: s.depth };
