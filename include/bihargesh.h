@@ -25,7 +25,7 @@
 extern "C" {
 #endif
 
-#define BIHARGESH_VERSION "2.0.0"
+#define BIHARGESH_VERSION "3.0.0"
 
 /* Why a call is refused; the answer is minus this. */
 enum bihargesh_refusal {
@@ -33,7 +33,7 @@ enum bihargesh_refusal {
   BIHARGESH_BAD_SIZE = 2,    /* a size, stride, subsampling or count is out of range */
   BIHARGESH_BAD_LENGTH = 3,  /* a list other than the step table is shorter than needed, or a list of leaves is cut */
   BIHARGESH_BAD_STEPS = 4,   /* the step table is not 352 entries from 64 on, each at most 1048576 */
-  BIHARGESH_BAD_SETTING = 5, /* a delta, cap, threshold, length pair or CCSO setting is out of range */
+  BIHARGESH_BAD_SETTING = 5, /* a delta, cap, threshold, length pair, tile start or CCSO setting is out of range */
   BIHARGESH_BAD_CELL = 6,    /* a grid cell has a bad mark or size index */
   BIHARGESH_NO_ROOM = 7,     /* an edge lacks room */
   BIHARGESH_BAD_SAMPLE = 8,  /* a used sample exceeds 2^depth - 1 */
@@ -79,25 +79,28 @@ enum bihargesh_plane_setting {
 /* Filters every marked edge of a plane, in document 01's order, and answers 0.
  * plane has rows of stride samples. The grid has a number for each cell of 4x4 samples, row by row: vedge and hedge mark (0 or 1) an
  * edge at the cell's left and upper side, sqw and sqh are the size indices 0..6 of its block, qindex is its block's.
+ * tiles has the column of cells in which each tile but the first begins, strictly rising, each above 0 and below cols (5 if not). The vertical edges
+ * in these columns have the shortened pair of lengths, as the horizontal ones in the first row of a superblock have; an empty list is one tile.
+ * An edge's room is that of the pair which it has: in chroma a shortened one has room at column 1 where the other has none.
  * steps is the table of 352 AC steps. Only samples of 4*cols by 4*rows change.
  * settings, eleven numbers: cols and rows (cells each way, 1..1024), stride (4*cols..8192), width (1..4*cols) and height (1..4*rows)
  * of the border test, superblock width and height in cells (8 or 16), chroma (0 or 1; 2 if not), depth, delta_q and delta_side
  * (-128..127). Refusals 1, 2, 3, 4, 5, 6, 7, 8, in this order. */
 int32_t bihargesh_plane(uint16_t *plane, size_t plane_len, const uint8_t *vedge, size_t vedge_len, const uint8_t *hedge, size_t hedge_len,
                         const uint8_t *sqw, size_t sqw_len, const uint8_t *sqh, size_t sqh_len, const uint16_t *qindex, size_t qindex_len,
-                        const uint32_t *steps, size_t steps_len, const int32_t *settings, size_t settings_len,
+                        const uint16_t *tiles, size_t tiles_len, const uint32_t *steps, size_t steps_len, const int32_t *settings, size_t settings_len,
                         size_t *place, size_t place_len, size_t *counts, size_t counts_len);
 
 /* Filters a plane as bihargesh_plane does, writes a record of every edge into the beginning of `record`, and answers the record's length in bytes.
  * The record: the three bytes `EDG`, the version 1 in two bytes, and ten bytes for each marked edge in the order in which they are filtered: x and y
  * (two bytes each, of the first sample after the edge), direction (one byte, 0 for vedge and 1 for hedge), number of the length pair (one byte, 0..7),
  * q and side (two bytes each), low byte first. An edge that filters nothing is in it too; column 0 has no vertical edge and row 0 no horizontal one.
- * Bytes after the record are kept. 5 + 20 * cols * rows bytes are always enough. The grid, steps and settings are bihargesh_plane's.
+ * Bytes after the record are kept. 5 + 20 * cols * rows bytes are always enough. The grid, tiles, steps and settings are bihargesh_plane's.
  * Refusals 1, 2, 3, 4, 5, 6, 7, 8, 10, in this order; each leaves the plane and `record` as lent. A short `record` is refused by 10 and never by 3. */
 int32_t bihargesh_record_plane(uint16_t *plane, size_t plane_len, uint8_t *record, size_t record_len,
                                const uint8_t *vedge, size_t vedge_len, const uint8_t *hedge, size_t hedge_len,
                                const uint8_t *sqw, size_t sqw_len, const uint8_t *sqh, size_t sqh_len, const uint16_t *qindex, size_t qindex_len,
-                               const uint32_t *steps, size_t steps_len, const int32_t *settings, size_t settings_len,
+                               const uint16_t *tiles, size_t tiles_len, const uint32_t *steps, size_t steps_len, const int32_t *settings, size_t settings_len,
                                size_t *place, size_t place_len, size_t *counts, size_t counts_len);
 
 /* Where the settings of a plane stand on which a record is run. */
@@ -190,8 +193,8 @@ enum bihargesh_frame_setting {
 /* Filters a whole frame: builds the grids of luma and chroma from leaves and superblocks, and filters luma, then u and v. Answers 0.
  * Each grid is five lists as in bihargesh_plane, which hold afterwards what was built; a refusal by 7 or 8 also leaves them built, and every
  * other refusal leaves them as lent. leaves, chroma_leaves and skips are as in bihargesh_tx_grid, in luma cells; superblocks is as in
- * bihargesh_qindex_grid, in rows of ceil(width/64). Without chroma, or with chroma_deblock 0, the planes u and v, their stride and chroma's
- * grid are neither tested nor touched.
+ * bihargesh_qindex_grid, in rows of ceil(width/64). tiles and chroma_tiles are as in bihargesh_plane, in cells of luma and of chroma.
+ * Without chroma, or with chroma_deblock 0, the planes u and v, their stride, chroma's grid and chroma_tiles are neither tested nor touched.
  * settings, fifteen numbers: luma width and height (1..4096), subsampling across and down (0 0, 1 0 or 1 1), has_chroma and chroma_deblock
  * (0 or 1; 2 if not), depth, luma's delta and chroma's (-128..127), luma's stride and chroma's, largest TU width and height in cells of luma,
  * then of chroma (1, 2, 4, 8 or 16). Refusals 1, 2, 3, 4, 5, 9, 6, 7, 8, in this order, luma before chroma in each. */
@@ -204,7 +207,8 @@ int32_t bihargesh_frame(uint16_t *y, size_t y_len, uint16_t *u, size_t u_len, ui
                         uint16_t *chroma_qindex, size_t chroma_qindex_len,
                         const uint32_t *steps, size_t steps_len, const uint16_t *superblocks, size_t superblocks_len,
                         const uint16_t *leaves, size_t leaves_len, const uint16_t *chroma_leaves, size_t chroma_leaves_len,
-                        const uint16_t *skips, size_t skips_len, const int32_t *settings, size_t settings_len,
+                        const uint16_t *skips, size_t skips_len, const uint16_t *tiles, size_t tiles_len,
+                        const uint16_t *chroma_tiles, size_t chroma_tiles_len, const int32_t *settings, size_t settings_len,
                         size_t *place, size_t place_len, size_t *counts, size_t counts_len);
 
 /* Where CCSO's settings stand. */

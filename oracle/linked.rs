@@ -5,6 +5,7 @@
 //! The cases are the oracle's, with its answers: the Rust's where a case is accepted, document 01's refusals where not. Here they are lent as C
 //! lends them, with a settings list that is sometimes too short or longer than needed, flags that are none, and bytes too few or too many.
 //! Every lent list is compared whole afterwards, those for reading too; the counts of stored and changed samples are those of the Rust, watched store by store.
+//! With tile starts, which the Rust has no word for, planes are those of the oracle's plain reading, held to the Rust where that has an answer (src/tiles.rs).
 
 #[path = "src/ccso.rs"]
 mod ccso;
@@ -38,6 +39,8 @@ mod rust;
 mod segment;
 #[path = "src/thresholds.rs"]
 mod thresholds;
+#[path = "src/tiles.rs"]
+mod tiles;
 
 // The published files name each other below `crate::av2`.
 use rust as av2;
@@ -251,6 +254,7 @@ struct PlaneCase {
     all: Vec<i32>,
     grid: [Vec<u8>; 4],
     qindex: Vec<u16>,
+    tiles: Vec<u16>,
     plane: Vec<u16>,
     steps: Vec<u32>,
 }
@@ -261,6 +265,7 @@ impl PlaneCase {
             all: n.some(11),
             grid: [n.list(), n.list(), n.list(), n.list()],
             qindex: n.list(),
+            tiles: n.list(),
             plane: n.list(),
             steps: made.steps.clone().unwrap_or_default(),
         }
@@ -269,45 +274,45 @@ impl PlaneCase {
 
 fn of_plane(random: &Random, made: &Made) -> Compared {
     let mut n = Numbers::of(made);
-    let PlaneCase { all, grid, qindex, mut plane, steps } = PlaneCase::of(made, &mut n);
+    let PlaneCase { all, grid, qindex, tiles, mut plane, steps } = PlaneCase::of(made, &mut n);
     let due = n.counted();
     let (settings, due) = settings(random, all, due, &[7]);
     let after = if due.no == 0 { n.some(plane.len()) } else { plane.clone() };
     let (mut place, place_after) = places(random, due);
     let (mut counts, counts_after) = tallies(random, due);
-    let lent = (grid.clone(), qindex.clone(), steps.clone(), settings.clone());
+    let lent = (grid.clone(), qindex.clone(), tiles.clone(), steps.clone(), settings.clone());
     let [v, h, w, t] = &grid;
     let answer = unsafe {
         raw::bihargesh_plane(
             plane.as_mut_ptr(), plane.len(), v.as_ptr(), v.len(), h.as_ptr(), h.len(), w.as_ptr(), w.len(), t.as_ptr(), t.len(),
-            qindex.as_ptr(), qindex.len(), steps.as_ptr(), steps.len(), settings.as_ptr(), settings.len(), place.as_mut_ptr(), place.len(),
-            counts.as_mut_ptr(), counts.len(),
+            qindex.as_ptr(), qindex.len(), tiles.as_ptr(), tiles.len(), steps.as_ptr(), steps.len(), settings.as_ptr(), settings.len(),
+            place.as_mut_ptr(), place.len(), counts.as_mut_ptr(), counts.len(),
         )
     };
     same("the answer", answer, -due.no)?;
     same("the place", place, place_after)?;
     same("the counts", counts, counts_after)?;
     same("the plane", plane, after)?;
-    same("a list for reading", (grid, qindex, steps, settings), lent)?;
+    same("a list for reading", (grid, qindex, tiles, steps, settings), lent)?;
     Ok(due.no)
 }
 
 /// The same with a record of the edges, whose length stands as the place of an accepted case.
 fn of_record_plane(random: &Random, made: &Made) -> Compared {
     let mut n = Numbers::of(made);
-    let PlaneCase { all, grid, qindex, mut plane, steps } = PlaneCase::of(made, &mut n);
+    let PlaneCase { all, grid, qindex, tiles, mut plane, steps } = PlaneCase::of(made, &mut n);
     let mut record: Vec<u8> = n.list();
     let due = n.counted();
     let (settings, due) = settings(random, all, due, &[7]);
     let after = if due.no == 0 { (n.some(plane.len()), n.some(record.len())) } else { (plane.clone(), record.clone()) };
     let (mut place, place_after) = places(random, due);
     let (mut counts, counts_after) = tallies(random, due);
-    let lent = (grid.clone(), qindex.clone(), steps.clone(), settings.clone());
+    let lent = (grid.clone(), qindex.clone(), tiles.clone(), steps.clone(), settings.clone());
     let [v, h, w, t] = &grid;
     let answer = unsafe {
         raw::bihargesh_record_plane(
             plane.as_mut_ptr(), plane.len(), record.as_mut_ptr(), record.len(), v.as_ptr(), v.len(), h.as_ptr(), h.len(),
-            w.as_ptr(), w.len(), t.as_ptr(), t.len(), qindex.as_ptr(), qindex.len(), steps.as_ptr(), steps.len(),
+            w.as_ptr(), w.len(), t.as_ptr(), t.len(), qindex.as_ptr(), qindex.len(), tiles.as_ptr(), tiles.len(), steps.as_ptr(), steps.len(),
             settings.as_ptr(), settings.len(), place.as_mut_ptr(), place.len(),
             counts.as_mut_ptr(), counts.len(),
         )
@@ -317,7 +322,7 @@ fn of_record_plane(random: &Random, made: &Made) -> Compared {
     same("the counts", counts, counts_after)?;
     same("the plane", plane, after.0)?;
     same("the record", record, after.1)?;
-    same("a list for reading", (grid, qindex, steps, settings), lent)?;
+    same("a list for reading", (grid, qindex, tiles, steps, settings), lent)?;
     Ok(due.no)
 }
 
@@ -358,7 +363,7 @@ fn recorded(random: &Random, _: bool, steps: Option<&[u32]>) -> Made {
 /// Our own record of a plane, run again on the plane as it was lent: the Rust's plane both times.
 fn of_round_trip(_: &Random, made: &Made) -> Compared {
     let mut n = Numbers::of(made);
-    let PlaneCase { all, grid, qindex, plane: lent, steps } = PlaneCase::of(made, &mut n);
+    let PlaneCase { all, grid, qindex, tiles, plane: lent, steps } = PlaneCase::of(made, &mut n);
     let mut bytes: Vec<u8> = n.list();
     let due = n.counted();
     let after: Vec<u16> = n.some(lent.len());
@@ -367,7 +372,7 @@ fn of_round_trip(_: &Random, made: &Made) -> Compared {
     let length = unsafe {
         raw::bihargesh_record_plane(
             plane.as_mut_ptr(), plane.len(), bytes.as_mut_ptr(), bytes.len(), v.as_ptr(), v.len(), h.as_ptr(), h.len(),
-            w.as_ptr(), w.len(), t.as_ptr(), t.len(), qindex.as_ptr(), qindex.len(), steps.as_ptr(), steps.len(),
+            w.as_ptr(), w.len(), t.as_ptr(), t.len(), qindex.as_ptr(), qindex.len(), tiles.as_ptr(), tiles.len(), steps.as_ptr(), steps.len(),
             all.as_ptr(), all.len(), place.as_mut_ptr(), place.len(), counts[0].as_mut_ptr(), 2,
         )
     };
@@ -383,7 +388,7 @@ fn of_round_trip(_: &Random, made: &Made) -> Compared {
 }
 
 /// The numbers of a TU grid's case.
-struct Tiles {
+struct Leaves {
     all: Vec<i32>,
     leaves: Vec<u16>,
     skips: Vec<u16>,
@@ -392,20 +397,20 @@ struct Tiles {
     built: Option<[Vec<u8>; 4]>,
 }
 
-impl Tiles {
-    fn of(made: &Made) -> Tiles {
+impl Leaves {
+    fn of(made: &Made) -> Leaves {
         let mut n = Numbers::of(made);
         let all = n.some(6);
         let (leaves, skips) = (n.list(), n.list());
         let marks: [Vec<u8>; 4] = [n.list(), n.list(), n.list(), n.list()];
         let due = n.due();
         let built = (due.no == 0).then(|| [0, 1, 2, 3].map(|k: usize| n.some(marks[k].len())));
-        Tiles { all, leaves, skips, marks, due, built }
+        Leaves { all, leaves, skips, marks, due, built }
     }
 }
 
 fn of_tx_grid(random: &Random, made: &Made) -> Compared {
-    let c = Tiles::of(made);
+    let c = Leaves::of(made);
     let (settings, due) = settings(random, c.all, c.due, &[]);
     let after = c.built.filter(|_| due.no == 0).unwrap_or_else(|| c.marks.clone());
     let (mut place, place_after) = places(random, due);
@@ -437,7 +442,7 @@ fn records(numbers: &[u16]) -> Vec<raw::Leaf> {
 
 /// Records, and beside them their numbers: both are held to what is due.
 fn of_tx_grid_leaves(random: &Random, made: &Made) -> Compared {
-    let c = Tiles::of(made);
+    let c = Leaves::of(made);
     let (settings, due) = settings(random, c.all, c.due, &[]);
     let after = c.built.filter(|_| due.no == 0).unwrap_or_else(|| c.marks.clone());
     let (mut place, place_after) = places(random, due);
@@ -512,6 +517,7 @@ fn of_frame(random: &Random, made: &Made) -> Compared {
     let read: [Vec<u16>; 4] = [n.list(), n.list(), n.list(), n.list()];
     let mut planes: [Vec<u16>; 3] = [n.list(), n.list(), n.list()];
     let mut grids = [Grid::lent(&mut n), Grid::lent(&mut n)];
+    let starts: [Vec<u16>; 2] = [n.list(), n.list()];
     let steps = made.steps.clone().unwrap_or_default();
     let due = n.counted();
     let left = if due.no == 0 { [0, 1, 2].map(|k: usize| n.some(planes[k].len())) } else { planes.clone() };
@@ -521,8 +527,8 @@ fn of_frame(random: &Random, made: &Made) -> Compared {
     let (left, built) = if now.no == due.no { (left, built) } else { (planes.clone(), grids.clone()) };
     let (mut place, place_after) = places(random, now);
     let (mut counts, counts_after) = tallies(random, now);
-    let lent = (read.clone(), steps.clone(), settings.clone());
-    let [superblocks, leaves, chroma_leaves, skips] = &read;
+    let lent = (read.clone(), starts.clone(), steps.clone(), settings.clone());
+    let ([superblocks, leaves, chroma_leaves, skips], [tiles, chroma_tiles]) = (&read, &starts);
     let ([y, u, v], [luma, chroma]) = (&mut planes, &mut grids);
     let ([lv, lh, lw, lt], [cv, ch, cw, ct]) = (&mut luma.marks, &mut chroma.marks);
     let answer = unsafe {
@@ -534,6 +540,7 @@ fn of_frame(random: &Random, made: &Made) -> Compared {
             chroma.qindex.as_mut_ptr(), chroma.qindex.len(),
             steps.as_ptr(), steps.len(), superblocks.as_ptr(), superblocks.len(), leaves.as_ptr(), leaves.len(),
             chroma_leaves.as_ptr(), chroma_leaves.len(), skips.as_ptr(), skips.len(),
+            tiles.as_ptr(), tiles.len(), chroma_tiles.as_ptr(), chroma_tiles.len(),
             settings.as_ptr(), settings.len(), place.as_mut_ptr(), place.len(),
             counts.as_mut_ptr(), counts.len(),
         )
@@ -543,7 +550,7 @@ fn of_frame(random: &Random, made: &Made) -> Compared {
     same("the counts", counts, counts_after)?;
     same("a plane", planes, left)?;
     same("a grid", grids, built)?;
-    same("a list for reading", (read, steps, settings), lent)?;
+    same("a list for reading", (read, starts, steps, settings), lent)?;
     Ok(now.no)
 }
 
@@ -592,14 +599,14 @@ struct Part {
 const PARTS: [Part; 11] = [
     Part { name: "bihargesh_thresholds", makes: &[thresholds::make], kind: None, compare: of_thresholds },
     Part { name: "bihargesh_segment", makes: &[segment::make_window], kind: None, compare: of_segment },
-    Part { name: "bihargesh_plane", makes: &[plane::make, plane::make_bins], kind: None, compare: of_plane },
+    Part { name: "bihargesh_plane", makes: &[plane::make, plane::make_bins, plane::make_tiles, plane::make_room_at_one], kind: None, compare: of_plane },
     Part { name: "bihargesh_record_plane", makes: &[record::make], kind: None, compare: of_record_plane },
     Part { name: "bihargesh_replay", makes: &[replay::make], kind: None, compare: of_replay },
     Part { name: "bihargesh_replay of bihargesh_record_plane", makes: &[recorded], kind: None, compare: of_round_trip },
     Part { name: "bihargesh_tx_grid", makes: &[grid::make], kind: Some(1), compare: of_tx_grid },
     Part { name: "bihargesh_tx_grid_leaves", makes: &[whole_leaves], kind: Some(1), compare: of_tx_grid_leaves },
     Part { name: "bihargesh_qindex_grid", makes: &[grid::make], kind: Some(2), compare: of_qindex_grid },
-    Part { name: "bihargesh_frame", makes: &[frame::make, frame::make_bins], kind: None, compare: of_frame },
+    Part { name: "bihargesh_frame", makes: &[frame::make, frame::make_bins, frame::make_tiles], kind: None, compare: of_frame },
     Part { name: "bihargesh_ccso", makes: &[ccso::make], kind: None, compare: of_ccso },
 ];
 
@@ -609,13 +616,18 @@ struct Counts {
     accepted: u64,
     changed: u64,
     refused: [u64; 14],
+    /// With tile starts: all, and the accepted ones that would end otherwise without them.
+    starts: [u64; 2],
 }
 
 impl Counts {
     fn print(&self, name: &str) {
-        let refused: Vec<String> = (1..self.refused.len()).filter(|&k| self.refused[k] > 0).map(|k| format!("by {k}: {}", self.refused[k])).collect();
         let cases = self.accepted + self.refused.iter().sum::<u64>();
-        println!("linked: {name}: {cases} cases, {} accepted ({} changed what was lent), {}, 0 different", self.accepted, self.changed, refused.join(", "));
+        let [tiled, telling] = self.starts;
+        let mut said = vec![format!("{cases} cases, {} accepted ({} changed what was lent)", self.accepted, self.changed)];
+        said.extend((1..self.refused.len()).filter(|&k| self.refused[k] > 0).map(|k| format!("by {k}: {}", self.refused[k])));
+        said.extend((tiled > 0).then(|| format!("{tiled} with tile starts ({telling} end otherwise without)")));
+        println!("linked: {name}: {}, 0 different", said.join(", "));
     }
 }
 
@@ -635,9 +647,11 @@ fn run(part: &Part, n: u64, seed: u64) -> Result<Counts, String> {
         let no = (part.compare)(&random, &made).map_err(|what| {
             format!("{}, case {} of seed {seed}: {what}\n{}", part.name, n - left + 1, cut(&String::from_utf8_lossy(&made.line.text())))
         })?;
+        counts.starts[0] += made.starts.is_some() as u64;
         if no == 0 {
             counts.accepted += 1;
             counts.changed += made.changed as u64;
+            counts.starts[1] += (made.starts == Some(true)) as u64;
         } else {
             counts.refused[no as usize] += 1;
         }

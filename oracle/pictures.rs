@@ -38,6 +38,8 @@ mod rust;
 mod segment;
 #[path = "src/thresholds.rs"]
 mod thresholds;
+#[path = "src/tiles.rs"]
+mod tiles;
 
 // The published files name each other below `crate::av2`.
 use rust as av2;
@@ -210,6 +212,8 @@ struct Given {
     chroma_cap: (usize, usize),
     chroma: bool,
     deltas: (i64, i64),
+    /// The columns in which a tile starts, of luma and of chroma.
+    starts: [Vec<u16>; 2],
 }
 
 fn given(p: &Picture, s: &Settings) -> Given {
@@ -239,6 +243,7 @@ fn given(p: &Picture, s: &Settings) -> Given {
         chroma_cap: pair("cap_uv"),
         chroma: s.last("chroma", &[1])[0] != 0,
         deltas: (s.last("delta_y", &[0])[0], s.last("delta_uv", &[0])[0]),
+        starts: ["tiles_y", "tiles_uv"].map(|name| s.last(name, &[]).iter().map(|&column| column as u16).collect()),
     }
 }
 
@@ -259,17 +264,27 @@ fn deblocked(p: &Picture, s: &Settings) -> [Vec<u16>; 3] {
         chroma_leaves: &g.chroma_leaves,
         skips: &g.skips,
     };
-    let new = deblock::frame(&frame, &planes);
+    let new = tiled(p, &g, &planes, deblock::frame(&frame, &planes));
     [0, 1, 2].map(|k| if new[k].is_empty() { Vec::new() } else { packed(&new[k], p.plane_size(k)) })
 }
 
-/// The record of luma or of chroma.
-fn edges(p: &Picture, g: &Given, chroma: bool) -> Vec<u8> {
+/// The Rust's new planes; those with tile starts by the reading of these, which is held to the Rust's without them.
+fn tiled(p: &Picture, g: &Given, planes: &[Vec<u16>; 3], mut new: [Vec<u16>; 3]) -> [Vec<u16>; 3] {
+    for k in 0..if p.chroma && g.chroma { 3 } else { 1 } {
+        let c = alone(p, g, k > 0, planes[k].clone());
+        assert!(tiles::read(&tiles::bare(&c)) == new[k], "the reading of tile starts is not the Rust's");
+        new[k] = tiles::read(&c);
+    }
+    new
+}
+
+/// One of a picture's planes by itself.
+fn alone(p: &Picture, g: &Given, chroma: bool, plane: Vec<u16>) -> plane::Case {
     let (sub, cap, leaves, delta) =
         if chroma { (p.sub, g.chroma_cap, &g.chroma_leaves, g.deltas.1) } else { ((0, 0), g.cap, &g.leaves, g.deltas.0) };
     let size = p.plane_size(chroma as usize);
     let cells = (eights(size.0) / 4, eights(size.1) / 4);
-    record::record(&record::entries(&plane::Case {
+    plane::Case {
         cells: (cells.0 as u64, cells.1 as u64),
         stride: eights(size.0) as u64,
         size: ((eights(p.size.0) >> sub.0) as u64, (eights(p.size.1) >> sub.1) as u64),
@@ -280,9 +295,15 @@ fn edges(p: &Picture, g: &Given, chroma: bool) -> Vec<u8> {
         delta_side: delta,
         marks: deblock::tx_grid(leaves, &g.skips, cells, sub, cap),
         qindex: deblock::qindex_grid(&g.entries, p.size.0.div_ceil(64), cells, sub),
-        plane: Vec::new(),
+        starts: g.starts[chroma as usize].clone(),
+        plane,
         steps: Vec::new(),
-    }))
+    }
+}
+
+/// The record of luma or of chroma.
+fn edges(p: &Picture, g: &Given, chroma: bool) -> Vec<u8> {
+    record::record(&record::entries(&alone(p, g, chroma, Vec::new())))
 }
 
 fn records(picture: &str, settings: &str, file: &str) {
@@ -385,6 +406,16 @@ fn ccso_lines(random: &Random, out: &mut String, letter: &str) {
     }
 }
 
+/// Tile starts of luma, of chroma or of both; chroma's are good for every format.
+fn tile_lines(random: &Random, out: &mut String, size: (usize, usize)) {
+    for (name, width) in [("tiles_y", size.0), ("tiles_uv", halved(size.0, 1))] {
+        let starts: Vec<i64> = plane::some_starts(random, eights(width) as u64 / 4).iter().map(|&s| s as i64).collect();
+        if !random.once_in(3) {
+            *out += &format!("{name}{}\n", numbers(&starts));
+        }
+    }
+}
+
 fn settings(seed: u64, size: (usize, usize)) -> String {
     let random = Random::new(seed);
     let mut out = String::from("# random settings\nsettings 1\n");
@@ -401,6 +432,9 @@ fn settings(seed: u64, size: (usize, usize)) -> String {
     }
     if random.once_in(5) {
         out += "chroma 0\n";
+    }
+    if random.once_in(2) {
+        tile_lines(&random, &mut out, size);
     }
     if !random.once_in(4) {
         tiling(&random, &mut out, "leaf", size);

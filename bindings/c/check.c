@@ -1,4 +1,4 @@
-/* Calls the functions of the static library from C and holds them to document 01's figures and refusals, and to ticket 4's counts. */
+/* Calls the functions of the static library from C and holds them to document 01's figures and refusals, to ticket 4's counts and ticket 5's tile starts. */
 #include "bihargesh.h"
 #include <stdio.h>
 #include <string.h>
@@ -147,11 +147,11 @@ static void short_counts(void) {
 
 /* ---- a plane of 24 by 4 samples with one edge, 100 before it and 108 from sample 8 on */
 
-static uint16_t plane[96], lent[96], qindex[6];
+static uint16_t plane[96], lent[96], qindex[6], tiles[6];
 static uint8_t vedge[6], hedge[6], sizes[6];
 static uint32_t table[352];
 static int32_t plane_settings[11];
-static size_t place[1];
+static size_t place[1], tiles_count;
 
 /* the qindex whose side threshold at depth 8 is 40; every step but the first gives q 8 */
 static uint16_t index_of_side_40(void) {
@@ -176,11 +176,15 @@ static void plane_anew(void) {
     qindex[k] = index;
   }
   place[0] = 77;
+  tiles_count = 0;
 }
+
+/* the list of tile starts, which is no list where it is empty */
+static const uint16_t *starts(void) { return tiles_count ? tiles : NULL; }
 
 static int32_t run_plane(size_t settings_len) {
   return bihargesh_plane(plane, LEN(plane), vedge, LEN(vedge), hedge, LEN(hedge), sizes, LEN(sizes), sizes, LEN(sizes), qindex, LEN(qindex),
-                         table, LEN(table), plane_settings, settings_len, place, 1, counts, 2);
+                         starts(), tiles_count, table, LEN(table), plane_settings, settings_len, place, 1, counts, 2);
 }
 
 static void refused_plane(const char *what, size_t settings_len, int32_t want, size_t at) {
@@ -234,8 +238,8 @@ static void planes(void) {
   refused_plane("sample 300", 11, -BIHARGESH_BAD_SAMPLE, 95);
   plane_settings[8] = 9;
   same("no place wanted",
-       bihargesh_plane(plane, LEN(plane), vedge, LEN(vedge), hedge, LEN(hedge), sizes, LEN(sizes), sizes, LEN(sizes), qindex, LEN(qindex), table,
-                       LEN(table), plane_settings, 11, NULL, 0, NULL, 0),
+       bihargesh_plane(plane, LEN(plane), vedge, LEN(vedge), hedge, LEN(hedge), sizes, LEN(sizes), sizes, LEN(sizes), qindex, LEN(qindex), NULL, 0,
+                       table, LEN(table), plane_settings, 11, NULL, 0, NULL, 0),
        -1);
 }
 
@@ -245,7 +249,7 @@ static uint8_t record[16], record_lent[16];
 
 static int32_t record_plane(uint8_t *into, size_t room, size_t settings_len) {
   return bihargesh_record_plane(plane, LEN(plane), into, room, vedge, LEN(vedge), hedge, LEN(hedge), sizes, LEN(sizes), sizes, LEN(sizes), qindex,
-                                LEN(qindex), table, LEN(table), plane_settings, settings_len, place, 1, counts, 2);
+                                LEN(qindex), starts(), tiles_count, table, LEN(table), plane_settings, settings_len, place, 1, counts, 2);
 }
 
 static void refused_record(const char *what, size_t room, size_t settings_len, int32_t want, size_t at) {
@@ -293,6 +297,81 @@ static void records(void) {
   vedge[1] = 1;
   refused_record("no room", 16, 11, -7, 1);
   same("no list for the record", record_plane(NULL, 0, 11), -10);
+}
+
+/* ---- tile starts in the same plane */
+
+static void put_tiles(size_t count, const uint16_t *list) {
+  plane_anew();
+  memcpy(tiles, list, count * sizeof *list);
+  tiles_count = count;
+}
+
+/* The list is refused by 5 with place 0, plane and record as lent. */
+static void bad_tiles(const char *what, size_t count, const uint16_t *list) {
+  put_tiles(count, list);
+  refused_plane(what, 11, -BIHARGESH_BAD_SETTING, 0);
+  put_tiles(count, list);
+  refused_record(what, 16, 11, -5, 0);
+}
+
+/* A start elsewhere changes nothing; at the edge its pair is 14,18: document 01's figures, and the record's number of the pair. */
+static void shortened(void) {
+  static const unsigned uneven[17] = {100, 100, 101, 101, 102, 103, 103, 104, 104, 105, 105, 106, 106, 107, 107, 108, 108};
+  plane_anew();
+  same("one tile", run_plane(11), 0);
+  memcpy(lent, plane, sizeof plane);
+  put_tiles(4, (uint16_t[4]){1, 3, 4, 5});
+  same("tiles elsewhere", run_plane(11), 0);
+  same("the plane of one tile", memcmp(plane, lent, sizeof plane), 0);
+  same("its counts", counts[0] == 64 && counts[1] == 56, 1);
+  put_tiles(1, (uint16_t[1]){2});
+  same("a tile at the edge", run_plane(11), 0);
+  same("place as lent", (long long)place[0], 77);
+  for (int k = 0; k < 96; k++) same("sample at a tile", plane[k], k % 24 < 17 ? uneven[k % 24] : 108);
+  same("stored and changed at a tile", counts[0] == 4 * (6 + 8) && counts[1] == 4 * (6 + 7), 1);
+  memcpy(lent, plane, sizeof plane);
+  put_tiles(1, (uint16_t[1]){2});
+  same("a record with a tile", record_plane(record, 16, 11), 15);
+  same("pair 4", record[10], 4);
+  same("the plane as without a record", memcmp(plane, lent, sizeof plane), 0);
+}
+
+/* Chroma's edge at column 1: of size index 2 to 6 it has room where a tile begins, by the pair 6,10, and none else. */
+static void room_at_a_tile(void) {
+  for (uint8_t index = 2; index <= 6; index++) {
+    for (int tile = 0; tile < 2; tile++) {
+      put_tiles((size_t)tile, (uint16_t[1]){1});
+      plane_settings[BIHARGESH_PLANE_CHROMA] = 1;
+      for (int k = 0; k < 96; k++) plane[k] = k % 24 < 4 ? 100 : 108;
+      for (int k = 0; k < 6; k++) sizes[k] = index, vedge[k] = k == 1;
+      if (tile == 0) {
+        refused_plane("no room at column 1", 11, -BIHARGESH_NO_ROOM, 1);
+        continue;
+      }
+      same("room at a tile", run_plane(11), 0);
+      flat(100, 108);
+      bihargesh_segment(window, sizeof window, 8, 7, 8, 40, NULL, 0);
+      for (int k = 0; k < 48; k++) same("sample at 6,10", plane[k / 12 * 24 + k % 12], at(0, k % 12 + 5));
+      same("stored at 6,10", (long long)counts[0], 4 * (2 + 4));
+    }
+  }
+}
+
+static void tile_starts(void) {
+  shortened();
+  room_at_a_tile();
+  bad_tiles("a tile at column 0", 1, (uint16_t[1]){0});
+  bad_tiles("a tile behind the last column", 1, (uint16_t[1]){6});
+  bad_tiles("a tile at 65535", 2, (uint16_t[2]){2, 65535});
+  bad_tiles("a tile twice", 2, (uint16_t[2]){2, 2});
+  bad_tiles("tiles that fall", 3, (uint16_t[3]){1, 4, 3});
+  put_tiles(1, (uint16_t[1]){0});
+  table[5] = 1048577;
+  refused_plane("a step before a tile", 11, -4, 5);
+  put_tiles(1, (uint16_t[1]){0});
+  hedge[4] = 2;
+  refused_plane("a tile before a cell", 11, -5, 0);
 }
 
 /* ---- that record, run again */
@@ -466,7 +545,8 @@ static int32_t run_frame(const int32_t *settings, size_t settings_len) {
   v[5] = 109;
   return bihargesh_frame(luma, LEN(luma), u, LEN(u), v, LEN(v), luma_grid[0], 12, luma_grid[1], 12, luma_grid[2], 12, luma_grid[3], 12, blocks_of,
                          LEN(blocks_of), chroma_grid[0], 8, chroma_grid[1], 8, chroma_grid[2], 8, chroma_grid[3], 8, chroma_blocks_of,
-                         LEN(chroma_blocks_of), table, LEN(table), blocks, 1, leaves, 8, leaves, 8, NULL, 0, settings, settings_len, place, 1, counts, 2);
+                         LEN(chroma_blocks_of), table, LEN(table), blocks, 1, leaves, 8, leaves, 8, NULL, 0, NULL, 0, NULL, 0, settings, settings_len, place, 1, counts,
+                         2);
 }
 
 static void frames(void) {
@@ -478,14 +558,14 @@ static void frames(void) {
   same("frame", run_frame(numbers, 15), 0);
   memcpy(of_frame, counts, sizeof counts);
   for (int k = 0; k < 192; k++) one[k] = k % 24 < 8 ? 100 : 108;
-  same("luma alone", bihargesh_plane(one, 192, luma_grid[0], 12, luma_grid[1], 12, luma_grid[2], 12, luma_grid[3], 12, blocks_of, 12, table, 352,
-                                     luma_numbers, 11, place, 1, counts, 2), 0);
+  same("luma alone", bihargesh_plane(one, 192, luma_grid[0], 12, luma_grid[1], 12, luma_grid[2], 12, luma_grid[3], 12, blocks_of, 12, NULL, 0, table,
+                                     352, luma_numbers, 11, place, 1, counts, 2), 0);
   for (int n = 0; n < 2; n++) of_planes[n] += counts[n];
   for (int which = 0; which < 2; which++) {
     for (int k = 0; k < 128; k++) other[k] = k % 16 < 4 ? 100 : 108;
     if (which == 1) other[5] = 109;
     same("u or v alone", bihargesh_plane(other, 128, chroma_grid[0], 8, chroma_grid[1], 8, chroma_grid[2], 8, chroma_grid[3], 8, chroma_blocks_of, 8,
-                                         table, 352, chroma_numbers, 11, place, 1, counts, 2), 0);
+                                         NULL, 0, table, 352, chroma_numbers, 11, place, 1, counts, 2), 0);
     for (int n = 0; n < 2; n++) of_planes[n] += counts[n];
   }
   same("a frame's counts are its planes'", memcmp(of_frame, of_planes, sizeof of_frame), 0);
@@ -511,6 +591,72 @@ static void frames(void) {
   bad[13] = 3;
   same("chroma's cap still counts", run_frame(bad, 15), -5);
   none("chroma's cap");
+}
+
+/* ---- a frame of 64 by 16 samples with chroma of 32 by 8, two leaves side by side, and a tile where the second begins */
+
+enum { WIDE_CELLS = 16 * 4, WIDE_CHROMA_CELLS = 8 * 2 };
+
+static uint16_t wide[16 * WIDE_CELLS], wide_u[16 * WIDE_CHROMA_CELLS], wide_v[16 * WIDE_CHROMA_CELLS], wide_blocks[2][WIDE_CELLS];
+static uint8_t wide_grid[2][4][WIDE_CELLS];
+
+/* n rows of 100 before the middle and 108 from there on */
+static void halves(uint16_t *samples, int stride, int n) {
+  for (int k = 0; k < stride * n; k++) samples[k] = k % stride < stride / 2 ? 100 : 108;
+}
+
+static int32_t run_wide(int32_t has_chroma, int32_t chroma_deblock, const uint16_t *starts, size_t count, const uint16_t *chroma, size_t chroma_count) {
+  static const uint16_t leaves[8] = {0, 0, 8, 4, 0, 8, 8, 4};
+  const int32_t settings[15] = {64, 16, 1, 1, has_chroma, chroma_deblock, 8, 0, 0, 64, 32, 16, 16, 16, 16};
+  uint16_t blocks[1] = {index_of_side_40()};
+  uint8_t(*l)[WIDE_CELLS] = wide_grid[0], (*c)[WIDE_CELLS] = wide_grid[1];
+  halves(wide, 64, 16);
+  halves(wide_u, 32, 8);
+  halves(wide_v, 32, 8);
+  place[0] = 77;
+  return bihargesh_frame(wide, LEN(wide), wide_u, LEN(wide_u), wide_v, LEN(wide_v), l[0], WIDE_CELLS, l[1], WIDE_CELLS, l[2], WIDE_CELLS, l[3], WIDE_CELLS,
+                         wide_blocks[0], WIDE_CELLS, c[0], WIDE_CHROMA_CELLS, c[1], WIDE_CHROMA_CELLS, c[2], WIDE_CHROMA_CELLS, c[3], WIDE_CHROMA_CELLS,
+                         wide_blocks[1], WIDE_CHROMA_CELLS, table, LEN(table), blocks, 1, leaves, 8, leaves, 8, NULL, 0, starts, count, chroma,
+                         chroma_count, settings, 15, place, 1, counts, 2);
+}
+
+/* A plane of the frame is bihargesh_plane's with the same tile starts, and another than with none. */
+static void wide_plane(const char *what, int kind, const uint16_t *got, int stride, int rows, const uint16_t *starts, size_t count) {
+  const int32_t settings[11] = {stride / 4, rows / 4, stride, stride, rows, 16 >> kind, 16 >> kind, kind, 8, 0, 0};
+  size_t cells = (size_t)(stride * rows / 16), samples = 16 * cells;
+  uint8_t(*g)[WIDE_CELLS] = wide_grid[kind];
+  uint16_t alone[16 * WIDE_CELLS];
+  for (int tiled = 0; tiled < 2; tiled++) {
+    halves(alone, stride, rows);
+    same(what, bihargesh_plane(alone, samples, g[0], cells, g[1], cells, g[2], cells, g[3], cells, wide_blocks[kind], cells, starts, tiled ? count : 0,
+                               table, LEN(table), settings, 11, place, 1, counts, 2), 0);
+    same(what, memcmp(alone, got, samples * sizeof *got) == 0, tiled);
+  }
+}
+
+static void bad_wide(const char *what, int32_t has_chroma, int32_t chroma_deblock, uint16_t start, uint16_t chroma_start) {
+  same(what, run_wide(has_chroma, chroma_deblock, &start, 1, &chroma_start, 1), -BIHARGESH_BAD_SETTING);
+  none(what);
+  same(what, place[0] == 0 && wide[31] == 100 && wide_u[16] == 108, 1);
+}
+
+static void tiled_frames(void) {
+  const uint16_t start[1] = {8}, chroma_start[1] = {4}, bad[1] = {8};
+  size_t whole[2];
+  same("a frame of two tiles", run_wide(1, 1, start, 1, chroma_start, 1), 0);
+  memcpy(whole, counts, sizeof whole);
+  wide_plane("luma of two tiles", 0, wide, 64, 16, start, 1);
+  wide_plane("u of two tiles", 1, wide_u, 32, 8, chroma_start, 1);
+  wide_plane("v of two tiles", 1, wide_v, 32, 8, chroma_start, 1);
+  same("a frame of one tile", run_wide(1, 1, NULL, 0, NULL, 0), 0);
+  same("more is stored in one tile", counts[0] > whole[0] && whole[0] > 0, 1);
+  bad_wide("luma's tile at column 16", 1, 1, 16, 4);
+  bad_wide("luma's tile at column 0", 0, 0, 0, 4);
+  bad_wide("chroma's tile at column 8", 1, 1, 8, 8);
+  for (int flag = 0; flag < 2; flag++) {
+    same("chroma's tiles are not tested", run_wide(flag, 1 - flag, start, 1, bad, 1), 0);
+    same("u as lent", wide_u[15] == 100 && wide_u[16] == 108, 1);
+  }
 }
 
 /* ---- offsets: document 01's c = 600 at depth 10 with b 2 and classes 2, 1 */
@@ -573,10 +719,12 @@ int main(void) {
   short_counts();
   planes();
   records();
+  tile_starts();
   replays();
   grids();
   leaf_records();
   frames();
+  tiled_frames();
   offsets();
   published_steps();
   settings_counted();

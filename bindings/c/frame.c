@@ -32,11 +32,12 @@ int main(void) {
   halves(u, CHROMA);
   halves(v, CHROMA);
   if (bihargesh_steps(steps, 352) != 0) return 1;
+  /* no skip leaves, and one tile in luma and in chroma */
   int32_t answer = bihargesh_frame(
       y, SIZE * SIZE, u, CHROMA * CHROMA, v, CHROMA * CHROMA, luma.vedge, CELLS, luma.hedge, CELLS, luma.sqw, CELLS, luma.sqh, CELLS,
       luma.qindex, CELLS, chroma.vedge, CHROMA_CELLS, chroma.hedge, CHROMA_CELLS, chroma.sqw, CHROMA_CELLS, chroma.sqh, CHROMA_CELLS,
-      chroma.qindex, CHROMA_CELLS, steps, 352, superblocks, 1, leaves, 4, leaves, 4, NULL, 0, settings, BIHARGESH_FRAME_SETTINGS, &place, 1,
-      counts, 2);
+      chroma.qindex, CHROMA_CELLS, steps, 352, superblocks, 1, leaves, 4, leaves, 4, NULL, 0, NULL, 0, NULL, 0, settings, BIHARGESH_FRAME_SETTINGS,
+      &place, 1, counts, 2);
   if (answer != 0) {
     printf("the frame: refused by %d at place %zu\n", -answer, place);
     return 1;

@@ -20,7 +20,8 @@ static int32_t deblock(size_t *place, size_t counts[2]) {
       [BIHARGESH_PLANE_COLS] = COLS,        [BIHARGESH_PLANE_ROWS] = ROWS,        [BIHARGESH_PLANE_STRIDE] = STRIDE,
       [BIHARGESH_PLANE_WIDTH] = STRIDE,     [BIHARGESH_PLANE_HEIGHT] = 4 * ROWS,  [BIHARGESH_PLANE_SB_WIDTH] = 16,
       [BIHARGESH_PLANE_SB_HEIGHT] = 16,     [BIHARGESH_PLANE_CHROMA] = 0,         [BIHARGESH_PLANE_DEPTH] = 8};
-  return bihargesh_plane(plane, SAMPLES, vedge, CELLS, hedge, CELLS, sqw, CELLS, sqh, CELLS, qindex, CELLS, steps, 352, settings,
+  /* one tile: the list of tile starts is empty */
+  return bihargesh_plane(plane, SAMPLES, vedge, CELLS, hedge, CELLS, sqw, CELLS, sqh, CELLS, qindex, CELLS, NULL, 0, steps, 352, settings,
                          BIHARGESH_PLANE_SETTINGS, place, 1, counts, 2);
 }
 

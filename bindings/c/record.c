@@ -58,8 +58,8 @@ static int32_t record_plane(void) {
   const int32_t settings[BIHARGESH_PLANE_SETTINGS] = {COLS, ROWS, WIDTH, WIDTH, HEIGHT, 16, 16, 0, 8, 0, 0};
   if (bihargesh_tx_grid(leaves, 12, NULL, 0, vedge, CELLS, hedge, CELLS, sqw, CELLS, sqh, CELLS, tx, 6, NULL, 0) != 0) return -1;
   if (bihargesh_qindex_grid(superblocks, 1, qindex, CELLS, q, 5, NULL, 0) != 0 || bihargesh_steps(steps, 352) != 0) return -1;
-  return bihargesh_record_plane(plane, SAMPLES, record, ROOM, vedge, CELLS, hedge, CELLS, sqw, CELLS, sqh, CELLS, qindex, CELLS, steps, 352, settings,
-                                BIHARGESH_PLANE_SETTINGS, NULL, 0, counts, 2);
+  return bihargesh_record_plane(plane, SAMPLES, record, ROOM, vedge, CELLS, hedge, CELLS, sqw, CELLS, sqh, CELLS, qindex, CELLS, NULL, 0, steps, 352,
+                                settings, BIHARGESH_PLANE_SETTINGS, NULL, 0, counts, 2);
 }
 
 /* The folder's files by a run here. */

@@ -62,6 +62,18 @@ pub fn steps(random: &Random, steps: &mut Vec<u32>) {
     }
 }
 
+/// Tile starts with a fault: 0, the number of columns or more, one twice, or two that fall.
+pub fn starts(random: &Random, starts: &mut Vec<u16>, cols: u64) {
+    let n = starts.len();
+    let at = random.below(n.max(1) as u64) as usize;
+    match random.below(4) {
+        0 if n > 0 => starts.insert(at, starts[at]),
+        1 if n > 1 => starts.swap(at, (at + 1) % n),
+        2 => starts.push(random.one_of(&[cols, cols + 1, 65535]).min(65535) as u16),
+        _ => starts.insert(0, 0),
+    }
+}
+
 /// Some samples above top, at places below `limit`.
 pub fn samples(random: &Random, plane: &mut [u16], limit: usize, top: u64) {
     for _ in 0..random.size(1, 3) {

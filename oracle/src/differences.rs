@@ -1,14 +1,17 @@
 //! What docs/DIFFERENCES.md says of the published Rust, each shown by running it.
 
+use crate::plane::{self, Case};
+use crate::random::Random;
 use crate::rust::ccso::{Choice, BORDER};
 use crate::rust::deblock::{self, Frame, Marks, Settings};
 use crate::rust::quant;
+use crate::tiles;
 use std::panic;
 
 /// What is said of the Rust, and whether it is so.
 type Said = (&'static str, fn() -> bool);
 
-const SAID: [Said; 13] = [
+const SAID: [Said; 16] = [
     ("read_line clamps an offset before the plane to its first sample", clamps_before),
     ("read_line clamps an offset past the plane to its last sample", clamps_after),
     ("f32 samples are cut to whole numbers when read", cuts),
@@ -22,6 +25,9 @@ const SAID: [Said; 13] = [
     ("deblock_plane filters a plane of 1025 columns of cells", cells_1025),
     ("deblock_plane filters a sample of 300 at depth 8", sample_300),
     ("deblock_frame takes sb_cols from its caller: 3 at width 65 gives other samples than 2", three_across),
+    ("deblock_plane passes false for vertical edges: a superblock's first column is filtered as 8,8 where the turned plane's first row is as 6,8", never_shortens),
+    ("the oracle's reading of tile starts is deblock_plane where there are none, on 1000 planes", reads_bare),
+    ("the oracle's reading of tile starts is deblock_plane on the turned plane where every k-th column starts a tile, on 1000 planes", reads_turned),
 ];
 
 fn clamps_before() -> bool {
@@ -124,6 +130,47 @@ fn three_across() -> bool {
     };
     let planes = [(0..72 * 128).map(|i| 100 + i % 72 / 4 % 2 * 6).collect(), vec![], vec![]];
     deblock::frame_by(&frame, 3, &planes) != deblock::frame_by(&frame, 2, &planes)
+}
+
+/// Chroma cells of index 1 with a step at column 8, where superblocks are 8 cells wide. Turned, row 8 is shortened where they are 8 cells high, and not where they are 16.
+fn never_shortens() -> bool {
+    let c = Case {
+        cells: (9, 1),
+        stride: 36,
+        size: (36, 4),
+        superblock: (8, 8),
+        chroma: true,
+        depth: 8,
+        delta_q: 0,
+        delta_side: 0,
+        marks: Marks { vertical: vec![0, 0, 0, 0, 0, 0, 0, 0, 1], horizontal: vec![0; 9], width: vec![1; 9], height: vec![1; 9] },
+        qindex: vec![200; 9],
+        starts: Vec::new(),
+        plane: (0..144).map(|i| if i % 36 < 32 { 100 } else { 108 }).collect(),
+        steps: quant::steps(),
+    };
+    let rust = deblock::plane(&c.settings(), &c.marks, &c.qindex, &c.plane);
+    rust != tiles::turned(&c, 8) && rust == tiles::turned(&c, 16)
+}
+
+/// A thousand accepted planes with tile starts.
+fn tiled_planes() -> impl Iterator<Item = Case> {
+    let random = Random::new(5);
+    (0..1000).map(move |_| plane::with_tiles(&random))
+}
+
+fn reads_bare() -> bool {
+    tiled_planes().all(|c| tiles::holds_bare(&c))
+}
+
+/// The k is a tile start of the plane, so that a thousand planes have many; some hundred of them would end otherwise without their starts.
+fn reads_turned() -> bool {
+    let every = |c: Case| {
+        let k = c.starts.first().copied().unwrap_or(1);
+        Case { starts: (1..c.cells.0 as u16).filter(|column| column % k == 0).collect(), ..c }
+    };
+    let telling = tiled_planes().map(every).filter(|c| tiles::matter(c, &tiles::read(c)) == Some(true)).count();
+    telling > 100 && tiled_planes().map(every).all(|c| tiles::holds_turned(&c) != Some(false))
 }
 
 fn taps_within() -> bool {

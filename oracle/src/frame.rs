@@ -7,7 +7,7 @@ use crate::random::Random;
 use crate::refusals::{self, Layout};
 use crate::rust::deblock::{self, Counts, Frame, Marks};
 use crate::thresholds::{delta, DEPTHS};
-use crate::{damage, picture, rust, made::Made};
+use crate::{damage, made::Made, picture, rust, tiles};
 
 /// A plane kind's five lists.
 pub struct Grid {
@@ -29,6 +29,8 @@ pub struct Case {
     pub chroma_leaves: Vec<u32>,
     pub skips: Vec<u32>,
     pub planes: [Vec<u16>; 3],
+    /// The columns in which a tile starts, of luma and of chroma.
+    pub starts: [Vec<u16>; 2],
     pub luma_grid: Grid,
     pub chroma_grid: Grid,
     pub steps: Vec<u32>,
@@ -84,13 +86,14 @@ impl Case {
             delta_side: delta,
             marks: built.marks,
             qindex: built.qindex,
+            starts: self.starts[chroma as usize].clone(),
             plane: self.planes[k].clone(),
             steps: self.steps.clone(),
         }
     }
 
     /// The plane kind's edges: the border is luma's size rounded up to 8, shifted for chroma.
-    pub fn layout<'a>(&self, grid: &'a Grid, chroma: bool) -> Layout<'a> {
+    pub fn layout<'a>(&'a self, grid: &'a Grid, chroma: bool) -> Layout<'a> {
         let sub = if chroma { self.sub } else { (0, 0) };
         let border = |n: u64, shift: u64| (n.div_ceil(8) * 8) >> shift;
         Layout {
@@ -98,6 +101,7 @@ impl Case {
             size: (border(self.size.0, sub.0), border(self.size.1, sub.1)),
             superblock_height: 16 >> sub.1,
             chroma,
+            starts: &self.starts[chroma as usize],
             vertical: &grid.marks.vertical,
             horizontal: &grid.marks.horizontal,
             width: &grid.marks.width,
@@ -139,8 +143,13 @@ fn stride(random: &Random, least: u64) -> u64 {
 }
 
 fn good(random: &Random) -> Case {
+    good_of(random, (length(random), length(random)))
+}
+
+/// A good frame of a size.
+fn good_of(random: &Random, size: (u64, u64)) -> Case {
     let mut c = Case {
-        size: (length(random), length(random)),
+        size,
         sub: random.one_of(&SUBSAMPLINGS),
         chroma: (!random.once_in(6), !random.once_in(6)),
         depth: random.one_of(&DEPTHS),
@@ -153,18 +162,46 @@ fn good(random: &Random) -> Case {
         chroma_leaves: Vec::new(),
         skips: Vec::new(),
         planes: [Vec::new(), Vec::new(), Vec::new()],
+        starts: [Vec::new(), Vec::new()],
         luma_grid: empty_grid(),
         chroma_grid: empty_grid(),
         steps: rust::quant::steps(),
     };
     fill_luma(random, &mut c);
     fill_chroma(random, &mut c);
+    c.starts = [plane::starts(random, c.luma_cells().0), plane::starts(random, c.chroma_cells().0)];
+    spoil_unused(random, &mut c);
     match random.below(12) {
         0 => light(random, &mut c, |random, stride, n, depth| picture::still(random, stride, n, depth, 0)),
         1 => light(random, &mut c, picture::saturated),
         _ => (),
     }
     c
+}
+
+/// A frame that leaves chroma alone takes any list of its tile starts.
+fn spoil_unused(random: &Random, c: &mut Case) {
+    if !c.uses_chroma() && random.once_in(2) {
+        let cols = c.chroma_cells().0;
+        damage::starts(random, &mut c.starts[1], cols);
+    }
+}
+
+/// Even blocks of eight luma cells each way, with a tile start in some of their columns: one that is not minded shows.
+fn tell(random: &Random, c: &mut Case) {
+    let cells = c.luma_cells();
+    let corners = (0..cells.1).step_by(8).flat_map(|row| (0..cells.0).step_by(8).map(move |column| (row as u32, column as u32)));
+    c.leaves = corners.flat_map(|(row, column)| [row, column, 8, 8]).collect();
+    (c.chroma_leaves, c.skips) = (c.leaves.clone(), Vec::new());
+    (c.cap, c.chroma_cap) = ((16, 16), (16, 16));
+    for (k, sub) in [0, c.sub.0].into_iter().enumerate() {
+        c.starts[k] = (1..c.luma_cells().0.div_ceil(8)).filter(|_| random.once_in(2)).map(|n| (8 * n >> sub) as u16).collect();
+    }
+    let block = 32 >> c.sub.0;
+    light(random, c, |random, stride, n, depth| picture::even(random, stride, n, depth, 32));
+    for k in 1..if c.planes[1].is_empty() { 1 } else { 3 } {
+        c.planes[k] = picture::even(random, c.strides.1 as usize, c.planes[k].len(), c.depth, block);
+    }
 }
 
 /// Planes of a kind, with both thresholds of every edge on.
@@ -251,7 +288,8 @@ fn damaged(random: &Random, c: &mut Case) {
 }
 
 fn damaged_settings(random: &Random, c: &mut Case) {
-    match random.below(12) {
+    let cols = [c.luma_cells().0, c.chroma_cells().0];
+    match random.below(14) {
         0 => c.depth = damage::depth(random),
         1 => c.size.0 = damage::count(random, 4096),
         2 => c.size.1 = damage::count(random, 4096),
@@ -263,6 +301,8 @@ fn damaged_settings(random: &Random, c: &mut Case) {
         8 => c.cap.0 = damage::cap(random),
         9 => c.cap.1 = damage::cap(random),
         10 => c.chroma_cap.0 = damage::cap(random),
+        11 => damage::starts(random, &mut c.starts[0], cols[0]),
+        12 => damage::starts(random, &mut c.starts[1], cols[1]),
         _ => c.chroma_cap.1 = damage::cap(random),
     }
 }
@@ -305,6 +345,23 @@ pub fn make_bins(random: &Random, refused: bool, _: Option<&[u32]>) -> Made {
     finished(random, refused, c)
 }
 
+/// Frames with tile starts of luma and chroma; what is refused has a bad list of them, and nothing else.
+pub fn make_tiles(random: &Random, refused: bool, _: Option<&[u32]>) -> Made {
+    let telling = random.once_in(2);
+    let mut c = if telling { good_of(random, (random.size(49, 150) as u64, length(random))) } else { good(random) };
+    let cols = [c.luma_cells().0, c.chroma_cells().0];
+    c.starts = cols.map(|cols| plane::some_starts(random, cols));
+    if telling {
+        tell(random, &mut c);
+    }
+    spoil_unused(random, &mut c);
+    if refused {
+        let which = (c.uses_chroma() && random.once_in(2)) as usize;
+        damage::starts(random, &mut c.starts[which], cols[which]);
+    }
+    answered(c)
+}
+
 fn finished(random: &Random, refused: bool, mut c: Case) -> Made {
     if refused && random.once_in(3) {
         crowd(random, &mut c);
@@ -333,16 +390,29 @@ fn filtered(c: &Case) -> [Vec<u16>; 3] {
     deblock::frame(&frame, &c.planes)
 }
 
-/// The Rust's planes, and its stores: those of each filtered plane, which must be the same when it is run alone over the built grid.
-fn watched(c: &Case) -> ([Vec<u16>; 3], Counts) {
-    let planes = filtered(c);
-    let mut counts = Counts::default();
+/// What a frame's run leaves and stores.
+struct Done {
+    planes: [Vec<u16>; 3],
+    counts: Counts,
+    /// Of a frame with tile starts: whether a plane would end otherwise without them.
+    starts: Option<bool>,
+}
+
+/// Each filtered plane by itself over the built grid, with its tile starts; without these it must be the Rust's plane of the frame.
+fn watched(c: &Case) -> Done {
+    let rust = filtered(c);
+    let mut done = Done { planes: c.planes.clone(), counts: Counts::default(), starts: None };
     for k in 0..if c.uses_chroma() { 3 } else { 1 } {
-        let (plane, more) = plane::filtered(&c.alone(k));
-        assert!(plane == planes[k], "a plane of a frame is another when it is run alone");
-        counts.add(more);
+        let alone = c.alone(k);
+        let (plane, more) = plane::filtered(&alone);
+        assert!(tiles::read(&tiles::bare(&alone)) == rust[k], "a plane of a frame is another when it is run alone");
+        if let Some(matter) = tiles::matter(&alone, &plane) {
+            done.starts = Some(matter || done.starts == Some(true));
+        }
+        done.planes[k] = plane;
+        done.counts.add(more);
     }
-    (planes, counts)
+    done
 }
 
 fn write_grid(line: &mut Line, g: &Grid) {
@@ -376,17 +446,19 @@ fn answered(c: Case) -> Made {
     }
     write_grid(&mut line, &c.luma_grid);
     write_grid(&mut line, &c.chroma_grid);
+    line.list(&c.starts[0]).list(&c.starts[1]);
     let done = refusal.is_none().then(|| watched(&c));
-    let counts = done.as_ref().map(|d| d.1);
+    let counts = done.as_ref().map(|d| d.counts);
     let (no, place) = refusal.map_or((0, 0), |r| (r.no, r.place));
     line.unsigned(&[no, place]).unsigned(&counts.map_or([0, 0], |n| [n.stored, n.changed]));
-    let changed = done.as_ref().is_some_and(|d| d.0 != c.planes);
-    for plane in done.iter().flat_map(|d| &d.0) {
+    let changed = done.as_ref().is_some_and(|d| d.planes != c.planes);
+    for plane in done.iter().flat_map(|d| &d.planes) {
         line.entries(plane);
     }
     if refusal.is_none_or(|r| r.no == 7 || r.no == 8) {
         write_built(&mut line, &c, false);
         write_built(&mut line, &c, true);
     }
-    Made { line, refusal, width: None, changed, counts, steps: Some(c.steps) }
+    let starts = done.map_or(c.starts.iter().any(|list| !list.is_empty()).then_some(false), |d| d.starts);
+    Made { line, refusal, width: None, changed, counts, starts, steps: Some(c.steps) }
 }

@@ -160,7 +160,7 @@ fn tx_answered(c: TxCase) -> Made {
         .list(&c.marks.height);
     if let Some(r) = refusal {
         line.unsigned(&[r.no, r.place]);
-        return Made { line, refusal, width: None, changed: false, counts: None, steps: None };
+        return Made { line, refusal, width: None, changed: false, counts: None, starts: None, steps: None };
     }
     let built = deblock::tx_grid(&tuples(&c.leaves), &tuples(&c.skips), size(c.cells), size(c.sub), size(c.cap));
     let marks = marks_over(&built, &c.marks);
@@ -169,7 +169,7 @@ fn tx_answered(c: TxCase) -> Made {
         .entries(&marks.horizontal)
         .entries(&marks.width)
         .entries(&marks.height);
-    Made { line, refusal, width: None, changed: marks.vertical != c.marks.vertical, counts: None, steps: None }
+    Made { line, refusal, width: None, changed: marks.vertical != c.marks.vertical, counts: None, starts: None, steps: None }
 }
 
 fn good_qindex(random: &Random) -> QindexCase {
@@ -205,12 +205,12 @@ fn qindex_answered(c: QindexCase) -> Made {
     line.unsigned(&[c.cells.0, c.cells.1, c.sub.0, c.sub.1, c.sb_cols]).list(&c.entries).list(&c.qindex);
     if let Some(r) = refusal {
         line.unsigned(&[r.no, r.place]);
-        return Made { line, refusal, width: None, changed: false, counts: None, steps: None };
+        return Made { line, refusal, width: None, changed: false, counts: None, starts: None, steps: None };
     }
     let built = deblock::qindex_grid(&c.entries, c.sb_cols as usize, size(c.cells), size(c.sub));
     let qindex = qindex_over(&built, &c.qindex);
     line.unsigned(&[0, 0]).entries(&qindex);
-    Made { line, refusal, width: None, changed: qindex != c.qindex, counts: None, steps: None }
+    Made { line, refusal, width: None, changed: qindex != c.qindex, counts: None, starts: None, steps: None }
 }
 
 /// A case of either grid; the TU grid's with whole leaves alone where that is asked for, as records are.

@@ -14,6 +14,8 @@ pub struct Made {
     pub changed: bool,
     /// What an accepted case of a filter stores.
     pub counts: Option<Counts>,
+    /// Of a case with tile starts: whether its planes would end otherwise without them.
+    pub starts: Option<bool>,
     /// The step table that the case is asked with, where its part has one.
     pub steps: Option<Vec<u32>>,
 }

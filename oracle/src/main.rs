@@ -17,6 +17,7 @@ mod rust;
 mod segment;
 mod summary;
 mod thresholds;
+mod tiles;
 
 // The published files name each other below `crate::av2`.
 use rust as av2;
@@ -28,7 +29,7 @@ use std::io::{self, BufWriter, Write};
 use std::process::exit;
 use summary::Summary;
 
-const USAGE: &str = "oracle thresholds|segment|segment-limits|segment-window|plane|plane-bins|plane-dark|plane-record|plane-replay|grid|frame|frame-bins|ccso N SEED [--only accepted|refused], or: oracle differences";
+const USAGE: &str = "oracle thresholds|segment|segment-limits|segment-window|plane|plane-bins|plane-dark|plane-tiles|plane-room|plane-record|plane-replay|grid|frame|frame-bins|frame-tiles|ccso N SEED [--only accepted|refused], or: oracle differences";
 
 fn part(name: &str) -> Option<Make> {
     match name {
@@ -39,11 +40,14 @@ fn part(name: &str) -> Option<Make> {
         "plane" => Some(plane::make),
         "plane-bins" => Some(plane::make_bins),
         "plane-dark" => Some(plane::make_dark),
+        "plane-tiles" => Some(plane::make_tiles),
+        "plane-room" => Some(plane::make_room_at_one),
         "plane-record" => Some(record::make),
         "plane-replay" => Some(replay::make),
         "grid" => Some(grid::make),
         "frame" => Some(frame::make),
         "frame-bins" => Some(frame::make_bins),
+        "frame-tiles" => Some(frame::make_tiles),
         "ccso" => Some(ccso::make),
         _ => None,
     }

@@ -134,6 +134,15 @@ pub fn saturated(random: &Random, stride: usize, n: usize, depth: u64) -> Vec<u1
     (0..n).map(|i| sample(i) as u16).collect()
 }
 
+/// Even blocks of `block` samples each way with small steps between them: an edge there filters as far as its lengths let it.
+pub fn even(random: &Random, stride: usize, n: usize, depth: u64, block: usize) -> Vec<u16> {
+    let top = refusals::top(depth) as i64;
+    let across = stride.div_ceil(block);
+    let (middle, step) = (random.within(40, top - 40), random.one_of(&[1, 1, 3, 1 << (depth - 8)]));
+    let levels: Vec<i64> = (0..across * n.div_ceil(stride).div_ceil(block)).map(|_| middle + step * random.within(-3, 3)).collect();
+    (0..n).map(|i| levels[i / stride / block * across + i % stride / block] as u16).collect()
+}
+
 /// A qindex at which both thresholds are on, at every depth and without deltas.
 pub fn lit(random: &Random) -> u16 {
     random.size(170, 250) as u16

@@ -2,11 +2,12 @@
 
 use crate::line::Line;
 use crate::random::Random;
-use crate::refusals::{self, Layout};
+use crate::refusals::{self, Layout, Refusal};
 use crate::rust::deblock::{self, Counts, Leaf, Marks, Settings};
 use crate::thresholds::{delta, DEPTHS};
-use crate::{damage, made::Made, picture, record, replay, rust};
+use crate::{damage, made::Made, picture, record, replay, rust, tiles};
 
+#[derive(Clone)]
 pub struct Case {
     pub cells: (u64, u64),
     pub stride: u64,
@@ -18,6 +19,8 @@ pub struct Case {
     pub delta_side: i64,
     pub marks: Marks,
     pub qindex: Vec<u16>,
+    /// The columns in which a tile starts.
+    pub starts: Vec<u16>,
     pub plane: Vec<u16>,
     pub steps: Vec<u32>,
 }
@@ -29,6 +32,7 @@ impl Case {
             size: self.size,
             superblock_height: self.superblock.1,
             chroma: self.chroma,
+            starts: &self.starts,
             vertical: &self.marks.vertical,
             horizontal: &self.marks.horizontal,
             width: &self.marks.width,
@@ -85,6 +89,26 @@ fn scattered(random: &Random, cells: (u64, u64)) -> Marks {
     Marks { vertical, horizontal, width: indices(random), height: indices(random) }
 }
 
+/// Tile starts: none half of the time.
+pub fn starts(random: &Random, cols: u64) -> Vec<u16> {
+    if random.once_in(2) { Vec::new() } else { some_starts(random, cols) }
+}
+
+/// Tile starts, at least one where there are two columns: all columns, every k-th, or any.
+pub fn some_starts(random: &Random, cols: u64) -> Vec<u16> {
+    if cols < 2 {
+        return Vec::new();
+    }
+    let k = random.size(1, cols as usize - 1) as u64;
+    let often = random.one_of(&[2, 3, 8]);
+    let taken: Vec<u16> = match random.below(6) {
+        0 => (1..cols).map(|column| column as u16).collect(),
+        1 | 2 => (1..cols).filter(|column| column % k == 0).map(|column| column as u16).collect(),
+        _ => (1..cols).filter(|_| random.once_in(often)).map(|column| column as u16).collect(),
+    };
+    if taken.is_empty() { vec![k as u16] } else { taken }
+}
+
 /// Takes off the marks of edges that lack room.
 fn make_room(c: &mut Case) {
     for direction in 0..2 {
@@ -106,7 +130,11 @@ fn border(random: &Random, most: u64) -> u64 {
 }
 
 fn good(random: &Random) -> Case {
-    let cells = if random.once_in(1500) { random.one_of(&[(1024, 1), (1, 1024)]) } else { cells(random) };
+    good_of(random, if random.once_in(1500) { random.one_of(&[(1024, 1), (1, 1024)]) } else { cells(random) })
+}
+
+/// A good plane of so many cells, but for marks that lack room.
+fn good_of(random: &Random, cells: (u64, u64)) -> Case {
     let stride = if random.once_in(500) && cells.1 < 3 { 8192 } else { 4 * cells.0 + random.one_of(&[0, 0, 1, 4, 7]) };
     let depth = random.one_of(&DEPTHS);
     let spare = picture::spare(random);
@@ -123,6 +151,7 @@ fn good(random: &Random) -> Case {
         delta_side: delta(random),
         marks,
         qindex: picture::qindices(random, n + spare),
+        starts: starts(random, cells.0),
         plane: picture::samples(random, stride as usize, 4 * cells.1 as usize, depth, spare),
         steps: rust::quant::steps(),
     };
@@ -134,6 +163,23 @@ fn good(random: &Random) -> Case {
     lengthen(random, &mut c.marks);
     wild_padding(random, &mut c);
     c
+}
+
+/// Even blocks of four cells each way, of a size index that has a shortened pair, and a tile start in some of their columns: a pair that should be shortened and is not, or the other way round, shows.
+fn tell(random: &Random, c: &mut Case) {
+    light(random, c);
+    let index = if c.chroma { random.size(1, 6) } else { random.size(3, 6) } as u8;
+    c.marks.width.fill(index);
+    c.marks.height.fill(index);
+    for i in 0..(c.cells.0 * c.cells.1) as usize {
+        let (row, column) = (i / c.cells.0 as usize, i % c.cells.0 as usize);
+        c.marks.vertical[i] = (column % 4 == 0) as u8;
+        c.marks.horizontal[i] = (row % 4 == 0) as u8;
+    }
+    c.plane = picture::even(random, c.stride as usize, c.plane.len(), c.depth, 16);
+    c.starts.extend((4..c.cells.0).step_by(4).filter(|_| random.once_in(2)).map(|column| column as u16));
+    c.starts.sort();
+    c.starts.dedup();
 }
 
 /// Both thresholds of every edge are on.
@@ -180,7 +226,7 @@ fn wild_padding(random: &Random, c: &mut Case) {
 fn damaged(random: &Random, c: &mut Case) {
     let n = c.cells.0 * c.cells.1;
     for _ in 0..random.one_of(&[1, 1, 2, 3]) {
-        match random.below(24) {
+        match random.below(26) {
             0 => c.depth = damage::depth(random),
             1 => c.cells.0 = damage::count(random, 1024),
             2 => c.cells.1 = damage::count(random, 1024),
@@ -199,6 +245,7 @@ fn damaged(random: &Random, c: &mut Case) {
             15 => c.delta_q = damage::delta(random),
             16 => c.delta_side = damage::delta(random),
             17 | 18 | 19 => bad_cells(random, &mut c.marks, n),
+            24 | 25 => damage::starts(random, &mut c.starts, c.cells.0),
             _ => {
                 let limit = c.plane.len();
                 damage::samples(random, &mut c.plane, limit, refusals::top(c.depth.min(12)));
@@ -255,6 +302,53 @@ pub fn make_dark(random: &Random, refused: bool, _: Option<&[u32]>) -> Made {
     made
 }
 
+/// Planes with tile starts, now and then as wide as can be; what is refused has a bad list of them, and nothing else.
+pub fn make_tiles(random: &Random, refused: bool, _: Option<&[u32]>) -> Made {
+    let mut c = with_tiles(random);
+    if refused {
+        damage::starts(random, &mut c.starts, c.cells.0);
+    }
+    answered(c)
+}
+
+/// A plane with tile starts, to be accepted.
+pub fn with_tiles(random: &Random) -> Case {
+    let telling = random.once_in(2);
+    let cells = match random.below(60) {
+        0 => (1024, random.one_of(&[1, 1, 2])),
+        _ if telling => (random.size(5, 20) as u64, random.size(1, 6) as u64),
+        _ => cells(random),
+    };
+    let mut c = good_of(random, cells);
+    c.starts = some_starts(random, cells.0);
+    if telling {
+        tell(random, &mut c);
+    }
+    make_room(&mut c);
+    c
+}
+
+/// Chroma planes whose column 1 starts a tile and has a marked edge between blocks of index 2 to 6: its pair 6,10 reaches 3 before the edge. What is
+/// refused is the same without that start: there the pair is 10,10 and reaches 5, where only 4 samples are.
+pub fn make_room_at_one(random: &Random, refused: bool, _: Option<&[u32]>) -> Made {
+    let cells = (random.size(3, 10) as u64, random.size(1, 4) as u64);
+    let mut c = good_of(random, cells);
+    (c.chroma, c.size.0) = (true, 4 * cells.0);
+    for i in 0..(cells.0 * cells.1) as usize {
+        c.marks.width[i] = random.size(2, 6) as u8;
+    }
+    (0..cells.1).for_each(|row| c.marks.vertical[(row * cells.0 + 1) as usize] = 1);
+    c.starts = some_starts(random, cells.0);
+    c.starts.retain(|&s| s != 1);
+    c.starts.insert(0, 1);
+    make_room(&mut c);
+    assert!(c.layout().edge(0, 0, 1).is_some_and(|e| e.lengths == (6, 10)), "an edge in column 1 lacks room though a tile starts there");
+    if refused {
+        c.starts.remove(0);
+    }
+    answered(c)
+}
+
 fn finished(random: &Random, refused: bool, mut c: Case) -> Case {
     // A third of the refused cases lack room alone, a third lack nothing else.
     let kind = if refused { random.below(3) } else { 2 };
@@ -278,16 +372,29 @@ pub fn asked(c: &Case, kind: u64) -> Line {
         .list(&c.marks.width)
         .list(&c.marks.height)
         .list(&c.qindex)
+        .list(&c.starts)
         .list(&c.plane);
     line
 }
 
-/// The Rust's plane, and its stores: those of its segments in document 01's order, which must leave the same plane.
+/// The Rust's plane, with tile starts by the reading that is held to it; and its stores: those of its segments in document 01's order, which must leave the same plane.
 pub fn filtered(c: &Case) -> (Vec<u16>, Counts) {
-    let plane = deblock::plane(&c.settings(), &c.marks, &c.qindex, &c.plane);
+    assert!(tiles::holds_bare(c) && tiles::holds_turned(c) != Some(false), "the reading of tile starts is not the Rust's");
+    let plane = tiles::read(c);
     let (seen, counts) = replay::run(record::entries(c), c.stride, c.depth, &c.plane);
     assert!(seen == plane, "the segments that were watched left another plane");
     (plane, counts)
+}
+
+/// A refused plane.
+pub fn refused(line: Line, refusal: Option<Refusal>, c: Case) -> Made {
+    Made { line, refusal, width: None, changed: false, counts: None, starts: c.starts.first().map(|_| false), steps: Some(c.steps) }
+}
+
+/// An accepted plane and what was stored.
+pub fn accepted(line: Line, plane: Vec<u16>, counts: Counts, c: Case) -> Made {
+    let starts = tiles::matter(&c, &plane);
+    Made { line, refusal: None, width: None, changed: plane != c.plane, counts: Some(counts), starts, steps: Some(c.steps) }
 }
 
 fn answered(c: Case) -> Made {
@@ -295,9 +402,9 @@ fn answered(c: Case) -> Made {
     let mut line = asked(&c, 2);
     if let Some(r) = refusal {
         line.unsigned(&[r.no, r.place, 0, 0]);
-        return Made { line, refusal, width: None, changed: false, counts: None, steps: Some(c.steps) };
+        return refused(line, refusal, c);
     }
     let (plane, counts) = filtered(&c);
     line.unsigned(&[0, 0, counts.stored, counts.changed]).entries(&plane);
-    Made { line, refusal, width: None, changed: plane != c.plane, counts: Some(counts), steps: Some(c.steps) }
+    accepted(line, plane, counts, c)
 }

@@ -32,13 +32,16 @@ pub fn record(entries: &[Entry]) -> Vec<u8> {
     bytes
 }
 
-/// The edges of a good plane in document 01's order: a superblock column's vertical ones, rows outer, then the previous column's
+/// A side of a cell: the direction of its edge, 0 being vertical, the row and the column.
+pub type Side = (u64, u64, u64);
+
+/// The sides of a plane's cells in document 01's order: a superblock column's vertical ones, rows outer, then the previous column's
 /// horizontal ones, columns outer; at the end the last column's.
-pub fn entries(c: &plane::Case) -> Vec<Entry> {
+pub fn order(c: &plane::Case) -> Vec<Side> {
     let (cols, rows) = c.cells;
     let blocks: Vec<_> = (0..cols).step_by(c.superblock.0 as usize).map(|start| start..(start + c.superblock.0).min(cols)).collect();
     let mut found = Vec::new();
-    let mut visit = |direction: u64, row: u64, column: u64| found.extend(entry(c, direction, row, column));
+    let mut visit = |direction: u64, row: u64, column: u64| found.push((direction, row, column));
     for (k, block) in blocks.iter().enumerate() {
         (0..rows).for_each(|r| block.clone().for_each(|column| visit(0, r, column)));
         if k > 0 {
@@ -49,8 +52,13 @@ pub fn entries(c: &plane::Case) -> Vec<Entry> {
     found
 }
 
+/// The edges of a good plane in that order.
+pub fn entries(c: &plane::Case) -> Vec<Entry> {
+    order(c).into_iter().filter_map(|side| entry(c, side)).collect()
+}
+
 /// The edge of a cell, if there is one, with the Rust's thresholds.
-fn entry(c: &plane::Case, direction: u64, row: u64, column: u64) -> Option<Entry> {
+fn entry(c: &plane::Case, (direction, row, column): Side) -> Option<Entry> {
     let e = c.layout().edge(direction, row, column)?;
     let here = (row * c.cells.0 + column) as usize;
     let before = if direction == 0 { here - 1 } else { here - c.cells.0 as usize };
@@ -85,11 +93,11 @@ fn recorded(c: plane::Case, refusal: Option<Refusal>, written: Vec<u8>, buffer: 
     line.list(&buffer);
     if let Some(r) = refusal {
         line.unsigned(&[r.no, r.place, 0, 0]);
-        return Made { line, refusal, width: None, changed: false, counts: None, steps: Some(c.steps) };
+        return plane::refused(line, refusal, c);
     }
     let (plane, counts) = plane::filtered(&c);
     let mut after = buffer;
     after[..written.len()].copy_from_slice(&written);
     line.unsigned(&[0, written.len() as u64, counts.stored, counts.changed]).entries(&plane).entries(&after);
-    Made { line, refusal, width: None, changed: plane != c.plane, counts: Some(counts), steps: Some(c.steps) }
+    plane::accepted(line, plane, counts, c)
 }

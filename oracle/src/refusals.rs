@@ -58,6 +58,11 @@ fn bad_delta(delta: i64) -> bool {
     outside_signed(delta, -128, 127)
 }
 
+/// Ticket 5: tile starts rise strictly, each above 0 and below the columns of cells.
+fn bad_starts(starts: &[u16], cols: u64) -> bool {
+    starts.iter().any(|&s| outside(s as u64, 1, cols - 1)) || starts.windows(2).any(|two| two[0] >= two[1])
+}
+
 pub fn of_thresholds(c: &thresholds::Case) -> Option<Refusal> {
     depth(c.depth)
         .or_else(|| steps(&c.steps))
@@ -147,6 +152,7 @@ pub struct Layout<'a> {
     pub size: (u64, u64),
     pub superblock_height: u64,
     pub chroma: bool,
+    pub starts: &'a [u16],
     pub vertical: &'a [u8],
     pub horizontal: &'a [u8],
     pub width: &'a [u8],
@@ -156,6 +162,15 @@ pub struct Layout<'a> {
 impl Layout<'_> {
     fn place(&self, row: u64, column: u64) -> usize {
         (row * self.cells.0 + column) as usize
+    }
+
+    /// Whether an edge has a shortened pair: a horizontal one in a superblock's first row, a vertical one in a tile's first column (ticket 5).
+    pub fn shortened(&self, direction: u64, row: u64, column: u64) -> bool {
+        if direction == 0 {
+            self.starts.iter().any(|&s| s as u64 == column)
+        } else {
+            row % self.superblock_height == 0
+        }
     }
 
     /// The edge of a cell, if there is one: column 0 and row 0 have none.
@@ -174,8 +189,7 @@ impl Layout<'_> {
         let (border, most) = if self.chroma { (8, 1) } else { (16, 2) };
         let smaller = index[here].min(index[other]);
         let m = if along + border > limit { smaller.min(most) } else { smaller };
-        let shortened = direction == 1 && row % self.superblock_height == 0;
-        Some(Edge { x, y, direction, lengths: lengths(m, self.chroma, shortened) })
+        Some(Edge { x, y, direction, lengths: lengths(m, self.chroma, self.shortened(direction, row, column)) })
     }
 
     /// 6: the first cell with a bad mark or index.
@@ -232,7 +246,7 @@ pub fn of_plane(c: &plane::Case) -> Option<Refusal> {
         .or_else(|| refuse(2, sizes()))
         .or_else(|| refuse(3, lists()))
         .or_else(|| steps(&c.steps))
-        .or_else(|| refuse(5, bad_delta(c.delta_q) || bad_delta(c.delta_side)))
+        .or_else(|| refuse(5, bad_delta(c.delta_q) || bad_delta(c.delta_side) || bad_starts(&c.starts, c.cells.0)))
         .or_else(|| refuse_at(6, c.layout().bad_cell()))
         .or_else(|| refuse_at(7, c.layout().no_room()))
         .or_else(|| plane_sample(&c.plane, c.cells, c.stride, c.depth))
@@ -295,7 +309,14 @@ pub fn of_frame(c: &frame::Case) -> Option<Refusal> {
             || frame_lists(&[&c.planes[0]], &c.luma_grid, c.luma_cells(), c.strides.0)
             || (chroma && frame_lists(&[&c.planes[1], &c.planes[2]], &c.chroma_grid, c.chroma_cells(), c.strides.1))
     };
-    let settings = || bad_delta(c.deltas.0) || bad_delta(c.deltas.1) || bad_cap(c.cap) || bad_cap(c.chroma_cap);
+    let settings = || {
+        bad_delta(c.deltas.0)
+            || bad_delta(c.deltas.1)
+            || bad_cap(c.cap)
+            || bad_cap(c.chroma_cap)
+            || bad_starts(&c.starts[0], c.luma_cells().0)
+            || (chroma && bad_starts(&c.starts[1], c.chroma_cells().0))
+    };
     depth(c.depth)
         .or_else(|| refuse(2, sizes()))
         .or_else(|| refuse(3, lists()))

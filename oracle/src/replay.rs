@@ -157,9 +157,9 @@ fn replayed(c: Case) -> Made {
     line.unsigned(&[c.cells.0, c.cells.1, c.stride, c.depth]).list(&c.bytes).list(&c.plane);
     if let Some(r) = refusal {
         line.unsigned(&[r.no, r.place, 0, 0]);
-        return Made { line, refusal, width: None, changed: false, counts: None, steps: None };
+        return Made { line, refusal, width: None, changed: false, counts: None, starts: None, steps: None };
     }
     let (plane, counts) = run(c.bytes[5..].chunks_exact(10).map(Entry::read), c.stride, c.depth, &c.plane);
     line.unsigned(&[0, 0, counts.stored, counts.changed]).entries(&plane);
-    Made { line, refusal, width: None, changed: plane != c.plane, counts: Some(counts), steps: None }
+    Made { line, refusal, width: None, changed: plane != c.plane, counts: Some(counts), starts: None, steps: None }
 }

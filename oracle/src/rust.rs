@@ -254,6 +254,40 @@ pub mod deblock {
         to_samples(&floats)
     }
 
+    /// An edge of a plane as the Rust is asked for it: q0 of line 0, across the edge and from line to line, the smaller size index within the border, whether the pair is shortened, and both blocks' qindex.
+    pub struct Joint {
+        pub base: usize,
+        pub perp: usize,
+        pub line: usize,
+        pub index: u8,
+        pub shortened: bool,
+        pub qindex: (u16, u16),
+    }
+
+    /// A plane on which edges are run one after the other by the Rust's ladder, thresholds and segment, as `deblock_plane` joins them.
+    pub struct Run<'a> {
+        settings: &'a Settings,
+        floats: Vec<f32>,
+    }
+
+    impl Run<'_> {
+        pub fn new<'a>(settings: &'a Settings, plane: &[u16]) -> Run<'a> {
+            Run { settings, floats: to_floats(plane) }
+        }
+
+        pub fn edge(&mut self, e: &Joint) {
+            let s = self.settings;
+            let (before, after) = filter_lengths(e.index as i32, s.chroma, e.shortened);
+            let (q, side) = thresholds(e.qindex.0 as i64, e.qindex.1 as i64, s.delta_q, s.delta_side, s.depth);
+            let at = Span { base: e.base, perp: e.perp, line: e.line, lengths: (before as i64, after as i64) };
+            run_segment(&mut self.floats, &at, q, side, s.depth);
+        }
+
+        pub fn end(self) -> Vec<u16> {
+            to_samples(&self.floats)
+        }
+    }
+
     /// A frame's settings and what it reads.
     pub struct Frame<'a> {
         pub size: (usize, usize),

@@ -13,6 +13,8 @@ pub struct Summary {
     counts: Counts,
     still: u64,
     limited: u64,
+    /// Of the cases with tile starts: all, the accepted ones, and those whose planes would end otherwise without them.
+    starts: [u64; 3],
 }
 
 impl Summary {
@@ -25,6 +27,10 @@ impl Summary {
         }
         if let Some(w) = made.width {
             self.widths[w] += 1;
+        }
+        if let Some(matter) = made.starts {
+            let counts = [true, made.refusal.is_none(), matter];
+            (0..3).for_each(|k| self.starts[k] += counts[k] as u64);
         }
         if let Some(n) = made.counts {
             self.counts.add(n);
@@ -42,6 +48,9 @@ impl Summary {
         }
         if self.counts.stored > 0 {
             eprintln!("  stored {}, changed {}; stored but changed nothing: {} cases; limited to the range: {} samples in {} cases", self.counts.stored, self.counts.changed, self.still, self.counts.limited, self.limited);
+        }
+        if self.starts[0] > 0 {
+            eprintln!("  with tile starts: {} cases, {} accepted; other samples than without: {}", self.starts[0], self.starts[1], self.starts[2]);
         }
         for (w, n) in self.widths.iter().enumerate() {
             if *n > 0 {

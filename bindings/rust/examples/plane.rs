@@ -37,7 +37,7 @@ fn main() {
     // 100 in the left half, 108 in the right
     let mut plane: Vec<u16> = (0..STRIDE * 4 * ROWS).map(|k| if k % STRIDE < STRIDE / 2 { 100 } else { 108 }).collect();
     let steps = bihargesh::steps();
-    let grid = Grid { vedge: &vedge, hedge: &hedge, sqw: &sqw, sqh: &sqh, qindex: &qindex };
+    let grid = Grid { vedge: &vedge, hedge: &hedge, sqw: &sqw, sqh: &sqh, qindex: &qindex, tiles: &[] };
     let counts = deblock_plane(&mut plane, grid, &steps, settings()).expect("the plane was refused");
     let row = &plane[..STRIDE];
     println!("Rust, a plane: {:?}; {} samples stored, {} of them changed", &row[8..24], counts.stored, counts.changed);

@@ -47,7 +47,7 @@ pub enum Reason {
     Length,
     /// The step table is bad.
     Steps,
-    /// A delta, cap, threshold, pair or CCSO setting is out of range.
+    /// A delta, cap, threshold, pair, tile start or CCSO setting is out of range.
     Setting,
     /// A grid cell has a bad mark or size index.
     Cell,
@@ -102,7 +102,7 @@ impl fmt::Display for Reason {
             Reason::Size => "a size, stride, subsampling or count is out of range",
             Reason::Length => "a list is shorter than needed, or a list of leaves is cut",
             Reason::Steps => "the step table is not 352 entries from 64 on, each at most 1048576",
-            Reason::Setting => "a delta, cap, threshold, length pair or CCSO setting is out of range",
+            Reason::Setting => "a delta, cap, threshold, length pair, tile start or CCSO setting is out of range",
             Reason::Cell => "a grid cell has a bad mark or size index",
             Reason::Room => "an edge lacks room",
             Reason::Sample => "a sample exceeds the depth's largest",
@@ -174,7 +174,7 @@ pub struct Replay {
     pub depth: i32,
 }
 
-/// A plane's grid: a number for each cell, row by row.
+/// A plane's grid: a number for each cell, row by row; and the column of cells in which each tile but the first begins, none for one tile.
 #[derive(Clone, Copy, Debug)]
 pub struct Grid<'a> {
     pub vedge: &'a [u8],
@@ -182,6 +182,7 @@ pub struct Grid<'a> {
     pub sqw: &'a [u8],
     pub sqh: &'a [u8],
     pub qindex: &'a [u16],
+    pub tiles: &'a [u16],
 }
 
 /// The four lists that a TU grid fills.
@@ -229,13 +230,15 @@ pub struct BuiltGrid<'a> {
     pub qindex: &'a mut [u16],
 }
 
-/// What a frame's grids are built from, four numbers a leaf.
+/// What a frame's grids are built from, four numbers a leaf; and the tile starts of luma and of chroma, as a grid's, each in cells of its own.
 #[derive(Clone, Copy, Debug)]
 pub struct Blocks<'a> {
     pub superblocks: &'a [u16],
     pub leaves: &'a [u16],
     pub chroma_leaves: &'a [u16],
     pub skips: &'a [u16],
+    pub tiles: &'a [u16],
+    pub chroma_tiles: &'a [u16],
 }
 
 /// Settings of a frame.
@@ -352,8 +355,8 @@ pub fn deblock_plane(plane: &mut [u16], grid: Grid, steps: &[u32], s: Plane) -> 
         bihargesh_plane(
             plane.as_mut_ptr(), plane.len(), grid.vedge.as_ptr(), grid.vedge.len(), grid.hedge.as_ptr(), grid.hedge.len(),
             grid.sqw.as_ptr(), grid.sqw.len(), grid.sqh.as_ptr(), grid.sqh.len(), grid.qindex.as_ptr(), grid.qindex.len(),
-            steps.as_ptr(), steps.len(), settings.as_ptr(), settings.len(), place.as_mut_ptr(), place.len(),
-            counts.as_mut_ptr(), counts.len(),
+            grid.tiles.as_ptr(), grid.tiles.len(), steps.as_ptr(), steps.len(), settings.as_ptr(), settings.len(),
+            place.as_mut_ptr(), place.len(), counts.as_mut_ptr(), counts.len(),
         )
     };
     filtered(answer, place, counts)
@@ -366,7 +369,7 @@ pub fn deblock_plane(plane: &mut [u16], grid: Grid, steps: &[u32], s: Plane) -> 
 /// use bihargesh::{record_plane, Counts, Grid, Plane, Reason, Refusal};
 ///
 /// // three cells in a row, with a vertical edge at the second: the pair of lengths is 4, 4
-/// let grid = Grid { vedge: &[0, 1, 0], hedge: &[0; 3], sqw: &[0; 3], sqh: &[0; 3], qindex: &[0; 3] };
+/// let grid = Grid { vedge: &[0, 1, 0], hedge: &[0; 3], sqw: &[0; 3], sqh: &[0; 3], qindex: &[0; 3], tiles: &[] };
 /// let settings = Plane { cols: 3, rows: 1, stride: 12, width: 12, height: 4, superblock_width: 8, superblock_height: 8, depth: 8, ..Plane::default() };
 /// let (mut plane, mut record) = ([100; 48], [7; 16]);
 /// let (length, counts) = record_plane(&mut plane, &mut record, grid, &bihargesh::steps(), settings)?;
@@ -385,7 +388,7 @@ pub fn record_plane(plane: &mut [u16], record: &mut [u8], grid: Grid, steps: &[u
         bihargesh_record_plane(
             plane.as_mut_ptr(), plane.len(), record.as_mut_ptr(), record.len(), grid.vedge.as_ptr(), grid.vedge.len(),
             grid.hedge.as_ptr(), grid.hedge.len(), grid.sqw.as_ptr(), grid.sqw.len(), grid.sqh.as_ptr(), grid.sqh.len(),
-            grid.qindex.as_ptr(), grid.qindex.len(), steps.as_ptr(), steps.len(),
+            grid.qindex.as_ptr(), grid.qindex.len(), grid.tiles.as_ptr(), grid.tiles.len(), steps.as_ptr(), steps.len(),
             settings.as_ptr(), settings.len(), place.as_mut_ptr(), place.len(),
             counts.as_mut_ptr(), counts.len(),
         )
@@ -517,6 +520,7 @@ pub fn deblock_frame(planes: Planes, luma: BuiltGrid, chroma: BuiltGrid, steps: 
             chroma.qindex.as_mut_ptr(), chroma.qindex.len(),
             steps.as_ptr(), steps.len(), b.superblocks.as_ptr(), b.superblocks.len(), b.leaves.as_ptr(), b.leaves.len(),
             b.chroma_leaves.as_ptr(), b.chroma_leaves.len(), b.skips.as_ptr(), b.skips.len(),
+            b.tiles.as_ptr(), b.tiles.len(), b.chroma_tiles.as_ptr(), b.chroma_tiles.len(),
             settings.as_ptr(), settings.len(), place.as_mut_ptr(), place.len(),
             counts.as_mut_ptr(), counts.len(),
         )

@@ -18,14 +18,14 @@ extern "C" {
     pub fn bihargesh_plane(
         plane: *mut u16, plane_len: usize, vedge: *const u8, vedge_len: usize, hedge: *const u8, hedge_len: usize,
         sqw: *const u8, sqw_len: usize, sqh: *const u8, sqh_len: usize, qindex: *const u16, qindex_len: usize,
-        steps: *const u32, steps_len: usize, settings: *const i32, settings_len: usize, place: *mut usize, place_len: usize,
-        counts: *mut usize, counts_len: usize,
+        tiles: *const u16, tiles_len: usize, steps: *const u32, steps_len: usize, settings: *const i32, settings_len: usize,
+        place: *mut usize, place_len: usize, counts: *mut usize, counts_len: usize,
     ) -> i32;
     pub fn bihargesh_record_plane(
         plane: *mut u16, plane_len: usize, record: *mut u8, record_len: usize, vedge: *const u8, vedge_len: usize, hedge: *const u8, hedge_len: usize,
         sqw: *const u8, sqw_len: usize, sqh: *const u8, sqh_len: usize, qindex: *const u16, qindex_len: usize,
-        steps: *const u32, steps_len: usize, settings: *const i32, settings_len: usize, place: *mut usize, place_len: usize,
-        counts: *mut usize, counts_len: usize,
+        tiles: *const u16, tiles_len: usize, steps: *const u32, steps_len: usize, settings: *const i32, settings_len: usize,
+        place: *mut usize, place_len: usize, counts: *mut usize, counts_len: usize,
     ) -> i32;
     pub fn bihargesh_replay(
         plane: *mut u16, plane_len: usize, record: *const u8, record_len: usize,
@@ -54,6 +54,7 @@ extern "C" {
         chroma_sqw: *mut u8, chroma_sqw_len: usize, chroma_sqh: *mut u8, chroma_sqh_len: usize, chroma_qindex: *mut u16, chroma_qindex_len: usize,
         steps: *const u32, steps_len: usize, superblocks: *const u16, superblocks_len: usize, leaves: *const u16, leaves_len: usize,
         chroma_leaves: *const u16, chroma_leaves_len: usize, skips: *const u16, skips_len: usize,
+        tiles: *const u16, tiles_len: usize, chroma_tiles: *const u16, chroma_tiles_len: usize,
         settings: *const i32, settings_len: usize, place: *mut usize, place_len: usize,
         counts: *mut usize, counts_len: usize,
     ) -> i32;

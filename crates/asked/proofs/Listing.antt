@@ -4,38 +4,61 @@ use mathlib.Core.List.{List}
 use Prim.Native.Nat.{ℕ, _+_, _*_, _-_, _≤_, min, max}
 use native.Mathlib.Omega.{arith}
 use native.Mathlib.Nat.{le-trans}
-use lib.ListN.{getD}
 use borrow.Author.Needs.{needs}
 use borrow.Author.Tests.{eq-eqb, ne-eqb}
 use Rattle.laws.specs.Choose.{pick}
-use Rattle.settings.specs.Rules.{leafRoom}
+use Rattle.settings.specs.Rules.{leafRoom, tilesFrom}
+use Rattle.asked.specs.declared.lists.Lists.{Lists}
 use Rattle.asked.specs.Lists.{endOf, listsAsked, Within}
 
--- a limited end lies between the two
-between : {from end e : ℕ} (p : ℕ) → e ≡ max from (min p end) → from ≤ end → (from ≤ e) × (e ≤ end)
+-- a place limited to those from one to another
+abbrev limited : ℕ → ℕ → ℕ → ℕ
+limited p from end = max from (min p end)
+
+-- it lies between the two
+between : {from end e : ℕ} (p : ℕ) → e ≡ limited p from end → from ≤ end → (from ≤ e) × (e ≤ end)
 between p h le = (omega arith, omega arith)
 
+-- every list by the room of each sort of leaves: the ends of luma's leaves, of the skip leaves and of the tile starts, and chroma's leaves
+abbrev listed : ℕ → ℕ → ℕ → ℕ → ℕ → ℕ → ℕ → Lists
+listed room l from end s t u = record {
+  entries = 4096;
+  leaves = 4096;
+  leavesend = l;
+  chroma = from;
+  chromaend = end;
+  skips = 4096 + room + room;
+  skipsend = s;
+  tiles = 4096 + room + room + room;
+  tilesend = t;
+  chromatiles = 4096 + room + room + room + 1023;
+  chromatilesend = u;
+}
+
 -- room is what each sort of leaves has
-module _ (n room : ℕ) (places : List ℕ) (l c s : ℕ) (has : room ≡ leafRoom n)
+module _ (n room : ℕ) (places : List ℕ) (l c s t u : ℕ) (has : room ≡ leafRoom n)
     (el : l ≡ endOf places 4 4096 (4096 + room)) (ec : c ≡ endOf places 5 (4096 + room) (4096 + room + room))
-    (es : s ≡ endOf places 6 (4096 + room + room) (4096 + room + room + room)) where
+    (es : s ≡ endOf places 6 (4096 + room + room) (4096 + room + room + room))
+    (et : t ≡ endOf places 21 (4096 + room + room + room) (4096 + room + room + room + 1023))
+    (eu : u ≡ endOf places 22 (4096 + room + room + room + 1023) (4096 + room + room + room + 1023 + 1023)) where
   -- chroma without leaves of its own
-  pub lists-shared : c ≡ 4096 + room
-      → record { entries = 4096; leaves = 4096; leavesend = l; chroma = 4096; chromaend = l; skips = 4096 + room + room; skipsend = s } ≡ listsAsked n places
-  unfolding listsAsked pick
-  lists-shared h = rw (← has, el, es, eq-eqb _ _ (sym ec ∙ h))
+  pub lists-shared : c ≡ 4096 + room → listed room l 4096 l s t u ≡ listsAsked n places
+  unfolding listsAsked tilesFrom pick
+  lists-shared h = rw (← has, el, es, et, eu, eq-eqb _ _ (sym ec ∙ h))
 
   -- chroma with its own
-  pub lists-own : (c ≡ 4096 + room → ⊥)
-      → record { entries = 4096; leaves = 4096; leavesend = l; chroma = 4096 + room; chromaend = c; skips = 4096 + room + room; skipsend = s } ≡ listsAsked n places
-  unfolding listsAsked pick
-  lists-own h = rw (← has, el, es, ← ec, ne-eqb c (4096 + room) h)
+  pub lists-own : (c ≡ 4096 + room → ⊥) → listed room l (4096 + room) c s t u ≡ listsAsked n places
+  unfolding listsAsked tilesFrom pick
+  lists-own h = rw (← has, el, es, et, eu, ← ec, ne-eqb c (4096 + room) h)
 
 grows : (a b : ℕ) → a ≤ a + b
 grows a b = omega arith
 
--- the ends of the rooms, by what is there for three
-module _ (n room : ℕ) (some : 4096 ≤ n) (fits : 3 * room ≤ n - 4096) where
+-- the ends of the rooms, by what is there for three sorts of leaves and two lists of tile starts
+module _ (n room : ℕ) (some : 6142 ≤ n) (fits : 3 * room ≤ n - 6142) where
+  entries-fit : 4096 ≤ n
+  entries-fit = omega arith
+
   one-in : 4096 + room ≤ n
   one-in = omega arith
 
@@ -45,35 +68,51 @@ module _ (n room : ℕ) (some : 4096 ≤ n) (fits : 3 * room ≤ n - 4096) where
   three-in : 4096 + room + room + room ≤ n
   three-in = omega arith
 
--- every list lies within the numbers
-module _ (n room : ℕ) (places : List ℕ) (l c s : ℕ) (some : 4096 ≤ n) (fits : 3 * room ≤ n - 4096)
-    (el : l ≡ endOf places 4 4096 (4096 + room)) (ec : c ≡ endOf places 5 (4096 + room) (4096 + room + room))
-    (es : s ≡ endOf places 6 (4096 + room + room) (4096 + room + room + room)) where
-  luma-ends : (4096 ≤ l) × (l ≤ 4096 + room)
-  luma-ends = between (getD places 4 0) el (grows 4096 room)
+  four-in : 4096 + room + room + room + 1023 ≤ n
+  four-in = omega arith
 
-  chroma-ends : (4096 + room ≤ c) × (c ≤ 4096 + room + room)
-  chroma-ends = between (getD places 5 0) ec (grows (4096 + room) room)
+  five-in : 4096 + room + room + room + 1023 + 1023 ≤ n
+  five-in = omega arith
+
+-- every list lies within the numbers, whatever the places after the last ones are
+module _ (n room : ℕ) (pl ps pt pu : ℕ) (l s t u : ℕ) (some : 6142 ≤ n) (fits : 3 * room ≤ n - 6142)
+    (el : l ≡ limited pl 4096 (4096 + room))
+    (es : s ≡ limited ps (4096 + room + room) (4096 + room + room + room))
+    (et : t ≡ limited pt (4096 + room + room + room) (4096 + room + room + room + 1023))
+    (eu : u ≡ limited pu (4096 + room + room + room + 1023) (4096 + room + room + room + 1023 + 1023)) where
+  luma-ends : (4096 ≤ l) × (l ≤ 4096 + room)
+  luma-ends = between pl el (grows 4096 room)
 
   skips-ends : (4096 + room + room ≤ s) × (s ≤ 4096 + room + room + room)
-  skips-ends = between (getD places 6 0) es (grows (4096 + room + room) room)
+  skips-ends = between ps es (grows (4096 + room + room) room)
 
-  within-of : (from end : ℕ) → from ≤ end → end ≤ n
-      → Within (record { entries = 4096; leaves = 4096; leavesend = l; chroma = from; chromaend = end; skips = 4096 + room + room; skipsend = s }) n
+  tiles-ends : (4096 + room + room + room ≤ t) × (t ≤ 4096 + room + room + room + 1023)
+  tiles-ends = between pt et (grows (4096 + room + room + room) 1023)
+
+  chromatiles-ends : (4096 + room + room + room + 1023 ≤ u) × (u ≤ 4096 + room + room + room + 1023 + 1023)
+  chromatiles-ends = between pu eu (grows (4096 + room + room + room + 1023) 1023)
+
+  within-of : (from end : ℕ) → from ≤ end → end ≤ n → Within (listed room l from end s t u) n
   within-of from end a b = record {
-    entries-in = some;
+    entries-in = entries-fit n room some fits;
     leaves-from = luma-ends .0;
     leaves-in = le-trans (luma-ends .1) (one-in n room some fits);
     chroma-from = a;
     chroma-in = b;
     skips-from = skips-ends .0;
     skips-in = le-trans (skips-ends .1) (three-in n room some fits);
+    tiles-from = tiles-ends .0;
+    tiles-in = le-trans (tiles-ends .1) (four-in n room some fits);
+    chromatiles-from = chromatiles-ends .0;
+    chromatiles-in = le-trans (chromatiles-ends .1) (five-in n room some fits);
   }
 
-  pub within-shared : Within (record { entries = 4096; leaves = 4096; leavesend = l; chroma = 4096; chromaend = l; skips = 4096 + room + room; skipsend = s }) n
+  pub within-shared : Within (listed room l 4096 l s t u) n
   within-shared = within-of 4096 l (luma-ends .0) (le-trans (luma-ends .1) (one-in n room some fits))
 
-  pub within-own : Within (record { entries = 4096; leaves = 4096; leavesend = l; chroma = 4096 + room; chromaend = c; skips = 4096 + room + room; skipsend = s }) n
-  within-own = within-of (4096 + room) c (chroma-ends .0) (le-trans (chroma-ends .1) (two-in n room some fits))
+  pub within-own : {c : ℕ} (pc : ℕ) → c ≡ limited pc (4096 + room) (4096 + room + room) → Within (listed room l (4096 + room) c s t u) n
+  within-own {c} pc ec =
+      let ends = between pc ec (grows (4096 + room) room) in
+      within-of (4096 + room) c (ends .0) (le-trans (ends .1) (two-in n room some fits))
 
 pub ruleset listing = (needs, lists-shared, lists-own, within-shared, within-own)

@@ -1,11 +1,11 @@
--- The lists of the settings among their n short numbers: 4096 qindex entries, then luma's leaves, chroma's leaves and skip leaves,
+-- The lists of the settings among their n short numbers: 4096 qindex entries, then luma's leaves, chroma's leaves, skip leaves, luma's tile starts and chroma's,
 -- each from a place of its own to the place after its last number. Assumes nothing.
 use mathlib.Core.List.{List}
 use Prim.Native.Nat.{ℕ, _+_, _≤_, min, max}
 use lib.Dec.{eqb}
 use lib.ListN.{getD}
 use Rattle.laws.specs.Choose.{pick}
-use Rattle.settings.specs.Rules.{leafRoom}
+use Rattle.settings.specs.Rules.{leafRoom, tilesFrom}
 use Rattle.asked.specs.declared.lists.Lists.{Lists}
 
 -- the end of a list that begins at `from` and has room up to `end`, by the place after the last number of its kind
@@ -19,7 +19,7 @@ chromaFrom n = 4096 + leafRoom n
 abbrev pub skipsFrom : ℕ → ℕ
 skipsFrom n = chromaFrom n + leafRoom n
 
--- kinds 4, 5 and 6; chroma has luma's leaves where it has none of its own
+-- kinds 4, 5 and 6, 21 and 22; chroma has luma's leaves where it has none of its own, and no tile starts but its own
 unfoldable pub listsAsked : ℕ → List ℕ → Lists
 listsAsked n places = record {
   entries = 4096;
@@ -28,7 +28,11 @@ listsAsked n places = record {
   chroma = pick (eqb (endOf places 5 (chromaFrom n) (skipsFrom n)) (chromaFrom n)) 4096 (chromaFrom n);
   chromaend = pick (eqb (endOf places 5 (chromaFrom n) (skipsFrom n)) (chromaFrom n)) (endOf places 4 4096 (chromaFrom n)) (endOf places 5 (chromaFrom n) (skipsFrom n));
   skips = skipsFrom n;
-  skipsend = endOf places 6 (skipsFrom n) (skipsFrom n + leafRoom n);
+  skipsend = endOf places 6 (skipsFrom n) (tilesFrom n);
+  tiles = tilesFrom n;
+  tilesend = endOf places 21 (tilesFrom n) (tilesFrom n + 1023);
+  chromatiles = tilesFrom n + 1023;
+  chromatilesend = endOf places 22 (tilesFrom n + 1023) (tilesFrom n + 1023 + 1023);
 }
 
 -- the steps given, at most 352; all 352 of the published table where none is
@@ -44,3 +48,7 @@ pub record Within (l : Lists) (n : ℕ) : Type 0 where
   pub chroma-in : l .chromaend ≤ n
   pub skips-from : l .skips ≤ l .skipsend
   pub skips-in : l .skipsend ≤ n
+  pub tiles-from : l .tiles ≤ l .tilesend
+  pub tiles-in : l .tilesend ≤ n
+  pub chromatiles-from : l .chromatiles ≤ l .chromatilesend
+  pub chromatiles-in : l .chromatilesend ≤ n

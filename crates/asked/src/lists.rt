@@ -1,4 +1,4 @@
-// The lists of the settings: qindex entries, luma's leaves, chroma's leaves and skip leaves among the short numbers, and the steps.
+// The lists of the settings: qindex entries, luma's leaves, chroma's leaves, skip leaves and both planes' tile starts among the short numbers, and the steps.
 ghost use mathlib.Core.Path.{_≡_};
 ghost use Prim.Native.Nat.{_≤_, min, max};
 ghost use lib.ListN.{length};
@@ -16,6 +16,10 @@ pub struct Lists {
     pub chromaend: usize,
     pub skips: usize,
     pub skipsend: usize,
+    pub tiles: usize,
+    pub tilesend: usize,
+    pub chromatiles: usize,
+    pub chromatilesend: usize,
 }
 
 // A place between two others.
@@ -34,7 +38,7 @@ pub fn steps_of(n: usize) -> usize
 
 // The lists of n short numbers by the places after their last ones. Chroma has luma's leaves where it has none of its own.
 pub fn lists_of(places: &[usize], n: usize) -> Lists
-    requires { ⌜ (7 ≤ length (now places)) × (4096 ≤ n) ⌝ }
+    requires { ⌜ (23 ≤ length (now places)) × (6142 ≤ n) ⌝ }
     ensures { λ r. ⌜ (r ≡ listsAsked n (now (places .entry))) × Within r n ⌝ }
 {
     let room = leaf_room(n);
@@ -42,7 +46,11 @@ pub fn lists_of(places: &[usize], n: usize) -> Lists
     let skips = chroma + room;
     let l = limit(places[4], 4096, chroma);
     let c = limit(places[5], chroma, skips);
-    let s = limit(places[6], skips, skips + room);
+    let tiles = skips + room;
+    let chromatiles = tiles + 1023;
+    let s = limit(places[6], skips, tiles);
+    let t = limit(places[21], tiles, chromatiles);
+    let u = limit(places[22], chromatiles, chromatiles + 1023);
     if c == chroma {
         return Lists {
             entries: 4096,
@@ -52,6 +60,10 @@ pub fn lists_of(places: &[usize], n: usize) -> Lists
             chromaend: l,
             skips,
             skipsend: s,
+            tiles,
+            tilesend: t,
+            chromatiles,
+            chromatilesend: u,
         };
     }
     Lists {
@@ -62,5 +74,9 @@ pub fn lists_of(places: &[usize], n: usize) -> Lists
         chromaend: c,
         skips,
         skipsend: s,
+        tiles,
+        tilesend: t,
+        chromatiles,
+        chromatilesend: u,
     }
 }

@@ -2,3 +2,4 @@ pub mod Accepted
 pub mod Marks
 pub mod Places
 pub mod Reach
+pub mod Tiles

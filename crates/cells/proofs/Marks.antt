@@ -16,7 +16,7 @@ use Rattle.rules.specs.declared.settings.Plane.{Plane}
 use Rattle.rules.specs.declared.refusals.Found.{Found}
 use Rattle.rules.specs.declared.refusals.Found.the-variants.{Nothing}
 use Rattle.rules.specs.Refusals.{foundUnless}
-use Rattle.rules.specs.Plane.{Grid, grid, cellGood, badCell}
+use Rattle.rules.specs.Plane.{Grid, grid, tiled, cellGood, badCell}
 use Rattle.scan.proofs.First.{firsts, all-nothing, nothing-all, found-unless-not, unless-nothing}
 use Rattle.cells.specs.Fit.{small, badOf}
 
@@ -65,10 +65,10 @@ none-good n g e k h =
     let q = all-parts _ _ (p .1) in
     (leb-true _ _ (q .0), leb-true _ _ (all-parts _ _ (q .1) .0))
 
--- no qindex is looked at
-pub bad-is : (s : Plane) (v h w t : List ℕ) (r : Found) → r ≡ badOf (s .rows * s .cols) (grid v h w t []) → (q : List ℕ) → r ≡ badCell s (grid v h w t q)
+-- no qindex and no tile is looked at
+pub bad-is : (s : Plane) (v h w t : List ℕ) (r : Found) → r ≡ badOf (s .rows * s .cols) (grid v h w t []) → (q ts : List ℕ) → r ≡ badCell s (tiled v h w t q ts)
 unfolding badCell badOf cellGood
-bad-is s v h w t r e q = e
+bad-is s v h w t r e q ts = e
 
 pub ruleset most = (needs, largest-none, most-more, largest-end)
 

@@ -68,13 +68,13 @@ unfolding pick
 same true a = refl
 same false a = refl
 
-pub marks-one : (dir : ℕ) (m z q : List ℕ) → marksOf (oneWay m z q) dir ≡ m
+pub marks-one : (dir : ℕ) (m z q ts : List ℕ) → marksOf (oneWay m z q ts) dir ≡ m
 unfolding marksOf
-marks-one dir m z q = same (eqb dir 0) m
+marks-one dir m z q ts = same (eqb dir 0) m
 
-pub indices-one : (dir : ℕ) (m z q : List ℕ) → indicesOf (oneWay m z q) dir ≡ z
+pub indices-one : (dir : ℕ) (m z q ts : List ℕ) → indicesOf (oneWay m z q ts) dir ≡ z
 unfolding indicesOf
-indices-one dir m z q = same (eqb dir 0) z
+indices-one dir m z q ts = same (eqb dir 0) z
 
 -- whether a cell has an edge, k being the number that is 0 in the first column or row
 module _ (s : Plane) (m : List ℕ) (dir r c : ℕ) {k : ℕ} (at : k ≡ pick (eqb dir 0) c r) where
@@ -84,7 +84,7 @@ module _ (s : Plane) (m : List ℕ) (dir r c : ℕ) {k : ℕ} (at : k ≡ pick (
 
   pub edge-mark : {i : ℕ} → (k ≡ 0 → ⊥) → i ≡ cellOf s r c → eqb (getD m i 0) 1 ≡ isEdge s (marked m) dir r c
   unfolding isEdge
-  edge-mark {i} e f = let some : 0 < k = omega arith in both-ok _ _ _ (is-lt 0 (pick (eqb dir 0) c r) (omega arith)) (rw (marks-one dir m [] [], ← f))
+  edge-mark {i} e f = let some : 0 < k = omega arith in both-ok _ _ _ (is-lt 0 (pick (eqb dir 0) c r) (omega arith)) (rw (marks-one dir m [] [] [], ← f))
 
 -- the numbers of an edge
 pub place-most : {s : Plane} {p : ℕ} (dir : ℕ) {r c : ℕ} → Sizes s → Inner s dir r c → p ≡ pick (eqb dir 0) (c * 4) (r * 4) → p ≤ 4096

@@ -1,6 +1,6 @@
 -- Room: what an edge needs of it, and that only the first and the last column or row of edges can lack it.
 -- Assumes nothing.
-use mathlib.Core.Path.{_≡_, refl, sym, _∙_}
+use mathlib.Core.Path.{_≡_, refl, sym, ap, _∙_}
 use mathlib.Core.Bool.{Bool, true, false, not}
 use mathlib.Core.List.{List, [], _∷_}
 use Prim.Native.Nat.{ℕ, _+_, _*_, _-_, _≤_, _<_}
@@ -16,10 +16,10 @@ use Rattle.rules.specs.declared.refusals.Found.the-variants.{At, Nothing}
 use Rattle.rules.specs.Lengths.{pairOf, reachBefore, reachAfter}
 use Rattle.rules.specs.Refusals.{first, sooner}
 use Rattle.rules.specs.Segment.{hasRoom, roomAlong}
-use Rattle.rules.specs.Plane.{Grid, grid, cellOf, marksOf, indicesOf, indexAt, shortenedAt, isEdge, edgeRoom, lacksRoom, lacksRow, lacksDir, noRoom}
+use Rattle.rules.specs.Plane.{Grid, tiled, cellOf, marksOf, indicesOf, indexAt, shortenedAt, isEdge, edgeRoom, lacksRoom, lacksRow, lacksDir, noRoom}
 use Rattle.lengths.proofs.Lengths.{pair-facts}
 use Rattle.scan.proofs.First.{first-found, all-nothing, found-unless, found-unless-not, sooner-first-by, sooner-second-by}
-use Rattle.cells.specs.Fit.{Cell, Inner, oneWay, sized, marked}
+use Rattle.cells.specs.Fit.{Cell, Inner, oneWay, sized, marked, starting, roomOf}
 use Rattle.cells.proofs.Places.{pair-below}
 
 -- ---- one edge
@@ -33,29 +33,37 @@ unfolding isEdge
 inner-by m {t = t} k e f = record { cell = k; later = ltb-true _ _ (both-parts _ _ (sym (told-yes-not _ t e f)) .0) }
 
 -- room along the lines, in either direction
-module _ (s : Plane) (z : List ℕ) (dir r c : ℕ) {p b a : ℕ} {u t : Bool} (short : u ≡ shortenedAt s dir r) (is : p ≡ pairOf (indexAt s (sized z) dir r c) (s .chroma) u) (before : b ≡ reachBefore p) (after : a ≡ reachAfter p) where
-  pub room-left : dir ≡ 0 → t ≡ all (leb b (c * 4) ∷ leb (c * 4 + a) (4 * s .cols) ∷ leb (r * 4 + 4) (4 * s .rows) ∷ []) → t ≡ edgeRoom s (sized z) dir r c
-  unfolding edgeRoom hasRoom
-  room-left e f = rw (← short, ← is, ← before, ← after, eq-eqb _ _ e) f
+module _ (s : Plane) (z : List ℕ) (u : Bool) (dir r c : ℕ) {p b a : ℕ} {t : Bool} (is : p ≡ pairOf (indexAt s (sized z) dir r c) (s .chroma) u) (before : b ≡ reachBefore p) (after : a ≡ reachAfter p) where
+  pub room-left : dir ≡ 0 → t ≡ all (leb b (c * 4) ∷ leb (c * 4 + a) (4 * s .cols) ∷ leb (r * 4 + 4) (4 * s .rows) ∷ []) → t ≡ roomOf s z u dir r c
+  unfolding roomOf hasRoom
+  room-left e f = rw (← is, ← before, ← after, eq-eqb _ _ e) f
 
-  pub room-up : (dir ≡ 0 → ⊥) → t ≡ all (leb b (r * 4) ∷ leb (r * 4 + a) (4 * s .rows) ∷ leb (c * 4 + 4) (4 * s .cols) ∷ []) → t ≡ edgeRoom s (sized z) dir r c
-  unfolding edgeRoom hasRoom
-  room-up e f = rw (← short, ← is, ← before, ← after, ne-eqb _ _ e) f
+  pub room-up : (dir ≡ 0 → ⊥) → t ≡ all (leb b (r * 4) ∷ leb (r * 4 + a) (4 * s .rows) ∷ leb (c * 4 + 4) (4 * s .cols) ∷ []) → t ≡ roomOf s z u dir r c
+  unfolding roomOf hasRoom
+  room-up e f = rw (← is, ← before, ← after, ne-eqb _ _ e) f
+
+-- an edge's room is by whether it is shortened
+pub edge-room-is : (s : Plane) (m z q ts : List ℕ) (dir r c : ℕ) → roomOf s z (shortenedAt s (starting ts) dir r c) dir r c ≡ edgeRoom s (oneWay m z q ts) dir r c
+unfolding roomOf edgeRoom indexAt indicesOf shortenedAt
+edge-room-is s m z q ts dir r c = refl
 
 -- a cell's answer, from its mark and its room
-module _ (s : Plane) (m z : List ℕ) (dir r c : ℕ) {t : Bool} (edge : t ≡ isEdge s (marked m) dir r c) where
-  pub lacks-none : not t ≡ true → Nothing ≡ lacksRoom s (oneWay m z []) dir r c
+module _ (s : Plane) (m z ts : List ℕ) (dir r c : ℕ) {t : Bool} (edge : t ≡ isEdge s (marked m) dir r c) where
+  pub lacks-none : not t ≡ true → Nothing ≡ lacksRoom s (oneWay m z [] ts) dir r c
   unfolding lacksRoom isEdge marksOf
   lacks-none f = found-unless-not _ _ (pick-no _ _ _ _ (told-no-not _ t edge f) refl)
 
-  module _ (f : not t ≡ false) {u : Bool} (room : u ≡ edgeRoom s (sized z) dir r c) where
-    pub lacks-not : u ≡ true → Nothing ≡ lacksRoom s (oneWay m z []) dir r c
-    unfolding lacksRoom isEdge marksOf edgeRoom indexAt indicesOf
-    lacks-not e = found-unless-not _ _ (pick-yes _ _ _ _ (told-yes-not _ t edge f) (told-yes _ u room e))
+  module _ (f : not t ≡ false) {u w : Bool} (short : w ≡ shortenedAt s (starting ts) dir r c) (room : u ≡ roomOf s z w dir r c) where
+    has : u ≡ edgeRoom s (oneWay m z [] ts) dir r c
+    has = room ∙ ap (λ (b : Bool). roomOf s z b dir r c) short ∙ edge-room-is s m z [] ts dir r c
 
-    pub lacks-it : {i : ℕ} → u ≡ false → i ≡ cellOf s r c → At i ≡ lacksRoom s (oneWay m z []) dir r c
-    unfolding lacksRoom isEdge marksOf edgeRoom indexAt indicesOf
-    lacks-it e q = rw q (found-unless _ _ (pick-yes _ _ _ _ (told-yes-not _ t edge f) (told-no _ u room e)))
+    pub lacks-not : u ≡ true → Nothing ≡ lacksRoom s (oneWay m z [] ts) dir r c
+    unfolding lacksRoom isEdge marksOf
+    lacks-not e = found-unless-not _ _ (pick-yes _ _ _ _ (told-yes-not _ t edge f) (told-yes _ u has e))
+
+    pub lacks-it : {i : ℕ} → u ≡ false → i ≡ cellOf s r c → At i ≡ lacksRoom s (oneWay m z [] ts) dir r c
+    unfolding lacksRoom isEdge marksOf
+    lacks-it e q = rw q (found-unless _ _ (pick-yes _ _ _ _ (told-yes-not _ t edge f) (told-no _ u has e)))
 
 -- ---- only the ends can lack room
 
@@ -75,7 +83,7 @@ module _ (s : Plane) (g : Grid) (dir r c : ℕ) (k : Cell s r c) where
   middle-room : 0 < pick (eqb dir 0) c r → Middle s dir r c → true ≡ edgeRoom s g dir r c
   unfolding edgeRoom hasRoom pick
   middle-room some mid =
-      let f = pair-facts _ (pair-below (indexAt s g dir r c) (s .chroma) (shortenedAt s dir r) refl) in
+      let f = pair-facts _ (pair-below (indexAt s g dir r c) (s .chroma) (shortenedAt s g dir r c) refl) in
       go (eqb dir 0) some mid (f .before .reach-8) (f .after .reach-8)
     where
       go : (t : Bool) → 0 < pick t c r → (pick t c r ≡ 1 → ⊥) × (pick t c r + 1 ≡ pick t (s .cols) (s .rows) → ⊥) → {b a : ℕ} → b ≤ 8 → a ≤ 8 → true ≡ roomAlong t (4 * s .cols) (4 * s .rows) (c * 4) (r * 4) b a
@@ -177,10 +185,10 @@ module _ (s : Plane) (g : Grid) where
     unfolding lacksDir
     rows-last e q = ends-second _ _ ends-rows some one e q
 
--- both directions, of any qindex
-pub room-is : (s : Plane) (v h w t : List ℕ) (r : Found) → r ≡ sooner (lacksDir s (oneWay v w []) 0) (lacksDir s (oneWay h t []) 1) → (q : List ℕ) → r ≡ noRoom s (grid v h w t q)
-unfolding noRoom lacksDir lacksRow lacksRoom isEdge marksOf edgeRoom indexAt indicesOf pick
-room-is s v h w t r e q = e
+-- both directions, of any qindex; no tile is looked at in direction 1
+pub room-is : (s : Plane) (v h w t ts : List ℕ) (r : Found) → r ≡ sooner (lacksDir s (oneWay v w [] ts) 0) (lacksDir s (oneWay h t [] []) 1) → (q : List ℕ) → r ≡ noRoom s (tiled v h w t q ts)
+unfolding noRoom lacksDir lacksRow lacksRoom isEdge marksOf edgeRoom indexAt indicesOf shortenedAt pick
+room-is s v h w t ts r e q = e
 
 pub ruleset rooms = (needs, reach-small, inner-by, room-left, room-up, lacks-none, lacks-not, lacks-it)
 

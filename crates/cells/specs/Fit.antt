@@ -2,13 +2,15 @@
 -- Assumes nothing.
 use mathlib.Core.List.{List, [], _∷_}
 use mathlib.Core.Bool.{Bool}
-use Prim.Native.Nat.{ℕ, _*_, _≤_, _<_}
+use Prim.Native.Nat.{ℕ, _*_, _%_, _≤_, _<_}
 use lib.Dec.{eqb, leb}
 use lib.ListN.{length, getD}
 use Rattle.laws.specs.Choose.{pick, all}
 use Rattle.laws.specs.Largest.{largest}
 use Rattle.rules.specs.declared.settings.Plane.{Plane}
-use Rattle.rules.specs.Plane.{Grid, grid, cellGood}
+use Rattle.rules.specs.Lengths.{pairOf}
+use Rattle.rules.specs.Segment.{hasRoom}
+use Rattle.rules.specs.Plane.{Grid, tiled, cellGood, indexAt}
 use Rattle.rules.specs.declared.refusals.Found.{Found}
 use Rattle.rules.specs.Refusals.{first, foundUnless}
 
@@ -71,13 +73,28 @@ pub record Inner (s : Plane) (dir r c : ℕ) : Type 0 where
   pub cell : Cell s r c
   pub later : 0 < pick (eqb dir 0) c r
 
--- ---- grids with the same lists in both directions: of marks, size indices and qindex; of size indices alone; of marks alone
+-- ---- grids with the same lists in both directions: of marks, size indices, qindex and tile starts; of one of these alone
 
-abbrev pub oneWay : List ℕ → List ℕ → List ℕ → Grid
-oneWay marks sizes qindex = grid marks marks sizes sizes qindex
+abbrev pub oneWay : List ℕ → List ℕ → List ℕ → List ℕ → Grid
+oneWay marks sizes qindex tiles = tiled marks marks sizes sizes qindex tiles
 
 abbrev pub sized : List ℕ → Grid
-sized sizes = oneWay [] sizes []
+sized sizes = oneWay [] sizes [] []
 
 abbrev pub marked : List ℕ → Grid
-marked marks = oneWay marks [] []
+marked marks = oneWay marks [] [] []
+
+abbrev pub starting : List ℕ → Grid
+starting tiles = oneWay [] [] [] tiles
+
+-- ---- an edge by whether it is shortened
+
+-- whether it is, by whether its column starts a tile
+unfoldable pub shortBy : Plane → Bool → ℕ → ℕ → Bool
+shortBy s start dir r = pick (eqb dir 0) start (eqb (r % s .sbh) 0)
+
+-- whether it has room
+unfoldable pub roomOf : Plane → List ℕ → Bool → ℕ → ℕ → ℕ → Bool
+roomOf s sizes shortened dir r c =
+    hasRoom (4 * s .cols) (4 * s .rows)
+    (record { x = c * 4; y = r * 4; dir = dir; pair = pairOf (indexAt s (sized sizes) dir r c) (s .chroma) shortened; q = 0; side = 0 })

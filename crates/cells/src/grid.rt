@@ -6,7 +6,7 @@ ghost use mathlib.Core.List.{List, []};
 ghost use Prim.Native.Nat.{ℕ, _+_, _*_, _≤_, max};
 ghost use lib.ListN.{length};
 ghost use Rattle.laws.specs.Largest.{largest};
-ghost use Rattle.rules.specs.Plane.{grid, cellGood, badCell};
+ghost use Rattle.rules.specs.Plane.{grid, tiled, cellGood, badCell};
 ghost use Rattle.cells.specs.Fit.{Sizes, Long, small, badOf};
 
 fn larger(a: u8, b: u8) -> u8
@@ -74,10 +74,10 @@ fn first_bad(vedge: &[u8], hedge: &[u8], sqw: &[u8], sqh: &[u8], count: usize) -
     Found::Nothing
 }
 
-// The first bad cell of a plane's grid, whatever its qindex: the largest numbers first, since a cell is seldom bad, and the place only where one is.
+// The first bad cell of a plane's grid, whatever its qindex and tiles: the largest numbers first, since a cell is seldom bad, and the place only where one is.
 pub fn bad_cell(vedge: &[u8], hedge: &[u8], sqw: &[u8], sqh: &[u8], s: Plane) -> Found
     requires { ⌜ Sizes s × Long (s .rows * s .cols) (length (now vedge)) (length (now hedge)) (length (now sqw)) (length (now sqh)) ⌝ }
-    ensures { λ r. ⌜ ((q : List ℕ) → r ≡ badCell s (grid (now (vedge .entry)) (now (hedge .entry)) (now (sqw .entry)) (now (sqh .entry)) q)) ⌝ }
+    ensures { λ r. ⌜ ((q ts : List ℕ) → r ≡ badCell s (tiled (now (vedge .entry)) (now (hedge .entry)) (now (sqw .entry)) (now (sqh .entry)) q ts)) ⌝ }
 {
     let count = s.rows * s.cols;
     if all_good(vedge, hedge, sqw, sqh, count) {

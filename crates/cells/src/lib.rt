@@ -1,10 +1,13 @@
-// What a plane's grid says of its edges, and document 01's checks 2, 3, 6, 7 and 8 of a plane.
+// What a plane's grid says of its edges, and document 01's checks 2, 3, 6, 7 and 8 of a plane, with document 02's check of its tile starts.
 
 // Sizes and lengths: refusals 2 and 3.
 pub mod sizes;
 
 // Marks and size indices: refusal 6.
 pub mod grid;
+
+// Tile starts: refusal 5.
+pub mod starts;
 
 // The edge of a cell: whether it is there, the cell before it, and its pair of lengths.
 pub mod pair;

@@ -1,5 +1,6 @@
 // The edge of a cell, as far as its grid alone says: whether it is there, the cell before it, its size index and its pair of lengths.
 // Direction 0 is the cell's left side, 1 its upper side; marks and sizes are the direction's own lists.
+use crate::starts::starts_tile;
 use laws::least;
 use lengths::ladder::filter_lengths;
 use rules::settings::Plane;
@@ -10,7 +11,7 @@ ghost use lib.ListN.{length};
 ghost use Rattle.laws.specs.Choose.{pick};
 ghost use Rattle.rules.specs.Lengths.{pairOf};
 ghost use Rattle.rules.specs.Plane.{cellOf, cellBefore, cappedOf, indexAt, shortenedAt, isEdge};
-ghost use Rattle.cells.specs.Fit.{Sizes, Cell, Inner, Indices, sized, marked};
+ghost use Rattle.cells.specs.Fit.{Sizes, Cell, Inner, Indices, sized, marked, starting, shortBy};
 
 fn wide(x: u8) -> usize
     ensures { λ r. ⌜ r ≡ x ⌝ }
@@ -73,13 +74,24 @@ fn index_at(sizes: &[u8], s: Plane, dir: usize, r: usize, c: usize) -> usize
     )
 }
 
-// Whether an edge is shortened.
-pub fn shortened_at(s: Plane, dir: usize, r: usize) -> bool
+// Whether an edge is shortened, by whether its column starts a tile.
+pub fn shortened_by(s: Plane, start: bool, dir: usize, r: usize) -> bool
     requires { ⌜ Sizes s ⌝ }
-    ensures { λ t. ⌜ t ≡ shortenedAt s dir r ⌝ }
+    ensures { λ t. ⌜ t ≡ shortBy s start dir r ⌝ }
 {
     if dir == 0 {
-        return false;
+        return start;
+    }
+    r % s.sbh == 0
+}
+
+// The same by the list of tile starts, which direction 1 does not look at.
+pub fn shortened_at(tiles: &[u16], s: Plane, dir: usize, r: usize, c: usize) -> bool
+    requires { ⌜ Sizes s ⌝ }
+    ensures { λ t. ⌜ t ≡ shortenedAt s (starting (now (tiles .entry))) dir r c ⌝ }
+{
+    if dir == 0 {
+        return starts_tile(tiles, c);
     }
     r % s.sbh == 0
 }

@@ -14,8 +14,8 @@ ghost use Prim.Native.Nat.{ℕ, _+_, _*_, _≤_, _<_};
 ghost use lib.Dec.{leb};
 ghost use lib.ListN.{length};
 ghost use Rattle.laws.specs.Choose.{all};
-ghost use Rattle.rules.specs.Plane.{grid, shortenedAt, edgeRoom, lacksRoom, lacksRow, lacksDir, noRoom};
-ghost use Rattle.cells.specs.Fit.{Sizes, Cell, Inner, Indices, Ready, oneWay, sized};
+ghost use Rattle.rules.specs.Plane.{tiled, lacksRoom, lacksRow, lacksDir, noRoom};
+ghost use Rattle.cells.specs.Fit.{Sizes, Cell, Inner, Indices, Ready, oneWay, roomOf};
 
 // Whether both reaches lie in the plane along an edge's lines, and the four lines beside each other.
 fn along(at: usize, beside: usize, length: usize, breadth: usize, b: usize, a: usize) -> bool
@@ -31,10 +31,10 @@ fn along(at: usize, beside: usize, length: usize, breadth: usize, b: usize, a: u
     beside + 4 <= breadth
 }
 
-// Whether the edge of a cell has room.
+// Whether the edge of a cell has room, shortened or not.
 fn edge_room(sizes: &[u8], s: Plane, shortened: bool, dir: usize, r: usize, c: usize) -> bool
-    requires { ⌜ Sizes s × Inner s dir r c × Indices s (now sizes) × (shortened ≡ shortenedAt s dir r) ⌝ }
-    ensures { λ t. ⌜ t ≡ edgeRoom s (sized (now (sizes .entry))) dir r c ⌝ }
+    requires { ⌜ Sizes s × Inner s dir r c × Indices s (now sizes) ⌝ }
+    ensures { λ t. ⌜ t ≡ roomOf s (now (sizes .entry)) shortened dir r c ⌝ }
 {
     let pair = pair_at(sizes, s, shortened, dir, r, c);
     let b = reach_before(pair);
@@ -46,14 +46,22 @@ fn edge_room(sizes: &[u8], s: Plane, shortened: bool, dir: usize, r: usize, c: u
 }
 
 // The cell, where it has an edge that lacks room.
-fn lacks_room(marks: &[u8], sizes: &[u8], s: Plane, dir: usize, r: usize, c: usize) -> Found
+fn lacks_room(
+    marks: &[u8],
+    sizes: &[u8],
+    tiles: &[u16],
+    s: Plane,
+    dir: usize,
+    r: usize,
+    c: usize,
+) -> Found
     requires { ⌜ Ready s (now marks) (now sizes) × Cell s r c ⌝ }
-    ensures { λ f. ⌜ f ≡ lacksRoom s (oneWay (now (marks .entry)) (now (sizes .entry)) []) dir r c ⌝ }
+    ensures { λ f. ⌜ f ≡ lacksRoom s (oneWay (now (marks .entry)) (now (sizes .entry)) [] (now (tiles .entry))) dir r c ⌝ }
 {
     if !is_edge(marks, s, dir, r, c) {
         return Found::Nothing;
     }
-    let shortened = shortened_at(s, dir, r);
+    let shortened = shortened_at(tiles, s, dir, r, c);
     if edge_room(sizes, s, shortened, dir, r, c) {
         return Found::Nothing;
     }
@@ -61,29 +69,29 @@ fn lacks_room(marks: &[u8], sizes: &[u8], s: Plane, dir: usize, r: usize, c: usi
 }
 
 // The first vertical edge of a row that lacks room: in its first or last column of edges.
-fn lacks_ends(vedge: &[u8], sqw: &[u8], s: Plane, r: usize) -> Found
+fn lacks_ends(vedge: &[u8], sqw: &[u8], tiles: &[u16], s: Plane, r: usize) -> Found
     requires { ⌜ Ready s (now vedge) (now sqw) × (r < s .rows) ⌝ }
-    ensures { λ f. ⌜ f ≡ lacksRow s (oneWay (now (vedge .entry)) (now (sqw .entry)) []) 0 r ⌝ }
+    ensures { λ f. ⌜ f ≡ lacksRow s (oneWay (now (vedge .entry)) (now (sqw .entry)) [] (now (tiles .entry))) 0 r ⌝ }
 {
     let cols = s.cols;
     if cols < 2 {
         return Found::Nothing;
     }
-    let f = lacks_room(vedge, sqw, s, 0, r, 1);
+    let f = lacks_room(vedge, sqw, tiles, s, 0, r, 1);
     if let Found::At(k) = f {
         return Found::At(k);
     }
-    lacks_room(vedge, sqw, s, 0, r, cols - 1)
+    lacks_room(vedge, sqw, tiles, s, 0, r, cols - 1)
 }
 
 // The first vertical edge that lacks room.
-fn lacks_vert(vedge: &[u8], sqw: &[u8], s: Plane) -> Found
+fn lacks_vert(vedge: &[u8], sqw: &[u8], tiles: &[u16], s: Plane) -> Found
     requires { ⌜ Ready s (now vedge) (now sqw) ⌝ }
-    ensures { λ f. ⌜ f ≡ lacksDir s (oneWay (now (vedge .entry)) (now (sqw .entry)) []) 0 ⌝ }
+    ensures { λ f. ⌜ f ≡ lacksDir s (oneWay (now (vedge .entry)) (now (sqw .entry)) [] (now (tiles .entry))) 0 ⌝ }
 {
     let rows = s.rows;
     for r in 0..rows {
-        let f = lacks_ends(vedge, sqw, s, r);
+        let f = lacks_ends(vedge, sqw, tiles, s, r);
         if let Found::At(k) = f {
             return Found::At(k);
         }
@@ -91,14 +99,22 @@ fn lacks_vert(vedge: &[u8], sqw: &[u8], s: Plane) -> Found
     Found::Nothing
 }
 
+// The cell, where it has a horizontal edge that lacks room: no tile shortens one.
+fn lacks_above(hedge: &[u8], sqh: &[u8], s: Plane, r: usize, c: usize) -> Found
+    requires { ⌜ Ready s (now hedge) (now sqh) × Cell s r c ⌝ }
+    ensures { λ f. ⌜ f ≡ lacksRoom s (oneWay (now (hedge .entry)) (now (sqh .entry)) [] []) 1 r c ⌝ }
+{
+    lacks_room(hedge, sqh, &[], s, 1, r, c)
+}
+
 // The first horizontal edge of a row that lacks room.
 fn lacks_row(hedge: &[u8], sqh: &[u8], s: Plane, r: usize) -> Found
     requires { ⌜ Ready s (now hedge) (now sqh) × (r < s .rows) ⌝ }
-    ensures { λ f. ⌜ f ≡ lacksRow s (oneWay (now (hedge .entry)) (now (sqh .entry)) []) 1 r ⌝ }
+    ensures { λ f. ⌜ f ≡ lacksRow s (oneWay (now (hedge .entry)) (now (sqh .entry)) [] []) 1 r ⌝ }
 {
     let cols = s.cols;
     for c in 0..cols {
-        let f = lacks_room(hedge, sqh, s, 1, r, c);
+        let f = lacks_above(hedge, sqh, s, r, c);
         if let Found::At(k) = f {
             return Found::At(k);
         }
@@ -109,7 +125,7 @@ fn lacks_row(hedge: &[u8], sqh: &[u8], s: Plane, r: usize) -> Found
 // The first horizontal edge that lacks room: in the first or last row of edges.
 fn lacks_horz(hedge: &[u8], sqh: &[u8], s: Plane) -> Found
     requires { ⌜ Ready s (now hedge) (now sqh) ⌝ }
-    ensures { λ f. ⌜ f ≡ lacksDir s (oneWay (now (hedge .entry)) (now (sqh .entry)) []) 1 ⌝ }
+    ensures { λ f. ⌜ f ≡ lacksDir s (oneWay (now (hedge .entry)) (now (sqh .entry)) [] []) 1 ⌝ }
 {
     let rows = s.rows;
     if rows < 2 {
@@ -123,11 +139,11 @@ fn lacks_horz(hedge: &[u8], sqh: &[u8], s: Plane) -> Found
 }
 
 // The first edge of a plane that lacks room, whatever the qindex.
-pub fn no_room(vedge: &[u8], hedge: &[u8], sqw: &[u8], sqh: &[u8], s: Plane) -> Found
+pub fn no_room(vedge: &[u8], hedge: &[u8], sqw: &[u8], sqh: &[u8], tiles: &[u16], s: Plane) -> Found
     requires { ⌜ Ready s (now vedge) (now sqw) × Ready s (now hedge) (now sqh) ⌝ }
-    ensures { λ f. ⌜ ((q : List ℕ) → f ≡ noRoom s (grid (now (vedge .entry)) (now (hedge .entry)) (now (sqw .entry)) (now (sqh .entry)) q)) ⌝ }
+    ensures { λ f. ⌜ ((q : List ℕ) → f ≡ noRoom s (tiled (now (vedge .entry)) (now (hedge .entry)) (now (sqw .entry)) (now (sqh .entry)) q (now (tiles .entry)))) ⌝ }
 {
-    let f = lacks_vert(vedge, sqw, s);
+    let f = lacks_vert(vedge, sqw, tiles, s);
     if let Found::At(k) = f {
         return Found::At(k);
     }

@@ -2,10 +2,12 @@
 use rules::settings::Plane;
 use scan::in_range;
 ghost use mathlib.Core.Path.{_≡_};
+ghost use mathlib.Core.List.{List};
+ghost use Prim.Native.Nat.{ℕ};
 ghost use lib.Dec.{eqb};
 ghost use lib.ListN.{length};
 ghost use Rattle.laws.specs.Choose.{either};
-ghost use Rattle.rules.specs.Plane.{grid, planeSizesOk, planeLengthsOk};
+ghost use Rattle.rules.specs.Plane.{tiled, planeSizesOk, planeLengthsOk};
 ghost use Rattle.cells.specs.Fit.{Sizes};
 
 // A superblock is 8 or 16 cells wide and high.
@@ -43,7 +45,7 @@ pub fn sizes_ok(s: Plane) -> bool
     superblock_ok(s.sbh)
 }
 
-// Every list is long enough.
+// Every list is long enough, whatever the tiles.
 pub fn lengths_ok(
     plane: &[u16],
     vedge: &[u8],
@@ -54,7 +56,7 @@ pub fn lengths_ok(
     s: Plane,
 ) -> bool
     requires { ⌜ Sizes s ⌝ }
-    ensures { λ r. ⌜ r ≡ planeLengthsOk s (grid (now (vedge .entry)) (now (hedge .entry)) (now (sqw .entry)) (now (sqh .entry)) (now (qindex .entry))) (length (now (plane .entry))) ⌝ }
+    ensures { λ r. ⌜ ((ts : List ℕ) → r ≡ planeLengthsOk s (tiled (now (vedge .entry)) (now (hedge .entry)) (now (sqw .entry)) (now (sqh .entry)) (now (qindex .entry)) ts) (length (now (plane .entry)))) ⌝ }
 {
     if plane.len() < 4 * s.rows * s.stride {
         return false;

@@ -1,7 +1,7 @@
 // A whole frame for C: its answer as a number, with the place of a refusal and both counts.
 use answers::told_counts;
 use frame_entry::frames::filter;
-ghost use Rattle.rules.specs.Plane.{grid};
+ghost use Rattle.rules.specs.Plane.{tiled};
 ghost use Rattle.rules.specs.Frame.{planes, grids, lent, given};
 ghost use Rattle.frame_entry.specs.Listed.{FrameTold};
 
@@ -26,6 +26,8 @@ pub extern "C" fn bihargesh_frame(
     leaves: &[u16],
     chromaleaves: &[u16],
     skips: &[u16],
+    tiles: &[u16],
+    chromatiles: &[u16],
     settings: &[i32],
     place: &mut [usize],
     counts: &mut [usize],
@@ -35,13 +37,17 @@ pub extern "C" fn bihargesh_frame(
         (given (now (steps .entry)) (now (sbq .entry)) (now (leaves .entry)) (now (chromaleaves .entry)) (now (skips .entry)))
         (lent
         (planes (now (y .entry)) (now (u .entry)) (now (v .entry)))
-        (grids (grid (now (lv .entry)) (now (lh .entry)) (now (lw .entry)) (now (lt .entry)) (now (lq .entry))) (grid (now (cv .entry)) (now (ch .entry)) (now (cw .entry)) (now (ct .entry)) (now (cq .entry)))))
+        (grids
+        (tiled (now (lv .entry)) (now (lh .entry)) (now (lw .entry)) (now (lt .entry)) (now (lq .entry)) (now (tiles .entry)))
+        (tiled (now (cv .entry)) (now (ch .entry)) (now (cw .entry)) (now (ct .entry)) (now (cq .entry)) (now (chromatiles .entry)))))
         (now (place .entry))
         (now (counts .entry))
         r
         (lent
         (planes (now (y .exit)) (now (u .exit)) (now (v .exit)))
-        (grids (grid (now (lv .exit)) (now (lh .exit)) (now (lw .exit)) (now (lt .exit)) (now (lq .exit))) (grid (now (cv .exit)) (now (ch .exit)) (now (cw .exit)) (now (ct .exit)) (now (cq .exit)))))
+        (grids
+        (tiled (now (lv .exit)) (now (lh .exit)) (now (lw .exit)) (now (lt .exit)) (now (lq .exit)) (now (tiles .entry)))
+        (tiled (now (cv .exit)) (now (ch .exit)) (now (cw .exit)) (now (ct .exit)) (now (cq .exit)) (now (chromatiles .entry)))))
         (now (place .exit))
         (now (counts .exit)) ⌝ }
 {
@@ -64,6 +70,8 @@ pub extern "C" fn bihargesh_frame(
         leaves,
         chromaleaves,
         skips,
+        tiles,
+        chromatiles,
         settings,
     );
     told_counts(a, place, counts)

@@ -1,7 +1,7 @@
 // A plane for C: its answer as a number, with the place of a refusal and both counts.
 use answers::told_counts;
 use entries::planes::deblock;
-ghost use Rattle.rules.specs.Plane.{grid};
+ghost use Rattle.rules.specs.Plane.{tiled};
 ghost use Rattle.entries.specs.Planes.{PlaneTold};
 
 // 0, or minus the refusal number with its place in the first entry of `place`; stored and changed samples in `counts`.
@@ -13,6 +13,7 @@ pub extern "C" fn bihargesh_plane(
     sqw: &[u8],
     sqh: &[u8],
     qindex: &[u16],
+    tiles: &[u16],
     steps: &[u32],
     settings: &[i32],
     place: &mut [usize],
@@ -21,7 +22,7 @@ pub extern "C" fn bihargesh_plane(
     ensures { λ r. ⌜ PlaneTold
         (now (settings .entry))
         (now (steps .entry))
-        (grid (now (vedge .entry)) (now (hedge .entry)) (now (sqw .entry)) (now (sqh .entry)) (now (qindex .entry)))
+        (tiled (now (vedge .entry)) (now (hedge .entry)) (now (sqw .entry)) (now (sqh .entry)) (now (qindex .entry)) (now (tiles .entry)))
         (now (plane .entry))
         (now (place .entry))
         (now (counts .entry))
@@ -30,6 +31,16 @@ pub extern "C" fn bihargesh_plane(
         (now (place .exit))
         (now (counts .exit)) ⌝ }
 {
-    let a = deblock(plane, vedge, hedge, sqw, sqh, qindex, steps, settings);
+    let a = deblock(
+        plane,
+        vedge,
+        hedge,
+        sqw,
+        sqh,
+        qindex,
+        tiles,
+        steps,
+        settings,
+    );
     told_counts(a, place, counts)
 }

@@ -1,7 +1,7 @@
 // A plane whose edges are recorded, for C: the record's bytes as the answer, or a refusal's number with its place, and both counts.
 use answers::told_record;
 use entries::recorded_planes::write_record;
-ghost use Rattle.rules.specs.Plane.{grid};
+ghost use Rattle.rules.specs.Plane.{tiled};
 ghost use Rattle.entries.specs.Planes.{RecordTold};
 
 // How many bytes the record takes, or minus the refusal number with its place in the first entry of `place`; stored and changed samples in `counts`.
@@ -14,6 +14,7 @@ pub extern "C" fn bihargesh_record_plane(
     sqw: &[u8],
     sqh: &[u8],
     qindex: &[u16],
+    tiles: &[u16],
     steps: &[u32],
     settings: &[i32],
     place: &mut [usize],
@@ -22,7 +23,7 @@ pub extern "C" fn bihargesh_record_plane(
     ensures { λ r. ⌜ RecordTold
         (now (settings .entry))
         (now (steps .entry))
-        (grid (now (vedge .entry)) (now (hedge .entry)) (now (sqw .entry)) (now (sqh .entry)) (now (qindex .entry)))
+        (tiled (now (vedge .entry)) (now (hedge .entry)) (now (sqw .entry)) (now (sqh .entry)) (now (qindex .entry)) (now (tiles .entry)))
         (now (plane .entry))
         (now (buffer .entry))
         (now (place .entry))
@@ -41,6 +42,7 @@ pub extern "C" fn bihargesh_record_plane(
         sqw,
         sqh,
         qindex,
+        tiles,
         steps,
         settings,
     );

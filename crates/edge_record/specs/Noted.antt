@@ -18,15 +18,15 @@ use Rattle.rules.specs.Frame.{Given, withQ}
 use Rattle.rules.specs.Record.{recordedAnswer, recordedBuffer}
 use Rattle.frame_checks.specs.Settings.{planeOf, tuOf, qOf}
 use Rattle.asked.specs.declared.lists.Lists.{Lists}
-use Rattle.framed.specs.Deblocked.{zeros}
+use Rattle.framed.specs.Deblocked.{Starts, zeros}
 
 -- every sample of the largest plane
 unfoldable pub dark : List ℕ
 dark = replicate 16777216 0
 
--- both grids' entries over zeros
-unfoldable pub gridBy : TuGrid → QindexGrid → List ℕ → List ℕ → List ℕ → Grid
-gridBy t q leaves skips sbq = withQ (txGridAfter t leaves skips (marks zeros zeros zeros zeros)) (qGridAfter q sbq zeros)
+-- both grids' entries over zeros, with the plane's tile starts
+unfoldable pub gridBy : TuGrid → QindexGrid → List ℕ → List ℕ → List ℕ → List ℕ → Grid
+gridBy t q leaves skips sbq ts = withQ (txGridAfter t leaves skips (marks zeros zeros zeros zeros)) (qGridAfter q sbq zeros) ts
 
 unfoldable pub bytesOf : Recorded → ℕ
 bytesOf (Bytes n) = n
@@ -50,7 +50,20 @@ abbrev pub leavesBy : Given → Bool → List ℕ
 leavesBy g false = g .leaves
 leavesBy g true = g .chromaLeaves
 
+-- luma's tile starts, or chroma's
+abbrev pub tilesFrom : Lists → Bool → ℕ
+tilesFrom l false = l .tiles
+tilesFrom l true = l .chromatiles
+
+abbrev pub tilesEnd : Lists → Bool → ℕ
+tilesEnd l false = l .tilesend
+tilesEnd l true = l .chromatilesend
+
+abbrev pub tilesBy : Starts → Bool → List ℕ
+tilesBy t false = t .luma
+tilesBy t true = t .chroma
+
 -- luma's record, or chroma's
-abbrev pub NotedBy : Frame → Bool → Given → List ℕ → ℕ → List ℕ → Type 0
-NotedBy f chroma g =
-    Noted (planeOf f chroma) (g .steps) (gridBy (tuOf f chroma) (qOf f chroma) (leavesBy g chroma) (g .skips) (g .sbq))
+abbrev pub NotedBy : Frame → Bool → Given → Starts → List ℕ → ℕ → List ℕ → Type 0
+NotedBy f chroma g t =
+    Noted (planeOf f chroma) (g .steps) (gridBy (tuOf f chroma) (qOf f chroma) (leavesBy g chroma) (g .skips) (g .sbq) (tilesBy t chroma))

@@ -4,8 +4,8 @@ ghost use Prim.Native.Nat.{_≤_};
 ghost use lib.ListN.{length};
 ghost use Rattle.asked.specs.Lists.{Within};
 ghost use Rattle.frame_checks.specs.Settings.{Sized};
-ghost use Rattle.framed.specs.Framed.{Listed, givenAsked};
-ghost use Rattle.edge_record.specs.Noted.{dark, gridBy, bytesOf, leavesFrom, leavesEnd, Noted, NotedBy};
+ghost use Rattle.framed.specs.Framed.{Listed, givenAsked, startsAsked};
+ghost use Rattle.edge_record.specs.Noted.{dark, gridBy, bytesOf, leavesFrom, leavesEnd, tilesFrom, tilesEnd, Noted, NotedBy};
 use asked::lists::Lists;
 use asked::lists::lists_of;
 use asked::lists::steps_of;
@@ -45,18 +45,19 @@ fn bytes_of(a: Recorded) -> usize
     }
 }
 
-// The record of a dark plane whose grid comes from leaves and superblocks; how long it is, 0 where the plane is refused.
+// The record of a dark plane whose grid comes from leaves, superblocks and tile starts; how long it is, 0 where the plane is refused.
 fn noted(
     buffer: &mut [u8],
     leaves: &[u16],
     skips: &[u16],
     sbq: &[u16],
+    tiles: &[u16],
     steps: &[u32],
     s: Plane,
     t: TuGrid,
     q: QindexGrid,
 ) -> usize
-    ensures { λ n. ⌜ Noted s (now (steps .entry)) (gridBy t q (now (leaves .entry)) (now (skips .entry)) (now (sbq .entry))) (now (buffer .entry)) n (now (buffer .exit)) ⌝ }
+    ensures { λ n. ⌜ Noted s (now (steps .entry)) (gridBy t q (now (leaves .entry)) (now (skips .entry)) (now (sbq .entry)) (now (tiles .entry))) (now (buffer .entry)) n (now (buffer .exit)) ⌝ }
 {
     let mut plane = dark_plane();
     let mut vedge = marks();
@@ -74,6 +75,7 @@ fn noted(
         &sqw,
         &sqh,
         &qindex,
+        tiles,
         steps,
         s,
     );
@@ -81,27 +83,45 @@ fn noted(
     bytes_of(length)
 }
 
-// Where a kind of plane has its leaves.
-struct Leaves {
+// Where a list of short numbers begins and ends.
+struct Span {
     from: usize,
     end: usize,
 }
 
-// Those of luma or of chroma, among n short numbers.
-fn leaves_of(at: Lists, chroma: bool, n: usize) -> Leaves
+// The leaves of luma or of chroma, among n short numbers.
+fn leaves_of(at: Lists, chroma: bool, n: usize) -> Span
     requires { ⌜ Within at n ⌝ }
     ensures { λ r. ⌜ (r .from ≤ r .end) × (r .end ≤ n) ⌝ }
     ensures { λ r. ⌜ (r .from ≡ leavesFrom at chroma) × (r .end ≡ leavesEnd at chroma) ⌝ }
 {
     if chroma {
-        return Leaves {
+        return Span {
             from: at.chroma,
             end: at.chromaend,
         };
     }
-    Leaves {
+    Span {
         from: at.leaves,
         end: at.leavesend,
+    }
+}
+
+// The tile starts of luma or of chroma, among n short numbers.
+fn tiles_of(at: Lists, chroma: bool, n: usize) -> Span
+    requires { ⌜ Within at n ⌝ }
+    ensures { λ r. ⌜ (r .from ≤ r .end) × (r .end ≤ n) ⌝ }
+    ensures { λ r. ⌜ (r .from ≡ tilesFrom at chroma) × (r .end ≡ tilesEnd at chroma) ⌝ }
+{
+    if chroma {
+        return Span {
+            from: at.chromatiles,
+            end: at.chromatilesend,
+        };
+    }
+    Span {
+        from: at.tiles,
+        end: at.tilesend,
     }
 }
 
@@ -115,21 +135,25 @@ pub fn record_of(
     chroma: bool,
 ) -> usize
     requires { ⌜ Listed (length (now shorts)) (length (now steps)) (length (now places)) × Sized f ⌝ }
-    ensures { λ n. ⌜ NotedBy f chroma (givenAsked (now (shorts .entry)) (now (steps .entry)) (now (places .entry))) (now (buffer .entry)) n (now (buffer .exit)) ⌝ }
+    ensures { λ n. ⌜ NotedBy f chroma (givenAsked (now (shorts .entry)) (now (steps .entry)) (now (places .entry))) (startsAsked (now (shorts .entry)) (now (places .entry))) (now (buffer .entry)) n (now (buffer .exit)) ⌝ }
 {
     let at = lists_of(places, shorts.len());
     let n = steps_of(places[3]);
     let q = at.entries;
     let leaves = leaves_of(at, chroma, shorts.len());
+    let tiles = tiles_of(at, chroma, shorts.len());
     let a = leaves.from;
     let b = leaves.end;
     let e = at.skips;
     let g = at.skipsend;
+    let h = tiles.from;
+    let i = tiles.end;
     noted(
         buffer,
         &shorts[a..b],
         &shorts[e..g],
         &shorts[0..q],
+        &shorts[h..i],
         &steps[0..n],
         plane_of(f, chroma),
         tu_of(f, chroma),

@@ -7,7 +7,7 @@ use rules::refusals::Answer;
 use rules::refusals::PlaneAnswer;
 use rules::refusals::Refusal;
 ghost use mathlib.Core.Path.{_≡_};
-ghost use Rattle.rules.specs.Plane.{grid};
+ghost use Rattle.rules.specs.Plane.{tiled};
 ghost use Rattle.entries.specs.Planes.{listCheck, PlaneHanded};
 
 // The first refusal that the list of settings itself gives: too few numbers, and a flag that is none after the depth.
@@ -34,10 +34,11 @@ pub fn deblock(
     sqw: &[u8],
     sqh: &[u8],
     qindex: &[u16],
+    tiles: &[u16],
     steps: &[u32],
     settings: &[i32],
 ) -> PlaneAnswer
-    ensures { λ a. ⌜ PlaneHanded (now (settings .entry)) (now (steps .entry)) (grid (now (vedge .entry)) (now (hedge .entry)) (now (sqw .entry)) (now (sqh .entry)) (now (qindex .entry))) (now (plane .entry)) a (now (plane .exit)) ⌝ }
+    ensures { λ a. ⌜ PlaneHanded (now (settings .entry)) (now (steps .entry)) (tiled (now (vedge .entry)) (now (hedge .entry)) (now (sqw .entry)) (now (sqh .entry)) (now (qindex .entry)) (now (tiles .entry))) (now (plane .entry)) a (now (plane .exit)) ⌝ }
 {
     let a = list_check(settings);
     if let Answer::Refused(r) = a {
@@ -48,5 +49,5 @@ pub fn deblock(
         };
     }
     let s = plane_of(settings);
-    deblock_plane(plane, vedge, hedge, sqw, sqh, qindex, steps, s)
+    deblock_plane(plane, vedge, hedge, sqw, sqh, qindex, tiles, steps, s)
 }

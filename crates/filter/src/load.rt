@@ -23,7 +23,7 @@ fn faultless(name: &[u8], text: &[u8], fault: Fault) -> bool {
     if fault.kind == 0 {
         return true;
     }
-    if fault.kind == 21 {
+    if fault.kind == 23 {
         say_unknown(name, text, fault.at, fault.line);
     } else {
         say::expected_setting(name, fault.line, fault.kind);
@@ -40,7 +40,7 @@ pub fn take(
     steps: &mut [u32],
     flags: &mut [u8],
     offsets: &mut [i8],
-    places: &mut [usize; 21],
+    places: &mut [usize; 23],
 ) -> bool {
     let fault = parse(text, numbers, shorts, steps, flags, offsets, places);
     faultless(name, text, fault)

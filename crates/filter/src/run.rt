@@ -104,10 +104,10 @@ fn sized(
     steps: &[u32],
     flags: &[u8],
     offsets: &[i8],
-    places: &mut [usize; 21],
+    places: &mut [usize; 23],
     text: &[u8],
 )
-    requires { ⌜ (24576 ≤ length (now shorts)) × Lent (length (now numbers)) (length (now shorts)) (length (now steps)) (length (now flags)) (length (now offsets)) 21 ⌝ }
+    requires { ⌜ (24576 ≤ length (now shorts)) × Lent (length (now numbers)) (length (now shorts)) (length (now steps)) (length (now flags)) (length (now offsets)) 23 ⌝ }
 {
     let l = luma_of(h);
     let c = chroma_of(h);

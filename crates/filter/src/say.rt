@@ -82,7 +82,9 @@ flags_u
 flags_v
 offset_y
 offset_u
-offset_v",
+offset_v
+tiles_y
+tiles_uv",
         kind,
     );
 }
@@ -98,6 +100,7 @@ fn sort_of(kind: usize) -> usize {
         11 => 5,
         12 | 13 | 14 => 6,
         15 | 16 | 17 => 7,
+        21 | 22 => 9,
         _ => 8,
     }
 }
@@ -113,7 +116,8 @@ two numbers: width, height, in cells
 0 or 1
 eleven numbers, without which its plane's offsets say nothing
 flags, 0 or 1, 4096 at most
-offsets from -10 to 7, 128 at most",
+offsets from -10 to 7, 128 at most
+numbers from 0 to 65535, one for each column of cells that starts a tile, 1023 at most",
         sort_of(kind),
     );
 }
@@ -183,6 +187,16 @@ pub fn out_of_range(kind: usize, line: usize) {
     words(b"\n");
 }
 
+// A bad list of tile starts of a plane with so many columns of cells, and the line that has it.
+pub fn bad_tiles(kind: usize, columns: usize, line: usize) {
+    words(b"1refused by 5: ");
+    setting(kind);
+    words(b" is no strictly rising list of columns above 0 and below ");
+    number(columns);
+    settings_line(line);
+    words(b"\n");
+}
+
 // A refusal's meaning, by its number.
 fn meaning(n: usize) {
     entry(
@@ -191,7 +205,7 @@ the depth is not 8, 10 or 12
 a size, stride or subsampling is outside its range
 a list is too short
 the step table is not 352 entries from 64 on, each at most 1048576
-a delta, cap or CCSO setting is outside its range
+a delta, cap, tile start or CCSO setting is outside its range
 a grid cell has a bad mark or index
 an edge lacks room
 a sample is above the depth's top

@@ -10,6 +10,7 @@ use asked::lists::lists_of;
 use asked::places::Place;
 use asked::places::at;
 use asked::told::frame_of;
+use cells::starts::tiles_check;
 use framed::listed::Outcome;
 use framed::listed::deblock_asked;
 use pictures::outside::outside;
@@ -47,7 +48,7 @@ fn list_inside(name: &[u8], text: &[u8], kind: usize, leaves: &[u16], s: Shape) 
 
 // Whether every leaf begins in the picture; else after the answer.
 pub fn inside(name: &[u8], text: &[u8], shorts: &[u16], places: &[usize], s: Shape) -> bool
-    requires { ⌜ (4096 ≤ length (now shorts)) × (7 ≤ length (now places)) ⌝ }
+    requires { ⌜ (6142 ≤ length (now shorts)) × (23 ≤ length (now places)) ⌝ }
 {
     let at = lists_of(places, shorts.len());
     let a = at.leaves;
@@ -65,8 +66,21 @@ pub fn inside(name: &[u8], text: &[u8], shorts: &[u16], places: &[usize], s: Sha
     list_inside(name, text, 6, &shorts[e..g], s)
 }
 
-// Which setting of a frame is outside its range: the kind of its line.
-fn setting_of(f: Frame) -> usize {
+// Whether luma's tile starts are good.
+fn starts_good(shorts: &[u16], places: &[usize], f: Frame) -> bool
+    requires { ⌜ (6142 ≤ length (now shorts)) × (23 ≤ length (now places)) ⌝ }
+{
+    let at = lists_of(places, shorts.len());
+    let a = at.tiles;
+    let b = at.tilesend;
+    match tiles_check(&shorts[a..b], f.lumastride / 4) {
+        Answer::Accepted => true,
+        Answer::Refused(_) => false,
+    }
+}
+
+// Which setting of a frame is outside its range, where luma's tile starts are good or not: the kind of its line.
+fn setting_of(f: Frame, starts: bool) -> usize {
     if !delta_ok(f.deltay) {
         return 7;
     }
@@ -76,7 +90,10 @@ fn setting_of(f: Frame) -> usize {
     if !delta_ok(f.deltauv) {
         return 8;
     }
-    10
+    if !cap_ok(f.ccapw) || !cap_ok(f.ccaph) {
+        return 10;
+    }
+    if starts { 22 } else { 21 }
 }
 
 // The kind of a plane's CCSO line.
@@ -89,11 +106,15 @@ fn ccso_kind(plane: usize) -> usize {
 }
 
 // The answer on a setting outside its range, by its kind.
-fn say_setting(kind: usize, text: &[u8]) {
-    let mut lines = [0usize; 21];
+fn say_setting(kind: usize, f: Frame, text: &[u8]) {
+    let mut lines = [0usize; 23];
     lines_of(text, &mut lines);
     if kind < 21 {
         say::out_of_range(kind, lines[kind]);
+    } else if kind == 21 {
+        say::bad_tiles(kind, f.lumastride / 4, lines[21]);
+    } else {
+        say::bad_tiles(22, f.chromastride / 4, lines[22]);
     }
 }
 
@@ -110,45 +131,45 @@ fn line_of(list: usize, k: usize, text: &[u8]) -> usize {
 }
 
 // The answer on a frame that was refused.
-fn say_refused(r: Refusal, at: Place, f: Frame, text: &[u8]) {
+fn say_refused(r: Refusal, at: Place, f: Frame, starts: bool, text: &[u8]) {
     if number(r) == 5 {
-        say_setting(setting_of(f), text);
+        say_setting(setting_of(f, starts), f, text);
     } else {
         say::refused(r, at, line_of(at.plane, place(r), text));
     }
 }
 
 // Whether a frame was deblocked; else after the answer that says why not.
-fn deblocked(o: Outcome, f: Frame, text: &[u8]) -> bool {
+fn deblocked(o: Outcome, f: Frame, starts: bool, text: &[u8]) -> bool {
     let a = o.answer;
     let at = o.place;
     match a {
         Answer::Accepted => true,
         Answer::Refused(r) => {
-            say_refused(r, at, f, text);
+            say_refused(r, at, f, starts, text);
             false
         }
     }
 }
 
 // The answer on a plane that was not offset, whose rows have so many samples.
-fn say_plane(r: Refusal, plane: usize, width: usize, text: &[u8]) {
+fn say_plane(r: Refusal, plane: usize, width: usize, f: Frame, text: &[u8]) {
     if number(r) == 5 {
-        say_setting(ccso_kind(plane), text);
+        say_setting(ccso_kind(plane), f, text);
     } else {
         say::refused(r, at(plane, place(r), width), 0);
     }
 }
 
 // Whether every plane was offset; else after the answer that says why not.
-fn offset(d: Applied, width: usize, across: usize, text: &[u8]) -> bool {
+fn offset(d: Applied, f: Frame, across: usize, text: &[u8]) -> bool {
     let a = d.answer;
     let plane = d.plane;
     match a {
         Answer::Accepted => true,
         Answer::Refused(r) => {
-            let samples = if plane == 0 { width } else { across };
-            say_plane(r, plane, samples, text);
+            let samples = if plane == 0 { f.width } else { across };
+            say_plane(r, plane, samples, f, text);
             false
         }
     }
@@ -198,7 +219,7 @@ pub fn treat(
         stored: o.stored,
         changed: o.changed,
     };
-    if !deblocked(o, f, text) {
+    if !deblocked(o, f, starts_good(shorts, places, f), text) {
         return Treated {
             good: false,
             counts,
@@ -207,6 +228,6 @@ pub fn treat(
     pack(y, u, v, j);
     planes::copy(y, luma);
     let d = offset_planes(y, u, v, luma, numbers, flags, offsets, places, f);
-    let good = offset(d, f.width, width_of(j), text);
+    let good = offset(d, f, width_of(j), text);
     Treated { good, counts }
 }

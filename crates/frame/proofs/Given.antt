@@ -18,8 +18,9 @@ use Rattle.rules.specs.Refusals.{unless, onlyIf, found}
 use Rattle.rules.specs.Thresholds.{stepsCheck}
 use Rattle.rules.specs.declared.lent.GridLengths.{GridLengths}
 use Rattle.rules.specs.declared.lent.FrameLengths.{FrameLengths}
+use Rattle.rules.specs.Plane.{tilesCheck}
 use Rattle.rules.specs.TuGrid.{capOk, foursOk}
-use Rattle.rules.specs.Frame.{Given, lumaPlane, chromaPlane, lumaTu, chromaTu, lumaQ, chromaQ, superblocks, chromaOn, samplesLong, gridLong, lumaLong, chromaLong, givenLong, frameSizes, frameLengths, frameShape, frameSettings, frameLeaves, frameGiven, frameEarly}
+use Rattle.rules.specs.Frame.{Given, lumaPlane, chromaPlane, lumaTu, chromaTu, lumaQ, chromaQ, superblocks, chromaOn, samplesLong, gridLong, lumaLong, chromaLong, givenLong, frameSizes, frameLengths, frameShape, frameSettings, frameTiles, frameLeaves, frameGiven, frameEarly}
 use Rattle.scan.proofs.Checks.{else-parts, unless-true, found-nothing, only-part}
 use Rattle.tiles.specs.Fit.{AllGood}
 use Rattle.tiles.proofs.Checked.{by-cap, all-good}
@@ -98,9 +99,9 @@ settings f e =
     let p6 = all-parts _ _ (p5 .1) in
     record { deltay = p1 .0; capw = p2 .0; caph = p3 .0; deltauv = p4 .0; ccapw = p5 .0; ccaph = p6 .0 }
 
--- ---- a frame whose early checks accept, by the lengths k of its lists
+-- ---- a frame whose early checks accept, by the lengths k of its lists and the tile starts
 
-module _ (f : Frame) (k : FrameLengths) (n : Given) (ok : frameEarly f k n ≡ Accepted) where
+module _ (f : Frame) (k : FrameLengths) (ltiles ctiles : List ℕ) (n : Given) (ok : frameEarly f k ltiles ctiles n ≡ Accepted) where
   shape : (unless (depthOk (f .depth)) Depth ≡ Accepted) × (frameSizes f ≡ Accepted) × (frameLengths f k ≡ Accepted)
   unfolding frameEarly frameShape
   shape =
@@ -108,12 +109,13 @@ module _ (f : Frame) (k : FrameLengths) (n : Given) (ok : frameEarly f k n ≡ A
       let e2 = else-parts _ _ (e1 .1) in
       (e1 .0, e2 .0, e2 .1)
 
-  rest : (stepsCheck (n .steps) ≡ Accepted) × (frameSettings f ≡ Accepted) × (frameLeaves n ≡ Accepted)
+  rest : (stepsCheck (n .steps) ≡ Accepted) × (frameSettings f ≡ Accepted) × (frameTiles f ltiles ctiles ≡ Accepted) × (frameLeaves n ≡ Accepted)
   unfolding frameEarly frameGiven
   rest =
       let e1 = else-parts _ _ (else-parts _ _ ok .1) in
       let e2 = else-parts _ _ (e1 .1) in
-      (e1 .0, e2 .0, e2 .1)
+      let e3 = else-parts _ _ (e2 .1) in
+      (e1 .0, e2 .0, e3 .0, e3 .1)
 
   pub early-sized : Sized f
   early-sized = frame-sized f (shape .1)
@@ -141,7 +143,7 @@ module _ (f : Frame) (k : FrameLengths) (n : Given) (ok : frameEarly f k n ≡ A
   leaves : AllGood (n .leaves) × AllGood (n .chromaLeaves) × AllGood (n .skips)
   unfolding frameLeaves
   leaves =
-      let e1 = else-parts _ _ (rest .2) in
+      let e1 = else-parts _ _ (rest .3) in
       let e2 = else-parts _ _ (e1 .1) in
       (all-good false _ (found-nothing _ Leaf (e1 .0)), all-good false _ (found-nothing _ Leaf (e2 .0)), all-good true _ (found-nothing _ Leaf (e2 .1)))
 
@@ -155,6 +157,10 @@ module _ (f : Frame) (k : FrameLengths) (n : Given) (ok : frameEarly f k n ≡ A
   pub chroma-stepped : Stepped f true (n .steps)
   unfolding chromaPlane
   chroma-stepped = let s = settings f (rest .1) in record { steps-ok = rest .0; deltaq-ok = s .deltauv; deltaside-ok = s .deltauv }
+
+  pub luma-starts : tilesCheck (lumaPlane f .cols) ltiles ≡ Accepted
+  unfolding frameTiles
+  luma-starts = else-parts _ _ (rest .2) .0
 
   luma-deep : depthOk (lumaPlane f .depth) ≡ true
   unfolding lumaPlane
@@ -174,6 +180,10 @@ module _ (f : Frame) (k : FrameLengths) (n : Given) (ok : frameEarly f k n ≡ A
 
   -- chroma's, where it is filtered
   module _ (on : chromaOn f ≡ true) where
+    pub chroma-starts : tilesCheck (chromaPlane f .cols) ctiles ≡ Accepted
+    unfolding frameTiles
+    chroma-starts = only-part _ _ (else-parts _ _ (rest .2) .1) on
+
     pub u-sampled : Sampled f true (k .u)
     u-sampled = record { sized = early-sized; depth = chroma-deep; sizes-ok = chroma-sizes f (shape .1) on; plane-long = leb-true _ _ (chroma-long on .0) }
 

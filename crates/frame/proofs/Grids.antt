@@ -10,8 +10,9 @@ use lib.ListN.{length}
 use Rattle.laws.specs.Choose.{pick, all}
 use Rattle.rules.specs.declared.settings.Frame.{Frame}
 use Rattle.rules.specs.declared.settings.Plane.{Plane}
+use Rattle.rules.specs.declared.refusals.Answer.the-variants.{Accepted}
 use Rattle.rules.specs.declared.refusals.Found.the-variants.{Nothing}
-use Rattle.rules.specs.Plane.{Grid, grid, cellGood, badCell, noRoom, planeLengthsOk}
+use Rattle.rules.specs.Plane.{Grid, tiled, tilesCheck, cellGood, badCell, noRoom, planeLengthsOk}
 use Rattle.rules.specs.TuGrid.{marks, txGridOf}
 use Rattle.rules.specs.QindexGrid.{qGridOf}
 use Rattle.rules.specs.Frame.{lumaPlane, chromaPlane, lumaTu, chromaTu, lumaQ, chromaQ, builtGrid}
@@ -44,45 +45,47 @@ tu-long f false n h = h
 tu-long f true n h = h
 
 good-cells : (f : Frame) (chroma : Bool) (ls ks sbq : List ℕ) (g : Grid) → badCell (planeOf f chroma) (builtGrid (tuOf f chroma) (qOf f chroma) ls ks sbq g) ≡ Nothing
-unfolding builtGrid
-good-cells f chroma ls ks sbq g = no-bad-cell (planeOf f chroma) (tuOf f chroma) ls ks _ _ (rows-same f chroma) (cols-same f chroma)
+unfolding builtGrid badCell cellGood
+good-cells f chroma ls ks sbq g = no-bad-cell (planeOf f chroma) (tuOf f chroma) ls ks _ [] (rows-same f chroma) (cols-same f chroma)
 
 -- five lists and a plane by their lengths
-long-enough : (s : Plane) (n : ℕ) (v h w t q : List ℕ) → 4 * s .rows * s .stride ≤ n → s .rows * s .cols ≤ length v → s .rows * s .cols ≤ length h → s .rows * s .cols ≤ length w → s .rows * s .cols ≤ length t → s .rows * s .cols ≤ length q → planeLengthsOk s (grid v h w t q) n ≡ true
+long-enough : (s : Plane) (n : ℕ) (v h w t q ts : List ℕ) → 4 * s .rows * s .stride ≤ n → s .rows * s .cols ≤ length v → s .rows * s .cols ≤ length h → s .rows * s .cols ≤ length w → s .rows * s .cols ≤ length t → s .rows * s .cols ≤ length q → planeLengthsOk s (tiled v h w t q ts) n ≡ true
 unfolding planeLengthsOk all
-long-enough s n v h w t q a b c d e f = rw (le-leb _ _ a, le-leb _ _ b, le-leb _ _ c, le-leb _ _ d, le-leb _ _ e, le-leb _ _ f)
+long-enough s n v h w t q ts a b c d e f = rw (le-leb _ _ a, le-leb _ _ b, le-leb _ _ c, le-leb _ _ d, le-leb _ _ e, le-leb _ _ f)
 
 -- lists of the same lengths that hold the built grid
-module _ {f : Frame} {chroma : Bool} {ls ks : List ℕ} (sbq : List ℕ) (g : Grid) {size count : ℕ} {v h w t q : List ℕ} {lv lh lw lt lq : ℕ} where
-  pub gridded : Sampled f chroma size → Buildable f chroma ls ks count lv lh lw lt lq → length v ≡ lv → length h ≡ lh → length w ≡ lw → length t ≡ lt → length q ≡ lq → kindOn f chroma ≡ true → grid v h w t q ≡ pick (kindOn f chroma) (builtGrid (tuOf f chroma) (qOf f chroma) ls ks sbq g) g → Gridded f chroma (grid v h w t q) size
+module _ {f : Frame} {chroma : Bool} {ls ks : List ℕ} (sbq : List ℕ) (g : Grid) {size count : ℕ} {v h w t q : List ℕ} {lv lh lw lt lq : ℕ} (ts : List ℕ) where
+  pub gridded : Sampled f chroma size → Buildable f chroma ls ks count lv lh lw lt lq → length v ≡ lv → length h ≡ lh → length w ≡ lw → length t ≡ lt → length q ≡ lq
+      → kindOn f chroma ≡ true → tilesCheck (planeOf f chroma .cols) ts ≡ Accepted → tiled v h w t q ts ≡ pick (kindOn f chroma) (builtGrid (tuOf f chroma) (qOf f chroma) ls ks sbq g) g → Gridded f chroma (tiled v h w t q ts) size
   unfolding pick
-  gridded sampled b ev eh ew et eq on is =
+  gridded sampled b ev eh ew et eq on starts is =
       record {
         sampled = sampled;
         lengths =
-            long-enough (planeOf f chroma) size v h w t q (sampled .plane-long)
+            long-enough (planeOf f chroma) size v h w t q ts (sampled .plane-long)
             (rw ev (tu-long f chroma _ (b .fit .long-v)))
             (rw eh (tu-long f chroma _ (b .fit .long-h)))
             (rw ew (tu-long f chroma _ (b .fit .long-w)))
             (rw et (tu-long f chroma _ (b .fit .long-t)))
             (rw eq (q-long f chroma _ (b .q-fit .long)));
+        tiles-ok = starts;
         cells = rw (rw on at is) (good-cells f chroma ls ks sbq g);
       }
 
 -- ---- what the checks and the run of a plane with such a grid ask
 
-module _ {f : Frame} {chroma : Bool} {v h w t q : List ℕ} {size : ℕ} (k : Gridded f chroma (grid v h w t q) size) where
-  same-cells : (p : List ℕ) → Nothing ≡ badCell (planeOf f chroma) (grid v h w t p)
+module _ {f : Frame} {chroma : Bool} {v h w t q ts : List ℕ} {size : ℕ} (k : Gridded f chroma (tiled v h w t q ts) size) where
+  same-cells : (p us : List ℕ) → Nothing ≡ badCell (planeOf f chroma) (tiled v h w t p us)
   unfolding badCell cellGood
-  same-cells p = sym (k .cells)
+  same-cells p us = sym (k .cells)
 
   pub marked : Marked f chroma v h w t
   marked =
-      let l = lengths (planeOf f chroma) (grid v h w t q) size (k .lengths) in
+      let l = lengths (planeOf f chroma) (tiled v h w t q ts) size (k .lengths) in
       let r = readies-by v h w t (record { depth = k .sampled .depth; sizes-ok = k .sampled .sizes-ok; plane-long = l .samples; lists-long = l .lists }) same-cells refl in
       record { sized = k .sampled .sized; vert = r .0; horz = r .1 }
 
-  pub runnable : {steps : List ℕ} → Stepped f chroma steps → noRoom (planeOf f chroma) (grid v h w t q) ≡ Nothing → Runnable f chroma steps (grid v h w t q) size
+  pub runnable : {steps : List ℕ} → Stepped f chroma steps → noRoom (planeOf f chroma) (tiled v h w t q ts) ≡ Nothing → Runnable f chroma steps (tiled v h w t q ts) size
   runnable s room = record {
     sized = k .sampled .sized;
     checked = record {
@@ -92,6 +95,7 @@ module _ {f : Frame} {chroma : Bool} {v h w t q : List ℕ} {size : ℕ} (k : Gr
       steps-ok = s .steps-ok;
       deltaq-ok = s .deltaq-ok;
       deltaside-ok = s .deltaside-ok;
+      tiles-ok = k .tiles-ok;
       cells = k .cells;
       room = room;
     };

@@ -6,6 +6,7 @@ use mathlib.Core.List.{List}
 use Prim.Native.Nat.{ℕ}
 use Rattle.laws.specs.Choose.{pick}
 use Rattle.rules.specs.declared.settings.Frame.{Frame}
+use Rattle.rules.specs.declared.lent.GridLengths.{GridLengths}
 use Rattle.rules.specs.declared.refusals.Refusal.{Refusal}
 use Rattle.rules.specs.declared.refusals.Refusal.the-variants.{Room}
 use Rattle.rules.specs.declared.refusals.Answer.{Answer}
@@ -15,10 +16,11 @@ use Rattle.rules.specs.declared.refusals.Found.the-variants.{Nothing}
 use Rattle.rules.specs.declared.counts.Counts.{Counts}
 use Rattle.rules.specs.Refusals.{settle}
 use Rattle.rules.specs.Plane.{Grid, noRoom}
-use Rattle.rules.specs.Frame.{Planes, Grids, Given, grids, lent, done, lengthsOf, lumaPlane, chromaPlane, lumaTu, chromaTu, lumaQ, chromaQ, chromaOn, builtGrid, builtGrids, frameEarly, frameRoom, frameLate, frameBuilt, orDone, frameOf, frameStored, frameChanged}
+use Rattle.rules.specs.Frame.{Planes, Grids, Given, grids, lent, done, gridLengths, lengthsOf, lumaPlane, chromaPlane, lumaTu, chromaTu, lumaQ, chromaQ, chromaOn, builtGrid, builtGrids, frameEarly, frameRoom, frameLate, frameBuilt, orDone, frameOf, frameStored, frameChanged}
 use Rattle.scan.proofs.Checks.{else-parts, found-nothing, only-part, settle-refused, settle-accepted}
 use Rattle.frame_planes.specs.Ran.{FrameRun}
-use Rattle.frame.specs.Stated.{Finished, Stated}
+use Rattle.frame.specs.Fit.{lengthsFor}
+use Rattle.frame.specs.Stated.{refusedBy, Finished, Stated}
 
 -- ---- room, by the accepted late checks
 
@@ -38,7 +40,7 @@ module _ (f : Frame) (l c : Grid) (p : Planes) {a : Answer} (is : a ≡ frameLat
 -- ---- the ways out of a frame whose grids are built
 
 module _ (f : Frame) (steps : List ℕ) (l c : Grid) (p : Planes) {a : Answer} (is : a ≡ frameLate f (grids l c) p) where
-  pub late-stop : {r : Refusal} → a ≡ Refused r → Finished f steps (grids l c) p (record { answer = Refused r; stored = 0; changed = 0 }) p
+  pub late-stop : {r : Refusal} → a ≡ Refused r → Finished f steps (grids l c) p (refusedBy r) p
   late-stop e = record {
     answer = sym e ∙ is;
     planes = settle-refused _ _ _ (sym e ∙ is);
@@ -56,12 +58,15 @@ module _ (f : Frame) (steps : List ℕ) (l c : Grid) (p : Planes) {a : Answer} (
 
 -- ---- the ways out of the entry
 
-module _ (f : Frame) (n : Given) (p : Planes) (l c : Grid) {a : Answer} (is : a ≡ frameEarly f (lengthsOf n (lent p (grids l c))) n) where
+module _ (f : Frame) (n : Given) (p : Planes) (l c : Grid) {a : Answer} {x y : GridLengths} (luma-long : x ≡ gridLengths l) (chroma-long : y ≡ gridLengths c) (by-lengths : a ≡ frameEarly f (lengthsFor n p x y) (l .tiles) (c .tiles) n) where
+  is : a ≡ frameEarly f (lengthsOf n (lent p (grids l c))) (l .tiles) (c .tiles) n
+  is = by-lengths ∙ ap₂ (λ (i j : GridLengths). frameEarly f (lengthsFor n p i j) (l .tiles) (c .tiles) n) luma-long chroma-long
+
   refused-is : {r : Refusal} → a ≡ Refused r → frameOf f n (lent p (grids l c)) ≡ done (Refused r) (lent p (grids l c))
   unfolding frameOf orDone
   refused-is e = rw (sym is ∙ e)
 
-  pub frame-refused : {r : Refusal} → a ≡ Refused r → Stated f n (lent p (grids l c)) (record { answer = Refused r; stored = 0; changed = 0 }) (lent p (grids l c))
+  pub frame-refused : {r : Refusal} → a ≡ Refused r → Stated f n (lent p (grids l c)) (refusedBy r) (lent p (grids l c))
   unfolding frameStored frameChanged settle
   frame-refused e = let d = refused-is e in record { answer = rw d; lists = rw d; stored = rw d; changed = rw d }
 

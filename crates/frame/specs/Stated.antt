@@ -1,12 +1,18 @@
--- What a frame's filter and its entry state: the answer with the counts, and the lent lists afterwards.
+-- What a frame's filter and its entry state: the answer with the counts, a refusal's of none, and the lent lists afterwards.
 -- Assumes nothing.
 use mathlib.Core.Path.{_≡_}
 use mathlib.Core.List.{List}
 use Prim.Native.Nat.{ℕ}
 use Rattle.rules.specs.declared.settings.Frame.{Frame}
+use Rattle.rules.specs.declared.refusals.Refusal.{Refusal}
+use Rattle.rules.specs.declared.refusals.Answer.the-variants.{Refused}
 use Rattle.rules.specs.declared.refusals.PlaneAnswer.{PlaneAnswer}
 use Rattle.rules.specs.Refusals.{settle}
 use Rattle.rules.specs.Frame.{Planes, Grids, Given, Lent, frameLate, runFrame, runFrameStored, runFrameChanged, frameOf, frameStored, frameChanged}
+
+-- a refusal's answer
+abbrev pub refusedBy : Refusal → PlaneAnswer
+refusedBy r = record { answer = Refused r; stored = 0; changed = 0 }
 
 -- of planes p whose grids g are built: the answer a and the planes q
 pub record Finished (f : Frame) (steps : List ℕ) (g : Grids) (p : Planes) (a : PlaneAnswer) (q : Planes) : Type 0 where

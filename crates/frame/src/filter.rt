@@ -1,16 +1,28 @@
-// The planes of a frame whose grids are built: the late checks, and the planes run where they accept.
+// The planes of a frame whose grids are built: the late checks, the planes run where they accept, and what a refusal tells.
 use frame_planes::late::late;
 use frame_planes::run::run_planes;
 use rules::refusals::Answer;
 use rules::refusals::PlaneAnswer;
+use rules::refusals::Refusal;
 use rules::settings::Frame;
 ghost use mathlib.Core.Path.{_≡_};
 ghost use mathlib.Core.Bool.{true, false};
 ghost use lib.ListN.{length};
-ghost use Rattle.rules.specs.Plane.{grid};
+ghost use Rattle.rules.specs.Plane.{tiled};
 ghost use Rattle.rules.specs.Frame.{planes, grids, chromaOn};
 ghost use Rattle.frame.specs.Fit.{Gridded, Stepped};
-ghost use Rattle.frame.specs.Stated.{Finished};
+ghost use Rattle.frame.specs.Stated.{refusedBy, Finished};
+
+// A refusal tells of no samples.
+pub fn refused(r: Refusal) -> PlaneAnswer
+    ensures { λ a. ⌜ a ≡ refusedBy r ⌝ }
+{
+    PlaneAnswer {
+        answer: Answer::Refused(r),
+        stored: 0,
+        changed: 0,
+    }
+}
 
 // Filters the planes and tells how many samples that stored and changed; or refuses them, and tells of none.
 pub fn filter(
@@ -22,32 +34,48 @@ pub fn filter(
     lw: &[u8],
     lt: &[u8],
     lq: &[u16],
+    ltiles: &[u16],
     cv: &[u8],
     ch: &[u8],
     cw: &[u8],
     ct: &[u8],
     cq: &[u16],
+    ctiles: &[u16],
     steps: &[u32],
     f: Frame,
 ) -> PlaneAnswer
-    requires { ⌜ Stepped f false (now steps) × Gridded f false (grid (now lv) (now lh) (now lw) (now lt) (now lq)) (length (now y)) ⌝ }
-    requires { ⌜ (chromaOn f ≡ true → Stepped f true (now steps) × Gridded f true (grid (now cv) (now ch) (now cw) (now ct) (now cq)) (length (now u)) × Gridded f true (grid (now cv) (now ch) (now cw) (now ct) (now cq)) (length (now v))) ⌝ }
+    requires { ⌜ Stepped f false (now steps) × Gridded f false (tiled (now lv) (now lh) (now lw) (now lt) (now lq) (now ltiles)) (length (now y)) ⌝ }
+    requires { ⌜ (chromaOn f ≡ true → Stepped f true (now steps) × Gridded f true (tiled (now cv) (now ch) (now cw) (now ct) (now cq) (now ctiles)) (length (now u)) × Gridded f true (tiled (now cv) (now ch) (now cw) (now ct) (now cq) (now ctiles)) (length (now v))) ⌝ }
     ensures { λ a. ⌜ Finished f
         (now (steps .entry))
-        (grids (grid (now (lv .entry)) (now (lh .entry)) (now (lw .entry)) (now (lt .entry)) (now (lq .entry))) (grid (now (cv .entry)) (now (ch .entry)) (now (cw .entry)) (now (ct .entry)) (now (cq .entry))))
+        (grids (tiled (now (lv .entry)) (now (lh .entry)) (now (lw .entry)) (now (lt .entry)) (now (lq .entry)) (now (ltiles .entry))) (tiled (now (cv .entry)) (now (ch .entry)) (now (cw .entry)) (now (ct .entry)) (now (cq .entry)) (now (ctiles .entry))))
         (planes (now (y .entry)) (now (u .entry)) (now (v .entry)))
         a
         (planes (now (y .exit)) (now (u .exit)) (now (v .exit))) ⌝ }
 {
-    let a = late(y, u, v, lv, lh, lw, lt, cv, ch, cw, ct, f);
+    let a = late(y, u, v, lv, lh, lw, lt, ltiles, cv, ch, cw, ct, ctiles, f);
     if let Answer::Refused(r) = a {
-        return PlaneAnswer {
-            answer: Answer::Refused(r),
-            stored: 0,
-            changed: 0,
-        };
+        return refused(r);
     }
-    let n = run_planes(y, u, v, lv, lh, lw, lt, lq, cv, ch, cw, ct, cq, steps, f);
+    let n = run_planes(
+        y,
+        u,
+        v,
+        lv,
+        lh,
+        lw,
+        lt,
+        lq,
+        ltiles,
+        cv,
+        ch,
+        cw,
+        ct,
+        cq,
+        ctiles,
+        steps,
+        f,
+    );
     PlaneAnswer {
         answer: Answer::Accepted,
         stored: n.stored,

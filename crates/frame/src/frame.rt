@@ -1,5 +1,6 @@
-// A frame's entry: the early checks, both grids built, and the planes filtered by them.
+// A frame's entry: the lengths of its lists, the early checks, both grids built, and the planes filtered by them.
 use super::filter::filter;
+use super::filter::refused;
 use frame_checks::early::frame_early;
 use frame_planes::build::build;
 use rules::lent::FrameLengths;
@@ -7,9 +8,24 @@ use rules::lent::GridLengths;
 use rules::refusals::Answer;
 use rules::refusals::PlaneAnswer;
 use rules::settings::Frame;
-ghost use Rattle.rules.specs.Plane.{grid};
+ghost use mathlib.Core.Path.{_≡_};
+ghost use Rattle.rules.specs.Plane.{tiled};
 ghost use Rattle.rules.specs.Frame.{planes, grids, lent, given};
+ghost use Rattle.frame.specs.Fit.{lengthsBy};
 ghost use Rattle.frame.specs.Stated.{Stated};
+
+// How long a grid's lists are.
+fn grid_lengths(vedge: usize, hedge: usize, sqw: usize, sqh: usize, qindex: usize) -> GridLengths
+    ensures { λ r. ⌜ r ≡ lengthsBy vedge hedge sqw sqh qindex ⌝ }
+{
+    GridLengths {
+        vedge: vedge,
+        hedge: hedge,
+        sqw: sqw,
+        sqh: sqh,
+        qindex: qindex,
+    }
+}
 
 // Filters a frame of any settings and lists and tells how many samples that stored and changed, or says why it does not: answer, counts and every lent list are those of rules.
 pub fn deblock_frame(
@@ -31,32 +47,22 @@ pub fn deblock_frame(
     leaves: &[u16],
     chromaleaves: &[u16],
     skips: &[u16],
+    tiles: &[u16],
+    chromatiles: &[u16],
     f: Frame,
 ) -> PlaneAnswer
     ensures { λ a. ⌜ Stated f
         (given (now (steps .entry)) (now (sbq .entry)) (now (leaves .entry)) (now (chromaleaves .entry)) (now (skips .entry)))
         (lent
         (planes (now (y .entry)) (now (u .entry)) (now (v .entry)))
-        (grids (grid (now (lv .entry)) (now (lh .entry)) (now (lw .entry)) (now (lt .entry)) (now (lq .entry))) (grid (now (cv .entry)) (now (ch .entry)) (now (cw .entry)) (now (ct .entry)) (now (cq .entry)))))
+        (grids (tiled (now (lv .entry)) (now (lh .entry)) (now (lw .entry)) (now (lt .entry)) (now (lq .entry)) (now (tiles .entry))) (tiled (now (cv .entry)) (now (ch .entry)) (now (cw .entry)) (now (ct .entry)) (now (cq .entry)) (now (chromatiles .entry)))))
         a
         (lent
         (planes (now (y .exit)) (now (u .exit)) (now (v .exit)))
-        (grids (grid (now (lv .exit)) (now (lh .exit)) (now (lw .exit)) (now (lt .exit)) (now (lq .exit))) (grid (now (cv .exit)) (now (ch .exit)) (now (cw .exit)) (now (ct .exit)) (now (cq .exit))))) ⌝ }
+        (grids (tiled (now (lv .exit)) (now (lh .exit)) (now (lw .exit)) (now (lt .exit)) (now (lq .exit)) (now (tiles .entry))) (tiled (now (cv .exit)) (now (ch .exit)) (now (cw .exit)) (now (ct .exit)) (now (cq .exit)) (now (chromatiles .entry))))) ⌝ }
 {
-    let luma = GridLengths {
-        vedge: lv.len(),
-        hedge: lh.len(),
-        sqw: lw.len(),
-        sqh: lt.len(),
-        qindex: lq.len(),
-    };
-    let chroma = GridLengths {
-        vedge: cv.len(),
-        hedge: ch.len(),
-        sqw: cw.len(),
-        sqh: ct.len(),
-        qindex: cq.len(),
-    };
+    let luma = grid_lengths(lv.len(), lh.len(), lw.len(), lt.len(), lq.len());
+    let chroma = grid_lengths(cv.len(), ch.len(), cw.len(), ct.len(), cq.len());
     let n = FrameLengths {
         y: y.len(),
         u: u.len(),
@@ -68,15 +74,29 @@ pub fn deblock_frame(
         chromaleaves: chromaleaves.len(),
         skips: skips.len(),
     };
-    let a = frame_early(steps, leaves, chromaleaves, skips, f, n);
+    let a = frame_early(steps, leaves, chromaleaves, skips, tiles, chromatiles, f, n);
     if let Answer::Refused(r) = a {
-        return PlaneAnswer {
-            answer: Answer::Refused(r),
-            stored: 0,
-            changed: 0,
-        };
+        return refused(r);
     }
     build(lv, lh, lw, lt, lq, leaves, skips, sbq, f, false);
     build(cv, ch, cw, ct, cq, chromaleaves, skips, sbq, f, true);
-    filter(y, u, v, lv, lh, lw, lt, lq, cv, ch, cw, ct, cq, steps, f)
+    filter(
+        y,
+        u,
+        v,
+        lv,
+        lh,
+        lw,
+        lt,
+        lq,
+        tiles,
+        cv,
+        ch,
+        cw,
+        ct,
+        cq,
+        chromatiles,
+        steps,
+        f,
+    )
 }

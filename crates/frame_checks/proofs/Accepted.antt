@@ -10,11 +10,13 @@ use mir.Syntax.{w64}
 use Rattle.laws.specs.Choose.{both, all, all-parts, both-bad, both-ok, told-yes, told-yes-not}
 use Rattle.rules.specs.declared.settings.Frame.{Frame}
 use Rattle.rules.specs.declared.settings.Plane.{Plane}
+use Rattle.rules.specs.declared.lent.FrameLengths.{FrameLengths}
 use Rattle.rules.specs.declared.refusals.Refusal.the-variants.{Size}
+use Rattle.rules.specs.declared.refusals.Answer.{Answer}
 use Rattle.rules.specs.declared.refusals.Answer.the-variants.{Accepted}
 use Rattle.rules.specs.Numbers.{inRange, subsamplingOk}
 use Rattle.rules.specs.Refusals.{unless, onlyIf}
-use Rattle.rules.specs.Frame.{lumaPlane, chromaPlane, chromaOn, strideOk, frameSizes}
+use Rattle.rules.specs.Frame.{lumaPlane, chromaPlane, chromaOn, strideOk, frameSizes, frameShape}
 use Rattle.scan.proofs.Checks.{else-parts, unless-true, only-part}
 use Rattle.tiles.proofs.Checked.{ssx-most, ssy-most}
 use Rattle.cells.specs.Fit.{Sizes}
@@ -77,6 +79,11 @@ module _ (f : Frame) (ok : frameSizes f ≡ Accepted) where
   pub chroma-sizes : chromaOn f ≡ true → Sizes (chromaPlane f)
   unfolding frameSizes
   chroma-sizes on = plane-sizes f true frame-sized (unless-true _ Size (only-part _ _ (else-parts _ _ ok .1) on))
+
+-- by the checks 1, 2, 3
+pub shape-sized : (f : Frame) (k : FrameLengths) {a : Answer} → a ≡ frameShape f k → a ≡ Accepted → Sized f
+unfolding frameShape
+shape-sized f k is ok = frame-sized f (else-parts _ _ (else-parts _ _ (sym is ∙ ok) .1) .0)
 
 -- four times a plane's columns fit a word, as the code has its settings
 pub four-cols-fit : (f : Frame) (chroma : Bool) {s : Plane} → s ≡ planeOf f chroma → Sized f → Fits w64 (4 * s .cols)

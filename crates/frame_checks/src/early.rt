@@ -3,6 +3,7 @@ use super::deltas::frame_settings;
 use super::leaves::frame_leaves;
 use super::lengths::frame_lengths;
 use super::sizes::frame_sizes;
+use super::starts::frame_tiles;
 use rules::depth::Depth;
 use rules::lent::FrameLengths;
 use rules::refusals::Answer;
@@ -13,6 +14,7 @@ ghost use mathlib.Core.Path.{_≡_};
 ghost use mathlib.Core.List.{List};
 ghost use Prim.Native.Nat.{ℕ};
 ghost use Rattle.rules.specs.Frame.{given, frameShape, frameGiven, frameEarly};
+ghost use Rattle.frame_checks.specs.Settings.{Sized};
 
 // Order 1, 2, 3: what the settings and the lengths of the lists decide.
 pub fn frame_shape(f: Frame, n: FrameLengths) -> Answer
@@ -34,9 +36,12 @@ fn frame_given(
     leaves: &[u16],
     chromaleaves: &[u16],
     skips: &[u16],
+    tiles: &[u16],
+    chromatiles: &[u16],
     f: Frame,
 ) -> Answer
-    ensures { λ r. ⌜ ((q : List ℕ) → r ≡ frameGiven f (given (now (steps .entry)) q (now (leaves .entry)) (now (chromaleaves .entry)) (now (skips .entry)))) ⌝ }
+    requires { ⌜ Sized f ⌝ }
+    ensures { λ r. ⌜ ((q : List ℕ) → r ≡ frameGiven f (now (tiles .entry)) (now (chromatiles .entry)) (given (now (steps .entry)) q (now (leaves .entry)) (now (chromaleaves .entry)) (now (skips .entry)))) ⌝ }
 {
     let a = steps_check(steps);
     if let Answer::Refused(r) = a {
@@ -44,6 +49,10 @@ fn frame_given(
     }
     let b = frame_settings(f);
     if let Answer::Refused(r) = b {
+        return Answer::Refused(r);
+    }
+    let d = frame_tiles(tiles, chromatiles, f);
+    if let Answer::Refused(r) = d {
         return Answer::Refused(r);
     }
     frame_leaves(leaves, chromaleaves, skips)
@@ -55,14 +64,16 @@ pub fn frame_early(
     leaves: &[u16],
     chromaleaves: &[u16],
     skips: &[u16],
+    tiles: &[u16],
+    chromatiles: &[u16],
     f: Frame,
     n: FrameLengths,
 ) -> Answer
-    ensures { λ r. ⌜ ((q : List ℕ) → r ≡ frameEarly f n (given (now (steps .entry)) q (now (leaves .entry)) (now (chromaleaves .entry)) (now (skips .entry)))) ⌝ }
+    ensures { λ r. ⌜ ((q : List ℕ) → r ≡ frameEarly f n (now (tiles .entry)) (now (chromatiles .entry)) (given (now (steps .entry)) q (now (leaves .entry)) (now (chromaleaves .entry)) (now (skips .entry)))) ⌝ }
 {
     let a = frame_shape(f, n);
     if let Answer::Refused(r) = a {
         return Answer::Refused(r);
     }
-    frame_given(steps, leaves, chromaleaves, skips, f)
+    frame_given(steps, leaves, chromaleaves, skips, tiles, chromatiles, f)
 }

@@ -12,6 +12,9 @@ mod lengths;
 // Deltas and caps: refusal 5.
 mod deltas;
 
+// Lists of tile starts: refusal 5, too.
+mod starts;
+
 // Leaves: refusal 9.
 mod leaves;
 

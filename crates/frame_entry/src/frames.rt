@@ -4,7 +4,7 @@ use super::listed::list_check;
 use frame::frame::deblock_frame;
 use rules::refusals::Answer;
 use rules::refusals::PlaneAnswer;
-ghost use Rattle.rules.specs.Plane.{grid};
+ghost use Rattle.rules.specs.Plane.{tiled};
 ghost use Rattle.rules.specs.Frame.{planes, grids, lent, given};
 ghost use Rattle.frame_entry.specs.Listed.{FrameHanded};
 
@@ -28,6 +28,8 @@ pub fn filter(
     leaves: &[u16],
     chromaleaves: &[u16],
     skips: &[u16],
+    tiles: &[u16],
+    chromatiles: &[u16],
     settings: &[i32],
 ) -> PlaneAnswer
     ensures { λ a. ⌜ FrameHanded
@@ -35,11 +37,15 @@ pub fn filter(
         (given (now (steps .entry)) (now (sbq .entry)) (now (leaves .entry)) (now (chromaleaves .entry)) (now (skips .entry)))
         (lent
         (planes (now (y .entry)) (now (u .entry)) (now (v .entry)))
-        (grids (grid (now (lv .entry)) (now (lh .entry)) (now (lw .entry)) (now (lt .entry)) (now (lq .entry))) (grid (now (cv .entry)) (now (ch .entry)) (now (cw .entry)) (now (ct .entry)) (now (cq .entry)))))
+        (grids
+        (tiled (now (lv .entry)) (now (lh .entry)) (now (lw .entry)) (now (lt .entry)) (now (lq .entry)) (now (tiles .entry)))
+        (tiled (now (cv .entry)) (now (ch .entry)) (now (cw .entry)) (now (ct .entry)) (now (cq .entry)) (now (chromatiles .entry)))))
         a
         (lent
         (planes (now (y .exit)) (now (u .exit)) (now (v .exit)))
-        (grids (grid (now (lv .exit)) (now (lh .exit)) (now (lw .exit)) (now (lt .exit)) (now (lq .exit))) (grid (now (cv .exit)) (now (ch .exit)) (now (cw .exit)) (now (ct .exit)) (now (cq .exit))))) ⌝ }
+        (grids
+        (tiled (now (lv .exit)) (now (lh .exit)) (now (lw .exit)) (now (lt .exit)) (now (lq .exit)) (now (tiles .entry)))
+        (tiled (now (cv .exit)) (now (ch .exit)) (now (cw .exit)) (now (ct .exit)) (now (cq .exit)) (now (chromatiles .entry))))) ⌝ }
 {
     let a = list_check(settings);
     if let Answer::Refused(r) = a {
@@ -69,6 +75,8 @@ pub fn filter(
         leaves,
         chromaleaves,
         skips,
+        tiles,
+        chromatiles,
         f,
     )
 }

@@ -14,20 +14,28 @@ ghost use Prim.Native.Nat.{ℕ};
 ghost use lib.ListN.{length};
 ghost use Rattle.rules.specs.declared.refusals.Refusal.the-variants.{Room, Sample};
 ghost use Rattle.rules.specs.Refusals.{found, onlyIf};
-ghost use Rattle.rules.specs.Plane.{grid, noRoom, overPlane};
+ghost use Rattle.rules.specs.Plane.{tiled, noRoom, overPlane};
 ghost use Rattle.rules.specs.Frame.{planes, grids, chromaOn, frameSamples, frameLate};
 ghost use Rattle.frame_checks.specs.Settings.{kindOn, planeOf};
 ghost use Rattle.frame_planes.specs.Fit.{Sampled, Marked};
 
 // Refusal 7 of one kind of plane where it is filtered, whatever the qindex.
-pub fn room(vedge: &[u8], hedge: &[u8], sqw: &[u8], sqh: &[u8], f: Frame, chroma: bool) -> Answer
+pub fn room(
+    vedge: &[u8],
+    hedge: &[u8],
+    sqw: &[u8],
+    sqh: &[u8],
+    tiles: &[u16],
+    f: Frame,
+    chroma: bool,
+) -> Answer
     requires { ⌜ (kindOn f chroma ≡ true → Marked f chroma (now vedge) (now hedge) (now sqw) (now sqh)) ⌝ }
-    ensures { λ r. ⌜ ((q : List ℕ) → r ≡ onlyIf (kindOn f chroma) (found (noRoom (planeOf f chroma) (grid (now (vedge .entry)) (now (hedge .entry)) (now (sqw .entry)) (now (sqh .entry)) q)) Room)) ⌝ }
+    ensures { λ r. ⌜ ((q : List ℕ) → r ≡ onlyIf (kindOn f chroma) (found (noRoom (planeOf f chroma) (tiled (now (vedge .entry)) (now (hedge .entry)) (now (sqw .entry)) (now (sqh .entry)) q (now (tiles .entry)))) Room)) ⌝ }
 {
     if !kind_on(f, chroma) {
         return Answer::Accepted;
     }
-    let bad = no_room(vedge, hedge, sqw, sqh, plane_of(f, chroma));
+    let bad = no_room(vedge, hedge, sqw, sqh, tiles, plane_of(f, chroma));
     if let Found::At(k) = bad {
         return Answer::Refused(Refusal::Room(k));
     }
@@ -74,21 +82,23 @@ pub fn late(
     lh: &[u8],
     lw: &[u8],
     lt: &[u8],
+    ltiles: &[u16],
     cv: &[u8],
     ch: &[u8],
     cw: &[u8],
     ct: &[u8],
+    ctiles: &[u16],
     f: Frame,
 ) -> Answer
     requires { ⌜ Sampled f false (length (now y)) × (chromaOn f ≡ true → Sampled f true (length (now u)) × Sampled f true (length (now v))) ⌝ }
     requires { ⌜ Marked f false (now lv) (now lh) (now lw) (now lt) × (chromaOn f ≡ true → Marked f true (now cv) (now ch) (now cw) (now ct)) ⌝ }
-    ensures { λ r. ⌜ ((q d : List ℕ) → r ≡ frameLate f (grids (grid (now (lv .entry)) (now (lh .entry)) (now (lw .entry)) (now (lt .entry)) q) (grid (now (cv .entry)) (now (ch .entry)) (now (cw .entry)) (now (ct .entry)) d)) (planes (now (y .entry)) (now (u .entry)) (now (v .entry)))) ⌝ }
+    ensures { λ r. ⌜ ((q d : List ℕ) → r ≡ frameLate f (grids (tiled (now (lv .entry)) (now (lh .entry)) (now (lw .entry)) (now (lt .entry)) q (now (ltiles .entry))) (tiled (now (cv .entry)) (now (ch .entry)) (now (cw .entry)) (now (ct .entry)) d (now (ctiles .entry)))) (planes (now (y .entry)) (now (u .entry)) (now (v .entry)))) ⌝ }
 {
-    let a = room(lv, lh, lw, lt, f, false);
+    let a = room(lv, lh, lw, lt, ltiles, f, false);
     if let Answer::Refused(r) = a {
         return Answer::Refused(r);
     }
-    let b = room(cv, ch, cw, ct, f, true);
+    let b = room(cv, ch, cw, ct, ctiles, f, true);
     if let Answer::Refused(r) = b {
         return Answer::Refused(r);
     }

@@ -7,7 +7,7 @@ use rules::settings::Frame;
 ghost use mathlib.Core.Path.{_≡_};
 ghost use mathlib.Core.Bool.{true, false};
 ghost use lib.ListN.{length};
-ghost use Rattle.rules.specs.Plane.{grid};
+ghost use Rattle.rules.specs.Plane.{tiled};
 ghost use Rattle.rules.specs.Frame.{planes, grids, chromaOn};
 ghost use Rattle.frame_checks.specs.Settings.{kindOn};
 ghost use Rattle.frame_planes.specs.Ran.{Runnable, PlaneRun, FrameRun};
@@ -20,12 +20,13 @@ fn run(
     sqw: &[u8],
     sqh: &[u8],
     qindex: &[u16],
+    tiles: &[u16],
     steps: &[u32],
     f: Frame,
     chroma: bool,
 ) -> Counts
-    requires { ⌜ (kindOn f chroma ≡ true → Runnable f chroma (now steps) (grid (now vedge) (now hedge) (now sqw) (now sqh) (now qindex)) (length (now plane))) ⌝ }
-    ensures { λ a. ⌜ PlaneRun f chroma (now (steps .entry)) (grid (now (vedge .entry)) (now (hedge .entry)) (now (sqw .entry)) (now (sqh .entry)) (now (qindex .entry))) (now (plane .entry)) a (now (plane .exit)) ⌝ }
+    requires { ⌜ (kindOn f chroma ≡ true → Runnable f chroma (now steps) (tiled (now vedge) (now hedge) (now sqw) (now sqh) (now qindex) (now tiles)) (length (now plane))) ⌝ }
+    ensures { λ a. ⌜ PlaneRun f chroma (now (steps .entry)) (tiled (now (vedge .entry)) (now (hedge .entry)) (now (sqw .entry)) (now (sqh .entry)) (now (qindex .entry)) (now (tiles .entry))) (now (plane .entry)) a (now (plane .exit)) ⌝ }
 {
     if !kind_on(f, chroma) {
         return Counts {
@@ -40,6 +41,7 @@ fn run(
         sqw,
         sqh,
         qindex,
+        tiles,
         steps,
         plane_of(f, chroma),
     );
@@ -59,26 +61,28 @@ pub fn run_planes(
     lw: &[u8],
     lt: &[u8],
     lq: &[u16],
+    ltiles: &[u16],
     cv: &[u8],
     ch: &[u8],
     cw: &[u8],
     ct: &[u8],
     cq: &[u16],
+    ctiles: &[u16],
     steps: &[u32],
     f: Frame,
 ) -> Counts
-    requires { ⌜ Runnable f false (now steps) (grid (now lv) (now lh) (now lw) (now lt) (now lq)) (length (now y)) ⌝ }
-    requires { ⌜ (chromaOn f ≡ true → Runnable f true (now steps) (grid (now cv) (now ch) (now cw) (now ct) (now cq)) (length (now u)) × Runnable f true (now steps) (grid (now cv) (now ch) (now cw) (now ct) (now cq)) (length (now v))) ⌝ }
+    requires { ⌜ Runnable f false (now steps) (tiled (now lv) (now lh) (now lw) (now lt) (now lq) (now ltiles)) (length (now y)) ⌝ }
+    requires { ⌜ (chromaOn f ≡ true → Runnable f true (now steps) (tiled (now cv) (now ch) (now cw) (now ct) (now cq) (now ctiles)) (length (now u)) × Runnable f true (now steps) (tiled (now cv) (now ch) (now cw) (now ct) (now cq) (now ctiles)) (length (now v))) ⌝ }
     ensures { λ a. ⌜ FrameRun f
         (now (steps .entry))
-        (grids (grid (now (lv .entry)) (now (lh .entry)) (now (lw .entry)) (now (lt .entry)) (now (lq .entry))) (grid (now (cv .entry)) (now (ch .entry)) (now (cw .entry)) (now (ct .entry)) (now (cq .entry))))
+        (grids (tiled (now (lv .entry)) (now (lh .entry)) (now (lw .entry)) (now (lt .entry)) (now (lq .entry)) (now (ltiles .entry))) (tiled (now (cv .entry)) (now (ch .entry)) (now (cw .entry)) (now (ct .entry)) (now (cq .entry)) (now (ctiles .entry))))
         (planes (now (y .entry)) (now (u .entry)) (now (v .entry)))
         a
         (planes (now (y .exit)) (now (u .exit)) (now (v .exit))) ⌝ }
 {
-    let of_y = run(y, lv, lh, lw, lt, lq, steps, f, false);
-    let of_u = run(u, cv, ch, cw, ct, cq, steps, f, true);
-    let of_v = run(v, cv, ch, cw, ct, cq, steps, f, true);
+    let of_y = run(y, lv, lh, lw, lt, lq, ltiles, steps, f, false);
+    let of_u = run(u, cv, ch, cw, ct, cq, ctiles, steps, f, true);
+    let of_v = run(v, cv, ch, cw, ct, cq, ctiles, steps, f, true);
     Counts {
         stored: of_y.stored + of_u.stored + of_v.stored,
         changed: of_y.changed + of_u.changed + of_v.changed,

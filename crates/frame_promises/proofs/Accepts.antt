@@ -15,12 +15,12 @@ use Rattle.rules.specs.Refusals.{orElse, unless, found, onlyIf, sooner, first, 
 use Rattle.rules.specs.Thresholds.{stepGood, badStep, stepsCheck}
 use Rattle.rules.specs.Lengths.{reachBefore, reachAfter, reachOf, lengthBefore, lengthAfter, pairOf}
 use Rattle.rules.specs.Segment.{hasRoom}
-use Rattle.rules.specs.Plane.{Grid, grid, cellOf, cellBefore, marksOf, indicesOf, cappedOf, indexAt, shortenedAt, isEdge, edgeRoom, lacksRoom, lacksRow, lacksDir, noRoom, overPlane}
+use Rattle.rules.specs.Plane.{Grid, grid, cellOf, cellBefore, marksOf, indicesOf, cappedOf, indexAt, shortenedAt, isEdge, edgeRoom, lacksRoom, lacksRow, lacksDir, noRoom, overPlane, badStart, tilesCheck}
 use Rattle.rules.specs.TuGrid.{flagOf, bareOf, isSize, log2Of, sizeOf, wholeOf, tileOf, markOf, storeCell, paintCell, paintRow, paintOf, leafOf, leavesOf, clearOf, txGridOf, capOk, foursOk, leafGood, leafGoodAt, badLeaf}
 use Rattle.rules.specs.QindexGrid.{superblockOf, qCell, qRow, qGridOf}
-use Rattle.rules.specs.Frame.{Planes, Grids, Given, given, planes, grids, lent, lengthsOf, eighths, halved, superblocks, lumaPlane, chromaPlane, lumaTu, chromaTu, lumaQ, chromaQ, chromaOn, builtGrid, builtGrids}
-use Rattle.rules.specs.Frame.{frameSizes, gridLong, lumaLong, chromaLong, givenLong, frameLengths, frameShape, frameSettings, frameLeaves, frameGiven, frameEarly, frameRoom, frameSamples, frameLate, frameOf}
-use Rattle.frame_promises.proofs.Answers.{answer-is}
+use Rattle.rules.specs.Frame.{Planes, Grids, Given, given, planes, grids, lent, eighths, halved, superblocks, lumaPlane, chromaPlane, lumaTu, chromaTu, lumaQ, chromaQ, chromaOn, builtGrid, builtGrids}
+use Rattle.rules.specs.Frame.{frameSizes, gridLong, lumaLong, chromaLong, givenLong, frameLengths, frameShape, frameSettings, frameTiles, frameLeaves, frameGiven, frameEarly, frameRoom, frameSamples, frameLate, frameOf}
+use Rattle.frame_promises.proofs.Answers.{earlyOf, answer-is}
 
 -- 8 by 8 samples of 4:2:0 at depth 8; TUs of one cell, so that the middle column and row of each plane are edges
 abbrev small : Frame
@@ -58,9 +58,9 @@ samples = planes (blank 64) (blank 64) (blank 64)
 abbrev cells : Grids
 cells = grids (grid (blank 4) (blank 4) (blank 4) (blank 4) (blank 4)) (grid (blank 4) (blank 4) (blank 4) (blank 4) (blank 4))
 
-early : frameEarly small (lengthsOf lists (lent samples cells)) lists ≡ Accepted
+early : earlyOf small lists (lent samples cells) ≡ Accepted
 unfolding pick either both all depthOk inRange inRangeZ deltaOk subsamplingOk down orElse unless found onlyIf sooner first foundUnless stepGood badStep stepsCheck flagOf bareOf isSize capOk foursOk leafGood leafGoodAt badLeaf eighths halved superblocks lumaPlane chromaPlane chromaOn frameSizes
-    gridLong lumaLong chromaLong givenLong frameLengths frameShape frameSettings frameLeaves frameGiven frameEarly
+    gridLong lumaLong chromaLong givenLong frameLengths badStart tilesCheck frameShape frameSettings frameTiles frameLeaves frameGiven frameEarly
 early = refl
 
 -- every cell is a TU with both its edges marked

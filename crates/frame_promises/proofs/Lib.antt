@@ -6,3 +6,4 @@ pub mod Planes
 pub mod Edges
 pub mod Counts
 pub mod Accepts
+pub mod OneTile

@@ -18,19 +18,19 @@ use Rattle.rules.specs.declared.refusals.Found.the-variants.{Nothing}
 use Rattle.rules.specs.Numbers.{inRange, down}
 use Rattle.rules.specs.Refusals.{unless, found, settle}
 use Rattle.rules.specs.Thresholds.{deltasCheck}
-use Rattle.rules.specs.Plane.{Grid, noRoom, overPlane, runPlane, planeSizesOk, planeCheck, planeAfter}
+use Rattle.rules.specs.Plane.{Grid, tilesCheck, noRoom, overPlane, runPlane, planeSizesOk, planeCheck, planeAfter}
 use Rattle.rules.specs.TuGrid.{marks}
-use Rattle.rules.specs.Frame.{Given, Lent, lengthsOf, eighths, halved, lumaPlane, chromaPlane, chromaOn, builtGrid, builtGrids, frameEarly, frameSamples, frameLate, runFrame, frameOf}
+use Rattle.rules.specs.Frame.{Given, Lent, eighths, halved, lumaPlane, chromaPlane, chromaOn, builtGrid, builtGrids, frameSamples, frameLate, runFrame, frameOf}
 use Rattle.scan.proofs.Checks.{go-on, unless-good, found-good, else-parts, found-nothing, only-part}
 use Rattle.frame_checks.specs.Settings.{Sized, kindOn, planeOf, tuOf, qOf}
 use Rattle.frame_checks.proofs.Ranges.{by-shift}
 use Rattle.frame_planes.specs.Fit.{Sampled, Buildable}
 use Rattle.frame.specs.Fit.{Stepped, Gridded}
-use Rattle.frame.proofs.Given.{luma-sampled, u-sampled, v-sampled, luma-stepped, chroma-stepped, luma-built, chroma-built}
+use Rattle.frame.proofs.Given.{luma-sampled, u-sampled, v-sampled, luma-stepped, chroma-stepped, luma-starts, chroma-starts, luma-built, chroma-built}
 use Rattle.frame.proofs.Grids.{gridded}
 use Rattle.frame.proofs.Ways.{luma-room, chroma-room}
 use Rattle.frame_promises.proofs.Theorems.{ran}
-use Rattle.frame_promises.proofs.Answers.{answer-is}
+use Rattle.frame_promises.proofs.Answers.{earlyOf, answer-is}
 use Rattle.frame_promises.proofs.Lengths.{tx-lengths, q-length}
 
 -- ---- a plane's sizes
@@ -92,21 +92,23 @@ plane-accepted f chroma steps g l k t room over =
     (go-on _ _ _ (unless-good _ _ (sym (k .lengths)))
     (go-on _ _ _ (sym (t .steps-ok))
     (go-on _ _ _ (unless-good _ _ (rw (t .deltaq-ok, t .deltaside-ok)))
+    (go-on _ _ _ (sym (k .tiles-ok))
     (go-on _ _ _ (found-good _ _ (sym (k .cells)))
     (go-on _ _ _ (found-good _ _ (sym room))
-    (found-good _ _ (sym over)))))))))
+    (found-good _ _ (sym over))))))))))
 
 -- the grid that is built
-built-gridded : (f : Frame) (chroma : Bool) {ls ks : List ℕ} (sbq : List ℕ) (g : Grid) {size count : ℕ} → Sampled f chroma size → Buildable f chroma ls ks count (length (g .vedge)) (length (g .hedge)) (length (g .sqw)) (length (g .sqh)) (length (g .qindex)) → kindOn f chroma ≡ true → Gridded f chroma (builtGrid (tuOf f chroma) (qOf f chroma) ls ks sbq g) size
+built-gridded : (f : Frame) (chroma : Bool) {ls ks : List ℕ} (sbq : List ℕ) (g : Grid) {size count : ℕ} → Sampled f chroma size → Buildable f chroma ls ks count (length (g .vedge)) (length (g .hedge)) (length (g .sqw)) (length (g .sqh)) (length (g .qindex))
+    → kindOn f chroma ≡ true → tilesCheck (planeOf f chroma .cols) (g .tiles) ≡ Accepted → Gridded f chroma (builtGrid (tuOf f chroma) (qOf f chroma) ls ks sbq g) size
 unfolding builtGrid pick
-built-gridded f chroma {ls} {ks} sbq g sampled b on =
+built-gridded f chroma {ls} {ks} sbq g sampled b on starts =
     let m = tx-lengths (tuOf f chroma) ls ks (marks (g .vedge) (g .hedge) (g .sqw) (g .sqh)) in
-    gridded sbq g sampled b (m .0) (m .1) (m .2) (m .3) (q-length (qOf f chroma) sbq (g .qindex)) on (rw on)
+    gridded sbq g (g .tiles) sampled b (m .0) (m .1) (m .2) (m .3) (q-length (qOf f chroma) sbq (g .qindex)) on starts (rw on)
 
 -- ---- an accepted frame
 
 module _ (f : Frame) (n : Given) (l : Lent) (ok : frameOf f n l .answer ≡ Accepted) where
-  early : frameEarly f (lengthsOf n l) n ≡ Accepted
+  early : earlyOf f n l ≡ Accepted
   early = else-parts _ _ (sym (answer-is f n l) ∙ ok) .0
 
   late : frameLate f (builtGrids f n (l .grids)) (l .planes) ≡ Accepted
@@ -120,8 +122,8 @@ module _ (f : Frame) (n : Given) (l : Lent) (ok : frameOf f n l .answer ≡ Acce
   unfolding builtGrids frameSamples
   luma-accepted =
       plane-accepted f false (n .steps) _ (l .planes .y)
-      (built-gridded f false (n .sbq) (l .grids .luma) (luma-sampled _ _ _ early) (luma-built _ _ _ early) refl)
-      (luma-stepped _ _ _ early)
+      (built-gridded f false (n .sbq) (l .grids .luma) (luma-sampled _ _ _ _ _ early) (luma-built _ _ _ _ _ early) refl (luma-starts _ _ _ _ _ early))
+      (luma-stepped _ _ _ _ _ early)
       (luma-room f _ _ (l .planes) refl late)
       (found-nothing _ Sample (else-parts _ _ samples .0))
 
@@ -137,16 +139,16 @@ module _ (f : Frame) (n : Given) (l : Lent) (ok : frameOf f n l .answer ≡ Acce
     pub u-accepted : planeCheck (chromaPlane f) (n .steps) (builtGrids f n (l .grids) .chroma) (l .planes .u) ≡ Accepted
     u-accepted =
         plane-accepted f true (n .steps) _ (l .planes .u)
-        (rw chroma-grid (built-gridded f true (n .sbq) (l .grids .chroma) (u-sampled _ _ _ early on) (chroma-built _ _ _ early on) on))
-        (chroma-stepped _ _ _ early)
+        (rw chroma-grid (built-gridded f true (n .sbq) (l .grids .chroma) (u-sampled _ _ _ _ _ early on) (chroma-built _ _ _ _ _ early on) on (chroma-starts _ _ _ _ _ early on)))
+        (chroma-stepped _ _ _ _ _ early)
         (chroma-room f (builtGrids f n (l .grids) .luma) _ (l .planes) refl late on)
         (found-nothing _ Sample (both-samples .0))
 
     pub v-accepted : planeCheck (chromaPlane f) (n .steps) (builtGrids f n (l .grids) .chroma) (l .planes .v) ≡ Accepted
     v-accepted =
         plane-accepted f true (n .steps) _ (l .planes .v)
-        (rw chroma-grid (built-gridded f true (n .sbq) (l .grids .chroma) (v-sampled _ _ _ early on) (chroma-built _ _ _ early on) on))
-        (chroma-stepped _ _ _ early)
+        (rw chroma-grid (built-gridded f true (n .sbq) (l .grids .chroma) (v-sampled _ _ _ _ _ early on) (chroma-built _ _ _ _ _ early on) on (chroma-starts _ _ _ _ _ early on)))
+        (chroma-stepped _ _ _ _ _ early)
         (chroma-room f (builtGrids f n (l .grids) .luma) _ (l .planes) refl late on)
         (found-nothing _ Sample (both-samples .1))
 

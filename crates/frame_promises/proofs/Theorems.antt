@@ -3,6 +3,7 @@
 -- Assumes nothing.
 use mathlib.Core.Path.{_≡_, refl, sym, ap, _∙_}
 use mathlib.Core.Bool.{Bool, true, false}
+use mathlib.Core.List.{List}
 use Prim.Native.Nat.{ℕ}
 use native.Mathlib.Omega.{arith}
 use Rattle.laws.specs.Choose.{pick}
@@ -17,8 +18,10 @@ use Rattle.rules.specs.declared.refusals.Found.{Found}
 use Rattle.rules.specs.declared.refusals.Found.the-variants.{At, Nothing}
 use Rattle.rules.specs.Refusals.{orElse, unless, found, onlyIf, settle}
 use Rattle.rules.specs.Thresholds.{stepsCheck}
-use Rattle.rules.specs.Frame.{Planes, Grids, Given, Lent, Done, lent, done, lengthsOf, chromaOn, builtGrids, frameSizes, frameLengths, frameShape, frameSettings, frameLeaves, frameGiven, frameEarly, frameLate, runFrame, frameBuilt, orDone, frameOf}
+use Rattle.rules.specs.Plane.{tilesCheck}
+use Rattle.rules.specs.Frame.{Planes, Grids, Given, Lent, Done, lent, done, lengthsOf, chromaOn, builtGrids, frameSizes, frameLengths, frameShape, frameSettings, frameTiles, frameLeaves, frameGiven, frameEarly, frameLate, runFrame, frameBuilt, orDone, frameOf}
 use Rattle.frame.specs.Stated.{Stated}
+use Rattle.frame_promises.proofs.Answers.{earlyOf}
 
 -- any two results that the statement allows are equal: answer, every list, and both counts
 pub one-result : {f : Frame} {n : Given} {l : Lent} {a b : PlaneAnswer} {m k : Lent} → Stated f n l a m → Stated f n l b k
@@ -80,18 +83,22 @@ unfolding frameLeaves
 early-leaves n =
     else-early _ _ (found-early _ Leaf (λ _. refl)) (else-early _ _ (found-early _ Leaf (λ _. refl)) (found-early _ Leaf (λ _. refl)))
 
-early-checks : (f : Frame) (k : FrameLengths) (n : Given) → early (frameEarly f k n) ≡ true
+early-tiles : (f : Frame) (ts us : List ℕ) → early (frameTiles f ts us) ≡ true
+unfolding frameTiles tilesCheck
+early-tiles f ts us = else-early _ _ (found-early _ (λ k. Setting) (λ _. refl)) (only-early _ _ (found-early _ (λ k. Setting) (λ _. refl)))
+
+early-checks : (f : Frame) (k : FrameLengths) (ts us : List ℕ) (n : Given) → early (frameEarly f k ts us n) ≡ true
 unfolding frameEarly frameShape frameGiven stepsCheck frameSettings
-early-checks f k n =
+early-checks f k ts us n =
     else-early _ _ (else-early _ _ (unless-early _ Depth refl) (else-early _ _ (early-sizes f) (early-lengths f k)))
-    (else-early _ _ (found-early _ Steps (λ _. refl)) (else-early _ _ (unless-early _ Setting refl) (early-leaves n)))
+    (else-early _ _ (found-early _ Steps (λ _. refl)) (else-early _ _ (unless-early _ Setting refl) (else-early _ _ (early-tiles f ts us) (early-leaves n))))
 
 module _ (f : Frame) (n : Given) (l : Lent) where
-  pub kept-early : {r : Refusal} → frameEarly f (lengthsOf n l) n ≡ Refused r → frameOf f n l ≡ done (Refused r) l
+  pub kept-early : {r : Refusal} → earlyOf f n l ≡ Refused r → frameOf f n l ≡ done (Refused r) l
   unfolding frameOf orDone
   kept-early e = rw e
 
-  module _ (ok : frameEarly f (lengthsOf n l) n ≡ Accepted) where
+  module _ (ok : earlyOf f n l ≡ Accepted) where
     pub kept-late : {r : Refusal} → frameLate f (builtGrids f n (l .grids)) (l .planes) ≡ Refused r → frameOf f n l ≡ done (Refused r) (lent (l .planes) (builtGrids f n (l .grids)))
     unfolding frameOf orDone frameBuilt settle
     kept-late e = rw (ok, e)
@@ -129,7 +136,7 @@ module _ (f : Frame) (n : Given) (l : Lent) where
 
   pub chroma-kept : chromaOn f ≡ false → (after .planes .u ≡ l .planes .u) × (after .planes .v ≡ l .planes .v) × (after .grids .chroma ≡ l .grids .chroma)
   unfolding frameOf
-  chroma-kept off = chroma-by off (frameEarly f (lengthsOf n l) n)
+  chroma-kept off = chroma-by off (earlyOf f n l)
 
   -- ---- a refusal leaves the planes as lent, whatever its number
 
@@ -144,7 +151,7 @@ module _ (f : Frame) (n : Given) (l : Lent) where
 
   pub refused-kept : {r : Refusal} → frameOf f n l .answer ≡ Refused r → after .planes ≡ l .planes
   unfolding frameOf
-  refused-kept e = refused-by (frameEarly f (lengthsOf n l) n) e
+  refused-kept e = refused-by (earlyOf f n l) e
 
   -- ---- one by 7 has passed every early check
 
@@ -153,6 +160,6 @@ module _ (f : Frame) (n : Given) (l : Lent) where
   room-by Accepted h g = refl
   room-by (Refused x) h g = let z : true ≡ false = sym h ∙ ap early g in absurd (let y : _≡_ {A = ℕ} 0 1 = cc in omega arith)
 
-  pub room-early : {k : ℕ} → frameOf f n l .answer ≡ Refused (Room k) → frameEarly f (lengthsOf n l) n ≡ Accepted
+  pub room-early : {k : ℕ} → frameOf f n l .answer ≡ Refused (Room k) → earlyOf f n l ≡ Accepted
   unfolding frameOf
-  room-early e = room-by (frameEarly f (lengthsOf n l) n) (early-checks f (lengthsOf n l) n) e
+  room-early e = room-by (earlyOf f n l) (early-checks f (lengthsOf n l) _ _ n) e

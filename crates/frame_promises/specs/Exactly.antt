@@ -1,4 +1,4 @@
--- Document 01's tests of a frame, each under its number, luma before chroma within each.
+-- Document 01's tests of a frame, each under its number, luma before chroma within each; ticket 5's lists of tile starts under 5.
 -- Assumes nothing.
 use mathlib.Core.Bool.{true, false}
 use mathlib.Core.List.{List, [], _∷_}
@@ -7,9 +7,9 @@ use Rattle.rules.specs.declared.settings.Frame.{Frame}
 use Rattle.rules.specs.Numbers.{depthOk, inRange, subsamplingOk, deltaOk}
 use Rattle.rules.specs.Thresholds.{badStep}
 use Rattle.rules.specs.TuGrid.{capOk, badLeaf}
-use Rattle.rules.specs.Plane.{noRoom, overPlane}
+use Rattle.rules.specs.Plane.{badStart, noRoom, overPlane}
 use Rattle.rules.specs.Frame.{Given, Lent, lengthsOf, lumaPlane, chromaPlane, chromaOn, strideOk, lumaLong, chromaLong, givenLong, builtGrids}
-use Rattle.scan.specs.Exactly.{Check, check, ask, seek, andThen, askedIf}
+use Rattle.scan.specs.Exactly.{Check, check, ask, seek, seekAny, andThen, askedIf}
 
 -- 6 can't occur: the grids are built
 abbrev pub frameTests : Frame → Given → Lent → List Check
@@ -18,7 +18,10 @@ frameTests f n l =
     ∷ check 2 (andThen (ask (all (inRange 1 4096 (f .width) ∷ inRange 1 4096 (f .height) ∷ subsamplingOk (f .ssx) (f .ssy) ∷ strideOk (lumaPlane f) ∷ []))) (askedIf (chromaOn f) (ask (strideOk (chromaPlane f)))))
     ∷ check 3 (andThen (ask (lumaLong f (lengthsOf n l))) (andThen (askedIf (chromaOn f) (ask (chromaLong f (lengthsOf n l)))) (ask (givenLong f (lengthsOf n l)))))
     ∷ check 4 (seek (badStep (n .steps)))
-    ∷ check 5 (ask (all (deltaOk (f .deltay) ∷ capOk (f .capw) ∷ capOk (f .caph) ∷ deltaOk (f .deltauv) ∷ capOk (f .ccapw) ∷ capOk (f .ccaph) ∷ [])))
+    -- ticket 5: "5 also for a bad list"
+    ∷ check 5
+    (andThen (ask (all (deltaOk (f .deltay) ∷ capOk (f .capw) ∷ capOk (f .caph) ∷ deltaOk (f .deltauv) ∷ capOk (f .ccapw) ∷ capOk (f .ccaph) ∷ [])))
+    (andThen (seekAny (badStart (lumaPlane f .cols) (l .grids .luma .tiles))) (askedIf (chromaOn f) (seekAny (badStart (chromaPlane f .cols) (l .grids .chroma .tiles))))))
     ∷ check 9 (andThen (seek (badLeaf false (n .leaves))) (andThen (seek (badLeaf false (n .chromaLeaves))) (seek (badLeaf true (n .skips)))))
     ∷ check 7 (andThen (seek (noRoom (lumaPlane f) (builtGrids f n (l .grids) .luma))) (askedIf (chromaOn f) (seek (noRoom (chromaPlane f) (builtGrids f n (l .grids) .chroma)))))
     ∷ check 8 (andThen (seek (overPlane (lumaPlane f) (l .planes .y))) (askedIf (chromaOn f) (andThen (seek (overPlane (chromaPlane f) (l .planes .u))) (seek (overPlane (chromaPlane f) (l .planes .v))))))

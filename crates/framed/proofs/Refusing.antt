@@ -18,59 +18,59 @@ use Rattle.asked.specs.declared.lists.Lists.{Lists}
 use Rattle.asked.specs.Lists.{listsAsked, stepsAsked}
 use Rattle.asked.specs.Places.{placeIn, samplePlace, leavesPlace}
 use Rattle.framed.specs.declared.listed.Outcome.{Outcome}
-use Rattle.framed.specs.Deblocked.{overZeros, deblocked, Deblocked, LumaFit, roomPlace}
-use Rattle.framed.specs.Framed.{givenBy, givenAsked, refusalPlace, answerPlace, Told}
+use Rattle.framed.specs.Deblocked.{Starts, overZeros, deblocked, Deblocked, LumaFit, roomPlace}
+use Rattle.framed.specs.Framed.{givenBy, givenAsked, startsBy, startsAsked, refusalPlace, answerPlace, Told}
 
-module _ (f : Frame) (n : Given) (p : Planes) (r : Refusal) {x : Place} where
-  pub at-sample : {k : ℕ} → r ≡ Sample k → x ≡ samplePlace f (p .y) (p .u) k → x ≡ refusalPlace f n p r
+module _ (f : Frame) (n : Given) (ts : List ℕ) (p : Planes) (r : Refusal) {x : Place} where
+  pub at-sample : {k : ℕ} → r ≡ Sample k → x ≡ samplePlace f (p .y) (p .u) k → x ≡ refusalPlace f n ts p r
   unfolding refusalPlace
   at-sample e g = rw e g
 
-  pub at-room : {k : ℕ} → r ≡ Room k → x ≡ roomPlace f (n .leaves) (n .skips) (n .sbq) k → x ≡ refusalPlace f n p r
+  pub at-room : {k : ℕ} → r ≡ Room k → x ≡ roomPlace f (n .leaves) (n .skips) (n .sbq) ts k → x ≡ refusalPlace f n ts p r
   unfolding refusalPlace
   at-room e g = rw e g
 
-  pub at-leaf : {k : ℕ} → r ≡ Leaf k → x ≡ leavesPlace (n .leaves) (n .chromaLeaves) (n .skips) k → x ≡ refusalPlace f n p r
+  pub at-leaf : {k : ℕ} → r ≡ Leaf k → x ≡ leavesPlace (n .leaves) (n .chromaLeaves) (n .skips) k → x ≡ refusalPlace f n ts p r
   unfolding refusalPlace
   at-leaf e g = rw e g
 
-  pub at-step : {k : ℕ} → r ≡ Steps k → x ≡ placeIn 7 k 0 → x ≡ refusalPlace f n p r
+  pub at-step : {k : ℕ} → r ≡ Steps k → x ≡ placeIn 7 k 0 → x ≡ refusalPlace f n ts p r
   unfolding refusalPlace
   at-step e g = rw e g
 
-  pub of-depth : r ≡ Depth → x ≡ placeIn 8 0 0 → x ≡ refusalPlace f n p r
+  pub of-depth : r ≡ Depth → x ≡ placeIn 8 0 0 → x ≡ refusalPlace f n ts p r
   unfolding refusalPlace
   of-depth e g = rw e g
 
-  pub of-size : r ≡ Size → x ≡ placeIn 8 0 0 → x ≡ refusalPlace f n p r
+  pub of-size : r ≡ Size → x ≡ placeIn 8 0 0 → x ≡ refusalPlace f n ts p r
   unfolding refusalPlace
   of-size e g = rw e g
 
-  pub of-length : r ≡ Length → x ≡ placeIn 8 0 0 → x ≡ refusalPlace f n p r
+  pub of-length : r ≡ Length → x ≡ placeIn 8 0 0 → x ≡ refusalPlace f n ts p r
   unfolding refusalPlace
   of-length e g = rw e g
 
-  pub of-setting : r ≡ Setting → x ≡ placeIn 8 0 0 → x ≡ refusalPlace f n p r
+  pub of-setting : r ≡ Setting → x ≡ placeIn 8 0 0 → x ≡ refusalPlace f n ts p r
   unfolding refusalPlace
   of-setting e g = rw e g
 
-  pub of-cell : {k : ℕ} → r ≡ Cell k → x ≡ placeIn 8 0 0 → x ≡ refusalPlace f n p r
+  pub of-cell : {k : ℕ} → r ≡ Cell k → x ≡ placeIn 8 0 0 → x ≡ refusalPlace f n ts p r
   unfolding refusalPlace
   of-cell e g = rw e g
 
-  pub of-buffer : r ≡ Buffer → x ≡ placeIn 8 0 0 → x ≡ refusalPlace f n p r
+  pub of-buffer : r ≡ Buffer → x ≡ placeIn 8 0 0 → x ≡ refusalPlace f n ts p r
   unfolding refusalPlace
   of-buffer e g = rw e g
 
-  pub of-header : r ≡ Header → x ≡ placeIn 8 0 0 → x ≡ refusalPlace f n p r
+  pub of-header : r ≡ Header → x ≡ placeIn 8 0 0 → x ≡ refusalPlace f n ts p r
   unfolding refusalPlace
   of-header e g = rw e g
 
-  pub of-cut : {k : ℕ} → r ≡ Cut k → x ≡ placeIn 8 0 0 → x ≡ refusalPlace f n p r
+  pub of-cut : {k : ℕ} → r ≡ Cut k → x ≡ placeIn 8 0 0 → x ≡ refusalPlace f n ts p r
   unfolding refusalPlace
   of-cut e g = rw e g
 
-  pub of-entry : {k : ℕ} → r ≡ Entry k → x ≡ placeIn 8 0 0 → x ≡ refusalPlace f n p r
+  pub of-entry : {k : ℕ} → r ≡ Entry k → x ≡ placeIn 8 0 0 → x ≡ refusalPlace f n ts p r
   unfolding refusalPlace
   of-entry e g = rw e g
 
@@ -78,33 +78,33 @@ pub ruleset refusing = (needs, at-sample, at-room, at-leaf, at-step, of-depth, o
 
 -- ---- what a deblocked frame tells
 
-module _ {f : Frame} {n : Given} {p left : Planes} {a : PlaneAnswer} (d : Deblocked f n p a left) where
+module _ {f : Frame} {n : Given} {t : Starts} {p left : Planes} {a : PlaneAnswer} (d : Deblocked f n t p a left) where
   -- a frame that lacks room has passed its early checks
   pub luma-fit : {r : Refusal} {k : ℕ} → a .answer ≡ Refused r → r ≡ Room k → LumaFit f (n .leaves) (n .skips) (length (n .sbq))
   unfolding deblocked
   luma-fit e is =
-      let ok = room-early f n (overZeros p) (sym (d .answer) ∙ e ∙ ap Refused is) in
-      record { size = length (p .y); sampled = luma-sampled _ _ _ ok; built = luma-built _ _ _ ok }
+      let ok = room-early f n (overZeros t p) (sym (d .answer) ∙ e ∙ ap Refused is) in
+      record { size = length (p .y); sampled = luma-sampled _ _ _ _ _ ok; built = luma-built _ _ _ _ _ ok }
 
   -- a refused one has its planes as lent
   kept : {r : Refusal} → a .answer ≡ Refused r → left ≡ p
   unfolding deblocked
-  kept e = d .samples ∙ refused-kept f n (overZeros p) (sym (d .answer) ∙ e)
+  kept e = d .samples ∙ refused-kept f n (overZeros t p) (sym (d .answer) ∙ e)
 
-  as-told : {x : Answer} → a .answer ≡ x → Deblocked f n p (record { answer = x; stored = a .stored; changed = a .changed }) left
+  as-told : {x : Answer} → a .answer ≡ x → Deblocked f n t p (record { answer = x; stored = a .stored; changed = a .changed }) left
   as-told e = record { answer = sym e ∙ d .answer; samples = d .samples; stored = d .stored; changed = d .changed }
 
-  pub told-refused : {r : Refusal} {x : Place} → a .answer ≡ Refused r → x ≡ refusalPlace f n left r → Told f n p (record { answer = Refused r; place = x; stored = a .stored; changed = a .changed }) left
+  pub told-refused : {r : Refusal} {x : Place} → a .answer ≡ Refused r → x ≡ refusalPlace f n (t .luma) left r → Told f n t p (record { answer = Refused r; place = x; stored = a .stored; changed = a .changed }) left
   unfolding answerPlace
   told-refused e g = record { deblocked = as-told e; place = rw (kept e) at g }
 
-  pub told-accepted : {x : Place} → a .answer ≡ Accepted → x ≡ placeIn 8 0 0 → Told f n p (record { answer = Accepted; place = x; stored = a .stored; changed = a .changed }) left
+  pub told-accepted : {x : Place} → a .answer ≡ Accepted → x ≡ placeIn 8 0 0 → Told f n t p (record { answer = Accepted; place = x; stored = a .stored; changed = a .changed }) left
   unfolding answerPlace
   told-accepted e g = record { deblocked = as-told e; place = g }
 
 -- the lists l and m steps, as the settings have them
-pub told-so : (f : Frame) (shorts steps places : List ℕ) (p : Planes) (l : Lists) (m : ℕ) → l ≡ listsAsked (length shorts) places → m ≡ stepsAsked (getD places 3 0) → {o : Outcome} {left : Planes} → Told f (givenBy l m shorts steps) p o left → Told f (givenAsked shorts steps places) p o left
-unfolding givenAsked
+pub told-so : (f : Frame) (shorts steps places : List ℕ) (p : Planes) (l : Lists) (m : ℕ) → l ≡ listsAsked (length shorts) places → m ≡ stepsAsked (getD places 3 0) → {o : Outcome} {left : Planes} → Told f (givenBy l m shorts steps) (startsBy l shorts) p o left → Told f (givenAsked shorts steps places) (startsAsked shorts places) p o left
+unfolding givenAsked startsAsked
 told-so f shorts steps places p l m is-l is-m d = rw (is-l, is-m) at d
 
 pub ruleset settled = (needs, told-so)

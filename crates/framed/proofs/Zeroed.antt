@@ -1,7 +1,7 @@
 -- A frame deblocked over lists that are all zero, and luma asked for room over them. Assumes nothing.
 use mathlib.Core.Path.{_≡_, refl, sym, ap, _∙_}
 use mathlib.Core.Bool.{true}
-use mathlib.Core.List.{List}
+use mathlib.Core.List.{List, []}
 use Prim.Native.Nat.{ℕ, _/_}
 use Rattle.laws.specs.Choose.{pick}
 use borrow.Author.Needs.{needs}
@@ -13,20 +13,20 @@ use Rattle.rules.specs.declared.refusals.PlaneAnswer.{PlaneAnswer}
 use Rattle.rules.specs.declared.refusals.Refusal.the-variants.{Room}
 use Rattle.rules.specs.declared.refusals.Found.{Found}
 use Rattle.rules.specs.declared.refusals.Found.the-variants.{At, Nothing}
-use Rattle.rules.specs.Refusals.{found, onlyIf}
-use Rattle.rules.specs.Plane.{grid, noRoom}
+use Rattle.rules.specs.Refusals.{found, onlyIf, first}
+use Rattle.rules.specs.Plane.{tiled, badStart, tilesCheck, noRoom}
 use Rattle.rules.specs.Frame.{Planes, Grids, Given, Lent, grids, lent, lumaPlane, lumaTu, lumaQ, builtGrid}
 use Rattle.scan.proofs.Checks.{refused-not, found-nothing}
 use Rattle.frame.specs.Stated.{Stated}
 use Rattle.asked.specs.declared.places.Place.{Place}
 use Rattle.asked.specs.Places.{placeIn, ifFound}
-use Rattle.framed.specs.Deblocked.{zeros, deblocked, Deblocked, lumaGrid, roomPlace}
+use Rattle.framed.specs.Deblocked.{zeros, starts, deblocked, Deblocked, lumaGrid, roomPlace}
 
-module _ (f : Frame) (n : Given) (p : Planes) {a : PlaneAnswer} {left : Planes} {g : Grids} {lv lh lw lt lq cv ch cw ct cq : List ℕ} where
-  pub by-zeros : Stated f n (lent p (grids (grid lv lh lw lt lq) (grid cv ch cw ct cq))) a (lent left g)
+module _ (f : Frame) (n : Given) (p : Planes) {a : PlaneAnswer} {left : Planes} {g : Grids} {lv lh lw lt lq ls cv ch cw ct cq cs : List ℕ} where
+  pub by-zeros : Stated f n (lent p (grids (tiled lv lh lw lt lq ls) (tiled cv ch cw ct cq cs))) a (lent left g)
       → lv ≡ zeros → lh ≡ zeros → lw ≡ zeros → lt ≡ zeros → lq ≡ zeros
       → cv ≡ zeros → ch ≡ zeros → cw ≡ zeros → ct ≡ zeros → cq ≡ zeros
-      → Deblocked f n p a left
+      → Deblocked f n (starts ls cs) p a left
   unfolding deblocked
   by-zeros d e0 e1 e2 e3 e4 e5 e6 e7 e8 e9 =
       let w = rw (e0, e1, e2, e3, e4, e5, e6, e7, e8, e9) at d in
@@ -34,31 +34,36 @@ module _ (f : Frame) (n : Given) (p : Planes) {a : PlaneAnswer} {left : Planes} 
 
 -- ---- where an edge lacks room
 
+-- a list without a tile start is good
+pub one-tile : (cols : ℕ) → tilesCheck cols [] ≡ Accepted
+unfolding tilesCheck badStart first found
+one-tile cols = refl
+
 found-first : (m : Found) (a b : Place) {x : Refusal} → found m Room ≡ Refused x → a ≡ ifFound m a b
 unfolding found ifFound
 found-first (At j) a b e = refl
 found-first Nothing a b e = refused-not (sym e)
 
-module _ (f : Frame) (leaves skips sbq : List ℕ) where
+module _ (f : Frame) (leaves skips sbq ts : List ℕ) where
   -- luma's grid by lists that were all zero when it was built
   pub luma-room-is : {v h w t q v' h' w' t' q' : List ℕ} {r : Answer}
-      → ((p : List ℕ) → r ≡ onlyIf true (found (noRoom (lumaPlane f) (grid v' h' w' t' p)) Room))
-      → grid v' h' w' t' q' ≡ pick true (builtGrid (lumaTu f) (lumaQ f) leaves skips sbq (grid v h w t q)) (grid v h w t q)
+      → ((p : List ℕ) → r ≡ onlyIf true (found (noRoom (lumaPlane f) (tiled v' h' w' t' p ts)) Room))
+      → tiled v' h' w' t' q' ts ≡ pick true (builtGrid (lumaTu f) (lumaQ f) leaves skips sbq (tiled v h w t q ts)) (tiled v h w t q ts)
       → v ≡ zeros
       → h ≡ zeros
       → w ≡ zeros
       → t ≡ zeros
       → q ≡ zeros
-      → r ≡ found (noRoom (lumaPlane f) (lumaGrid f leaves skips sbq)) Room
+      → r ≡ found (noRoom (lumaPlane f) (lumaGrid f leaves skips sbq ts)) Room
   unfolding onlyIf pick lumaGrid
   luma-room-is {q' = q'} e is e0 e1 e2 e3 e4 = rw (rw (e0, e1, e2, e3, e4) at is) at (e q')
 
-  module _ (k : ℕ) {a : Answer} {r : Place} (is : a ≡ found (noRoom (lumaPlane f) (lumaGrid f leaves skips sbq)) Room) where
-    pub in-luma : {x : Refusal} → a ≡ Refused x → r ≡ placeIn 0 k (f .lumastride / 4) → r ≡ roomPlace f leaves skips sbq k
+  module _ (k : ℕ) {a : Answer} {r : Place} (is : a ≡ found (noRoom (lumaPlane f) (lumaGrid f leaves skips sbq ts)) Room) where
+    pub in-luma : {x : Refusal} → a ≡ Refused x → r ≡ placeIn 0 k (f .lumastride / 4) → r ≡ roomPlace f leaves skips sbq ts k
     unfolding roomPlace
-    in-luma e g = g ∙ found-first (noRoom (lumaPlane f) (lumaGrid f leaves skips sbq)) _ _ (sym is ∙ e)
+    in-luma e g = g ∙ found-first (noRoom (lumaPlane f) (lumaGrid f leaves skips sbq ts)) _ _ (sym is ∙ e)
 
-    pub in-chroma : a ≡ Accepted → r ≡ placeIn 3 k (f .chromastride / 4) → r ≡ roomPlace f leaves skips sbq k
+    pub in-chroma : a ≡ Accepted → r ≡ placeIn 3 k (f .chromastride / 4) → r ≡ roomPlace f leaves skips sbq ts k
     unfolding roomPlace ifFound
     in-chroma e g = rw (found-nothing _ Room (sym is ∙ e)) g
 

@@ -7,7 +7,7 @@ use Prim.Native.Nat.{ℕ, _/_}
 use lib.ListN.{length, replicate}
 use Rattle.rules.specs.declared.settings.Frame.{Frame}
 use Rattle.rules.specs.declared.refusals.PlaneAnswer.{PlaneAnswer}
-use Rattle.rules.specs.Plane.{Grid, grid, noRoom}
+use Rattle.rules.specs.Plane.{Grid, tiled, noRoom}
 use Rattle.rules.specs.Frame.{Planes, Given, Lent, Done, grids, lent, lumaPlane, lumaTu, lumaQ, builtGrid, frameOf, frameStored, frameChanged}
 use Rattle.frame_planes.specs.Fit.{Sampled, Buildable}
 use Rattle.asked.specs.declared.places.Place.{Place}
@@ -17,25 +17,34 @@ use Rattle.asked.specs.Places.{placeIn, ifFound}
 unfoldable pub zeros : List ℕ
 zeros = replicate 1048576 0
 
-abbrev pub zeroGrid : Grid
-zeroGrid = grid zeros zeros zeros zeros zeros
+-- luma's tile starts, and chroma's
+pub record Starts : Type 0 where
+  pub luma : List ℕ
+  pub chroma : List ℕ
 
-abbrev pub overZeros : Planes → Lent
-overZeros p = lent p (grids zeroGrid zeroGrid)
+abbrev pub starts : List ℕ → List ℕ → Starts
+starts luma chroma = record { luma = luma; chroma = chroma }
+
+-- by the tile starts of its plane
+abbrev pub zeroGrid : List ℕ → Grid
+zeroGrid ts = tiled zeros zeros zeros zeros zeros ts
+
+abbrev pub overZeros : Starts → Planes → Lent
+overZeros t p = lent p (grids (zeroGrid (t .luma)) (zeroGrid (t .chroma)))
 
 -- the frame's answer and lists by rules' frameOf
-unfoldable pub deblocked : Frame → Given → Planes → Done
-deblocked f n p = frameOf f n (overZeros p)
+unfoldable pub deblocked : Frame → Given → Starts → Planes → Done
+deblocked f n t p = frameOf f n (overZeros t p)
 
-pub record Deblocked (f : Frame) (n : Given) (lent : Planes) (a : PlaneAnswer) (left : Planes) : Type 0 where
-  pub answer : a .answer ≡ deblocked f n lent .answer
-  pub samples : left ≡ deblocked f n lent .lists .planes
-  pub stored : a .stored ≡ frameStored f n (overZeros lent)
-  pub changed : a .changed ≡ frameChanged f n (overZeros lent)
+pub record Deblocked (f : Frame) (n : Given) (t : Starts) (lent : Planes) (a : PlaneAnswer) (left : Planes) : Type 0 where
+  pub answer : a .answer ≡ deblocked f n t lent .answer
+  pub samples : left ≡ deblocked f n t lent .lists .planes
+  pub stored : a .stored ≡ frameStored f n (overZeros t lent)
+  pub changed : a .changed ≡ frameChanged f n (overZeros t lent)
 
--- luma's grid over zeros, from leaves, skip leaves and superblocks
-unfoldable pub lumaGrid : Frame → List ℕ → List ℕ → List ℕ → Grid
-lumaGrid f leaves skips sbq = builtGrid (lumaTu f) (lumaQ f) leaves skips sbq zeroGrid
+-- luma's grid over zeros, from leaves, skip leaves, superblocks and luma's tile starts
+unfoldable pub lumaGrid : Frame → List ℕ → List ℕ → List ℕ → List ℕ → Grid
+lumaGrid f leaves skips sbq ts = builtGrid (lumaTu f) (lumaQ f) leaves skips sbq (zeroGrid ts)
 
 -- what building it and asking it for room want
 pub record LumaFit (f : Frame) (leaves skips : List ℕ) (count : ℕ) : Type 0 where
@@ -44,6 +53,6 @@ pub record LumaFit (f : Frame) (leaves skips : List ℕ) (count : ℕ) : Type 0 
   pub built : Buildable f false leaves skips count (length zeros) (length zeros) (length zeros) (length zeros) (length zeros)
 
 -- cell k of luma where luma lacks room, else of chroma
-unfoldable pub roomPlace : Frame → List ℕ → List ℕ → List ℕ → ℕ → Place
-roomPlace f leaves skips sbq k =
-    ifFound (noRoom (lumaPlane f) (lumaGrid f leaves skips sbq)) (placeIn 0 k (f .lumastride / 4)) (placeIn 3 k (f .chromastride / 4))
+unfoldable pub roomPlace : Frame → List ℕ → List ℕ → List ℕ → List ℕ → ℕ → Place
+roomPlace f leaves skips sbq ts k =
+    ifFound (noRoom (lumaPlane f) (lumaGrid f leaves skips sbq ts)) (placeIn 0 k (f .lumastride / 4)) (placeIn 3 k (f .chromastride / 4))

@@ -14,14 +14,14 @@ use Rattle.asked.specs.declared.places.Place.{Place}
 use Rattle.asked.specs.declared.lists.Lists.{Lists}
 use Rattle.asked.specs.Lists.{listsAsked, stepsAsked}
 use Rattle.asked.specs.Places.{placeIn, samplePlace, leavesPlace}
-use Rattle.framed.specs.Deblocked.{Deblocked, roomPlace}
+use Rattle.framed.specs.Deblocked.{Starts, starts, Deblocked, roomPlace}
 use Rattle.framed.specs.declared.listed.Outcome.{Outcome}
 
 -- how long the short numbers, the steps and the places are at least
 pub record Listed (shorts steps places : ℕ) : Type 0 where
-  pub shorts-long : 4096 ≤ shorts
+  pub shorts-long : 6142 ≤ shorts
   pub steps-long : 352 ≤ steps
-  pub places-long : 7 ≤ places
+  pub places-long : 23 ≤ places
 
 -- the numbers from a place to another
 abbrev pub between : List ℕ → ℕ → ℕ → List ℕ
@@ -38,28 +38,35 @@ givenBy l n shorts steps =
 unfoldable pub givenAsked : List ℕ → List ℕ → List ℕ → Given
 givenAsked shorts steps places = givenBy (listsAsked (length shorts) places) (stepsAsked (getD places 3 0)) shorts steps
 
--- a sample, a cell, a leaf or a step; any other refusal is of the whole frame
-unfoldable pub refusalPlace : Frame → Given → Planes → Refusal → Place
-refusalPlace f n p Depth = placeIn 8 0 0
-refusalPlace f n p Size = placeIn 8 0 0
-refusalPlace f n p Length = placeIn 8 0 0
-refusalPlace f n p (Steps k) = placeIn 7 k 0
-refusalPlace f n p Setting = placeIn 8 0 0
-refusalPlace f n p (Cell k) = placeIn 8 0 0
-refusalPlace f n p (Room k) = roomPlace f (n .leaves) (n .skips) (n .sbq) k
-refusalPlace f n p (Sample k) = samplePlace f (p .y) (p .u) k
-refusalPlace f n p (Leaf k) = leavesPlace (n .leaves) (n .chromaLeaves) (n .skips) k
-refusalPlace f n p Buffer = placeIn 8 0 0
-refusalPlace f n p Header = placeIn 8 0 0
-refusalPlace f n p (Cut k) = placeIn 8 0 0
-refusalPlace f n p (Entry k) = placeIn 8 0 0
+-- the tile starts of luma and of chroma there
+abbrev pub startsBy : Lists → List ℕ → Starts
+startsBy l shorts = starts (between shorts (l .tiles) (l .tilesend)) (between shorts (l .chromatiles) (l .chromatilesend))
+
+unfoldable pub startsAsked : List ℕ → List ℕ → Starts
+startsAsked shorts places = startsBy (listsAsked (length shorts) places) shorts
+
+-- a sample, a cell, a leaf or a step; any other refusal is of the whole frame; ts are luma's tile starts
+unfoldable pub refusalPlace : Frame → Given → List ℕ → Planes → Refusal → Place
+refusalPlace f n ts p Depth = placeIn 8 0 0
+refusalPlace f n ts p Size = placeIn 8 0 0
+refusalPlace f n ts p Length = placeIn 8 0 0
+refusalPlace f n ts p (Steps k) = placeIn 7 k 0
+refusalPlace f n ts p Setting = placeIn 8 0 0
+refusalPlace f n ts p (Cell k) = placeIn 8 0 0
+refusalPlace f n ts p (Room k) = roomPlace f (n .leaves) (n .skips) (n .sbq) ts k
+refusalPlace f n ts p (Sample k) = samplePlace f (p .y) (p .u) k
+refusalPlace f n ts p (Leaf k) = leavesPlace (n .leaves) (n .chromaLeaves) (n .skips) k
+refusalPlace f n ts p Buffer = placeIn 8 0 0
+refusalPlace f n ts p Header = placeIn 8 0 0
+refusalPlace f n ts p (Cut k) = placeIn 8 0 0
+refusalPlace f n ts p (Entry k) = placeIn 8 0 0
 
 -- an accepted frame has no place but itself
-unfoldable pub answerPlace : Frame → Given → Planes → Answer → Place
-answerPlace f n p Accepted = placeIn 8 0 0
-answerPlace f n p (Refused r) = refusalPlace f n p r
+unfoldable pub answerPlace : Frame → Given → List ℕ → Planes → Answer → Place
+answerPlace f n ts p Accepted = placeIn 8 0 0
+answerPlace f n ts p (Refused r) = refusalPlace f n ts p r
 
 -- the answer with the counts, its place, and the planes afterwards
-pub record Told (f : Frame) (n : Given) (lent : Planes) (o : Outcome) (left : Planes) : Type 0 where
-  pub deblocked : Deblocked f n lent (record { answer = o .answer; stored = o .stored; changed = o .changed }) left
-  pub place : o .place ≡ answerPlace f n lent (o .answer)
+pub record Told (f : Frame) (n : Given) (t : Starts) (lent : Planes) (o : Outcome) (left : Planes) : Type 0 where
+  pub deblocked : Deblocked f n t lent (record { answer = o .answer; stored = o .stored; changed = o .changed }) left
+  pub place : o .place ≡ answerPlace f n (t .luma) lent (o .answer)

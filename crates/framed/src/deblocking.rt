@@ -1,7 +1,7 @@
 // A frame deblocked over grids of its own.
 ghost use mathlib.Core.Path.{_≡_};
 ghost use Rattle.rules.specs.Frame.{planes, given};
-ghost use Rattle.framed.specs.Deblocked.{zeros, Deblocked};
+ghost use Rattle.framed.specs.Deblocked.{zeros, starts, Deblocked};
 use frame::frame::deblock_frame;
 use rules::refusals::PlaneAnswer;
 use rules::settings::Frame;
@@ -30,9 +30,11 @@ pub fn deblock(
     leaves: &[u16],
     chromaleaves: &[u16],
     skips: &[u16],
+    tiles: &[u16],
+    chromatiles: &[u16],
     f: Frame,
 ) -> PlaneAnswer
-    ensures { λ a. ⌜ Deblocked f (given (now (steps .entry)) (now (sbq .entry)) (now (leaves .entry)) (now (chromaleaves .entry)) (now (skips .entry))) (planes (now (y .entry)) (now (u .entry)) (now (v .entry))) a (planes (now (y .exit)) (now (u .exit)) (now (v .exit))) ⌝ }
+    ensures { λ a. ⌜ Deblocked f (given (now (steps .entry)) (now (sbq .entry)) (now (leaves .entry)) (now (chromaleaves .entry)) (now (skips .entry))) (starts (now (tiles .entry)) (now (chromatiles .entry))) (planes (now (y .entry)) (now (u .entry)) (now (v .entry))) a (planes (now (y .exit)) (now (u .exit)) (now (v .exit))) ⌝ }
 {
     let mut lv = marks();
     let mut lh = marks();
@@ -63,6 +65,8 @@ pub fn deblock(
         leaves,
         chromaleaves,
         skips,
+        tiles,
+        chromatiles,
         f,
     )
 }

@@ -1,7 +1,8 @@
 // The frame by the settings' own lists: deblocked, and where it was refused.
 ghost use lib.ListN.{length};
 ghost use Rattle.rules.specs.Frame.{planes, given};
-ghost use Rattle.framed.specs.Framed.{Listed, givenAsked, Told};
+ghost use Rattle.framed.specs.Deblocked.{starts};
+ghost use Rattle.framed.specs.Framed.{Listed, givenAsked, startsAsked, Told};
 use crate::deblocking::deblock;
 use crate::places::place_of;
 use asked::lists::lists_of;
@@ -29,16 +30,30 @@ fn deblock_given(
     leaves: &[u16],
     chromaleaves: &[u16],
     skips: &[u16],
+    tiles: &[u16],
+    chromatiles: &[u16],
     f: Frame,
 ) -> Outcome
-    ensures { λ o. ⌜ Told f (given (now (steps .entry)) (now (sbq .entry)) (now (leaves .entry)) (now (chromaleaves .entry)) (now (skips .entry))) (planes (now (y .entry)) (now (u .entry)) (now (v .entry))) o (planes (now (y .exit)) (now (u .exit)) (now (v .exit))) ⌝ }
+    ensures { λ o. ⌜ Told f (given (now (steps .entry)) (now (sbq .entry)) (now (leaves .entry)) (now (chromaleaves .entry)) (now (skips .entry))) (starts (now (tiles .entry)) (now (chromatiles .entry))) (planes (now (y .entry)) (now (u .entry)) (now (v .entry))) o (planes (now (y .exit)) (now (u .exit)) (now (v .exit))) ⌝ }
 {
-    let a = deblock(y, u, v, steps, sbq, leaves, chromaleaves, skips, f);
+    let a = deblock(
+        y,
+        u,
+        v,
+        steps,
+        sbq,
+        leaves,
+        chromaleaves,
+        skips,
+        tiles,
+        chromatiles,
+        f,
+    );
     let answer = a.answer;
     if let Answer::Refused(r) = answer {
         return Outcome {
             answer: Answer::Refused(r),
-            place: place_of(r, y, u, sbq, leaves, chromaleaves, skips, f),
+            place: place_of(r, y, u, sbq, leaves, chromaleaves, skips, tiles, f),
             stored: a.stored,
             changed: a.changed,
         };
@@ -62,7 +77,7 @@ pub fn deblock_asked(
     f: Frame,
 ) -> Outcome
     requires { ⌜ Listed (length (now shorts)) (length (now steps)) (length (now places)) ⌝ }
-    ensures { λ o. ⌜ Told f (givenAsked (now (shorts .entry)) (now (steps .entry)) (now (places .entry))) (planes (now (y .entry)) (now (u .entry)) (now (v .entry))) o (planes (now (y .exit)) (now (u .exit)) (now (v .exit))) ⌝ }
+    ensures { λ o. ⌜ Told f (givenAsked (now (shorts .entry)) (now (steps .entry)) (now (places .entry))) (startsAsked (now (shorts .entry)) (now (places .entry))) (planes (now (y .entry)) (now (u .entry)) (now (v .entry))) o (planes (now (y .exit)) (now (u .exit)) (now (v .exit))) ⌝ }
 {
     let at = lists_of(places, shorts.len());
     let n = steps_of(places[3]);
@@ -73,6 +88,10 @@ pub fn deblock_asked(
     let d = at.chromaend;
     let e = at.skips;
     let g = at.skipsend;
+    let h = at.tiles;
+    let i = at.tilesend;
+    let j = at.chromatiles;
+    let k = at.chromatilesend;
     deblock_given(
         y,
         u,
@@ -82,6 +101,8 @@ pub fn deblock_asked(
         &shorts[a..b],
         &shorts[c..d],
         &shorts[e..g],
+        &shorts[h..i],
+        &shorts[j..k],
         f,
     )
 }

@@ -22,9 +22,9 @@ use rules::refusals::Refusal;
 use rules::settings::Frame;
 
 // Refusal 7 of luma alone, by a grid of its own.
-fn luma_room(leaves: &[u16], skips: &[u16], sbq: &[u16], f: Frame) -> Answer
+fn luma_room(leaves: &[u16], skips: &[u16], sbq: &[u16], tiles: &[u16], f: Frame) -> Answer
     requires { ⌜ LumaFit f (now leaves) (now skips) (length (now sbq)) ⌝ }
-    ensures { λ r. ⌜ r ≡ found (noRoom (lumaPlane f) (lumaGrid f (now (leaves .entry)) (now (skips .entry)) (now (sbq .entry)))) Room ⌝ }
+    ensures { λ r. ⌜ r ≡ found (noRoom (lumaPlane f) (lumaGrid f (now (leaves .entry)) (now (skips .entry)) (now (sbq .entry)) (now (tiles .entry)))) Room ⌝ }
 {
     let mut v = marks();
     let mut h = marks();
@@ -43,22 +43,22 @@ fn luma_room(leaves: &[u16], skips: &[u16], sbq: &[u16], f: Frame) -> Answer
         f,
         false,
     );
-    room(&v, &h, &w, &t, f, false)
+    room(&v, &h, &w, &t, tiles, f, false)
 }
 
 // Where an edge lacks room: in luma where luma lacks it, else in chroma.
-fn room_at(leaves: &[u16], skips: &[u16], sbq: &[u16], f: Frame, k: usize) -> Place
+fn room_at(leaves: &[u16], skips: &[u16], sbq: &[u16], tiles: &[u16], f: Frame, k: usize) -> Place
     requires { ⌜ LumaFit f (now leaves) (now skips) (length (now sbq)) ⌝ }
-    ensures { λ r. ⌜ r ≡ roomPlace f (now (leaves .entry)) (now (skips .entry)) (now (sbq .entry)) k ⌝ }
+    ensures { λ r. ⌜ r ≡ roomPlace f (now (leaves .entry)) (now (skips .entry)) (now (sbq .entry)) (now (tiles .entry)) k ⌝ }
 {
-    let a = luma_room(leaves, skips, sbq, f);
+    let a = luma_room(leaves, skips, sbq, tiles, f);
     if let Answer::Refused(_) = a {
         return at(0, k, f.lumastride / 4);
     }
     at(3, k, f.chromastride / 4)
 }
 
-// Where a frame was refused, whatever its steps and V.
+// Where a frame was refused, whatever its steps, V and chroma's tile starts.
 pub fn place_of(
     r: Refusal,
     y: &[u16],
@@ -67,14 +67,15 @@ pub fn place_of(
     leaves: &[u16],
     chromaleaves: &[u16],
     skips: &[u16],
+    tiles: &[u16],
     f: Frame,
 ) -> Place
     requires { ⌜ ((k : ℕ) → r ≡ Room k → LumaFit f (now leaves) (now skips) (length (now sbq))) ⌝ }
-    ensures { λ x. ⌜ ((s v : List ℕ) → x ≡ refusalPlace f (given s (now (sbq .entry)) (now (leaves .entry)) (now (chromaleaves .entry)) (now (skips .entry))) (planes (now (y .entry)) (now (u .entry)) v) r) ⌝ }
+    ensures { λ x. ⌜ ((s v : List ℕ) → x ≡ refusalPlace f (given s (now (sbq .entry)) (now (leaves .entry)) (now (chromaleaves .entry)) (now (skips .entry))) (now (tiles .entry)) (planes (now (y .entry)) (now (u .entry)) v) r) ⌝ }
 {
     match r {
         Refusal::Sample(k) => sample_place(y, u, k, f),
-        Refusal::Room(k) => room_at(leaves, skips, sbq, f, k),
+        Refusal::Room(k) => room_at(leaves, skips, sbq, tiles, f, k),
         Refusal::Leaf(k) => leaves_place(leaves, chromaleaves, skips, k),
         Refusal::Steps(k) => at(7, k, 0),
         Refusal::Depth => at(8, 0, 0),

@@ -1,15 +1,16 @@
 -- What the checks of a plane give: the statement at each way out, and all that an accepted plane's run asks.
 -- Assumes nothing.
-use mathlib.Core.Path.{_≡_, sym, ap, _∙_}
+use mathlib.Core.Path.{_≡_, refl, sym, ap, _∙_}
 use mathlib.Core.Bool.{Bool, true, false, not}
 use mathlib.Core.List.{List, []}
-use Prim.Native.Nat.{ℕ, _+_, _*_, _/_, _%_, _≤_, min}
+use Prim.Native.Nat.{ℕ, _+_, _*_, _-_, _/_, _%_, _≤_, _<_, min}
 use native.Mathlib.Omega.{arith}
 use borrow.Author.Needs.{needs}
 use borrow.Author.Tests.{leb-true}
+use lib.Dec.{eqb, ltb}
 use lib.IntN.{ℤ}
 use lib.ListN.{length, getD}
-use Rattle.laws.specs.Choose.{pick, told-yes-not, all-parts, both-parts}
+use Rattle.laws.specs.Choose.{pick, pick-yes, pick-no, is-lt, not-lt, told-yes-not, all-parts, both-parts}
 use Rattle.rules.specs.declared.settings.Plane.{Plane}
 use Rattle.rules.specs.declared.refusals.Refusal.{Refusal}
 use Rattle.rules.specs.declared.refusals.Refusal.the-variants.{Depth, Size, Length, Setting, Cell, Room}
@@ -19,16 +20,18 @@ use Rattle.rules.specs.declared.refusals.Found.{Found}
 use Rattle.rules.specs.declared.refusals.Found.the-variants.{Nothing}
 use Rattle.rules.specs.Numbers.{depthOk}
 use Rattle.rules.specs.Thresholds.{stepsCheck, deltasCheck, quantOf, stepOf, sideOf, indexOf}
-use Rattle.rules.specs.Plane.{Grid, grid, cellGood, edgesOf, marksOf, indicesOf, indexAt, isEdge, edgeRoom, lacksRoom, lacksRow, lacksDir, badCell, noRoom, planeSizesOk, planeLengthsOk, planeCheck, planeAfter, planeStored, planeChanged, runPlane, runStored, runChanged}
+use Rattle.rules.specs.Plane.{Grid, grid, tiled, startsTile, shortenedAt, cellGood, edgesOf, marksOf, indicesOf, indexAt, isEdge, edgeRoom, lacksRoom, lacksRow, lacksDir, badCell, noRoom, planeSizesOk, planeLengthsOk, planeCheck, planeAfter, planeStored, planeChanged, runPlane, runStored, runChanged}
 use Rattle.thresholds.specs.ByQindex.{packedOf, ByQindex}
 use Rattle.thresholds.proofs.Quants.{q-most}
 use Rattle.thresholds.proofs.Sides.{side-most}
-use Rattle.scan.proofs.First.{sooner-nothing}
+use Rattle.scan.proofs.First.{sooner-nothing, nothing-all, unless-nothing}
 use Rattle.scan.proofs.Checks.{else-parts, unless-true, found-nothing, settle-refused, settle-accepted}
-use Rattle.cells.specs.Fit.{Sizes, Long, Ready, badOf, oneWay}
+use Rattle.cells.specs.Fit.{Sizes, Long, Ready, Cell as Inside, badOf, oneWay, marked, shortBy, roomOf}
 use Rattle.cells.proofs.Accepted.{sizes, sizes-by}
 use Rattle.cells.proofs.Marks.{none-good}
-use Rattle.plane.specs.Run.{Table, Levels, Field, none, state, Ran}
+use Rattle.cells.proofs.Reach.{edge-room-is}
+use Rattle.plane.proofs.Edges.{short-is}
+use Rattle.plane.specs.Run.{tableAt, IsTable, startBy, Table, Levels, Field, none, state, Ran}
 use Rattle.plane.specs.Checked.{Sized, Checked, Filtered, Noted, Stated}
 use Rattle.plane.specs.declared.visited.Visited.{Visited}
 
@@ -55,9 +58,10 @@ lengths s g n e =
     }
 
 -- as the code's tests found them
-pub sized-by : {s : Plane} {n : ℕ} (v h w t q : List ℕ) {a b c : Bool} → a ≡ depthOk (s .depth) → not a ≡ false → b ≡ planeSizesOk s → not b ≡ false → c ≡ planeLengthsOk s (grid v h w t q) n → not c ≡ false → Sized s n (length v) (length h) (length w) (length t)
-sized-by {s} {n} v h w t q {a} {b} {c} d d' e e' f f' =
-    let l = lengths s (grid v h w t q) n (sym (told-yes-not _ c f f')) in
+pub sized-by : {s : Plane} {n : ℕ} (v h w t q ts : List ℕ) {a b c : Bool} → a ≡ depthOk (s .depth) → not a ≡ false → b ≡ planeSizesOk s → not b ≡ false → c ≡ planeLengthsOk s (tiled v h w t q ts) n → not c ≡ false
+    → Sized s n (length v) (length h) (length w) (length t)
+sized-by {s} {n} v h w t q ts {a} {b} {c} d d' e e' f f' =
+    let l = lengths s (tiled v h w t q ts) n (sym (told-yes-not _ c f f')) in
     record { depth = sym (told-yes-not _ a d d'); sizes-ok = sizes-by s b e e'; plane-long = l .samples; lists-long = l .lists }
 
 -- ---- cells without a bad number
@@ -77,13 +81,13 @@ module _ {s : Plane} (v h w t : List ℕ) (z : Sizes s) (l : Long (s .rows * s .
     indices = record { long = l .sqh; small = record { each-one = λ k b. none-good _ (grid v h w t []) none k b .1 } };
   }
 
-bad-none : (s : Plane) (v h w t q : List ℕ) → badCell s (grid v h w t q) ≡ Nothing → badOf (s .rows * s .cols) (grid v h w t []) ≡ Nothing
+bad-none : (s : Plane) (v h w t q ts : List ℕ) → badCell s (tiled v h w t q ts) ≡ Nothing → badOf (s .rows * s .cols) (grid v h w t []) ≡ Nothing
 unfolding badCell badOf cellGood
-bad-none s v h w t q e = e
+bad-none s v h w t q ts e = e
 
-pub readies-by : {s : Plane} {n : ℕ} (v h w t : List ℕ) {f : Found} → Sized s n (length v) (length h) (length w) (length t) → ((q : List ℕ) → f ≡ badCell s (grid v h w t q)) → f ≡ Nothing → Ready s v w × Ready s h t
+pub readies-by : {s : Plane} {n : ℕ} (v h w t : List ℕ) {f : Found} → Sized s n (length v) (length h) (length w) (length t) → ((q ts : List ℕ) → f ≡ badCell s (tiled v h w t q ts)) → f ≡ Nothing → Ready s v w × Ready s h t
 readies-by {s} v h w t z e g =
-    let none = bad-none s v h w t [] (sym (e []) ∙ g) in
+    let none = bad-none s v h w t [] [] (sym (e [] []) ∙ g) in
     (ready-vert v h w t (z .sizes-ok) (z .lists-long) none, ready-horz v h w t (z .sizes-ok) (z .lists-long) none)
 
 -- ---- an accepted plane
@@ -98,6 +102,7 @@ checked s steps g l e =
     let p5 = else-parts _ _ (p4 .1) in
     let p6 = else-parts _ _ (p5 .1) in
     let p7 = else-parts _ _ (p6 .1) in
+    let p8 = else-parts _ _ (p7 .1) in
     let deltas = both-parts _ _ (unless-true _ Setting (p5 .0)) in
     record {
       depth = unless-true _ Depth (p1 .0);
@@ -106,8 +111,9 @@ checked s steps g l e =
       steps-ok = p4 .0;
       deltaq-ok = deltas .0;
       deltaside-ok = deltas .1;
-      cells = found-nothing _ Cell (p6 .0);
-      room = found-nothing _ Room (p7 .0);
+      tiles-ok = p6 .0;
+      cells = found-nothing _ Cell (p7 .0);
+      room = found-nothing _ Room (p8 .0);
     }
 
 -- ---- the run
@@ -125,46 +131,84 @@ levels d steps t {deltaq} {deltaside} deep good by = record { q-most = λ k h. o
         let side = side-most d (indexOf k deltaside) deep in
         (omega arith, omega arith)
 
-module _ {s : Plane} {steps : List ℕ} (v h w t q : List ℕ) {n : ℕ} {table : List ℕ} (k : Checked s steps (grid v h w t q) n) (by : ByQindex (s .depth) steps (s .deltaq) (s .deltaside) table) where
-  no-lack : (lacksDir s (oneWay v w []) 0 ≡ Nothing) × (lacksDir s (oneWay h t []) 1 ≡ Nothing)
-  unfolding noRoom lacksDir lacksRow lacksRoom isEdge marksOf edgeRoom indexAt indicesOf pick
+is-one-by : (b : Bool) → eqb (pick b 1 0) 1 ≡ b
+unfolding pick
+is-one-by true = refl
+is-one-by false = refl
+
+-- the thresholds and the tile starts of a table that was made of them
+module _ {levels ts t : List ℕ} (is : IsTable levels ts t) where
+  pub by-table : {d : ℕ} {steps : List ℕ} {deltaq deltaside : ℤ} → ByQindex d steps deltaq deltaside levels → ByQindex d steps deltaq deltaside t
+  unfolding tableAt
+  by-table by = record {
+    at = λ k.
+        let h : min k 1415 < 1416 = omega arith in
+        is .at (min k 1415) (omega arith) ∙ sym (pick-yes (ltb (min k 1415) 1416) _ _ _ (is-lt (min k 1415) 1416 h) refl) ∙ by .at k;
+  }
+
+  pub starts-table : (c : ℕ) → c < 1024 → startBy t c ≡ startsTile ts (length ts) c
+  unfolding tableAt
+  starts-table c h =
+      let e : 1416 + c - 1416 ≡ c = omega arith in
+      let made = is .at (1416 + c) (omega arith) ∙ sym (pick-no (ltb (1416 + c) 1416) _ _ _ (not-lt (1416 + c) 1416 (omega arith)) refl) in
+      ap (λ (n : ℕ). eqb n 1) (rw e at made) ∙ is-one-by (startsTile ts (length ts) c)
+
+-- a marked edge has room, where none lacks it
+module _ (s : Plane) (m z ts : List ℕ) (dir r c : ℕ) (clear : lacksDir s (oneWay m z [] ts) dir ≡ Nothing) (at : Inside s r c) where
+  edge-clear : isEdge s (marked m) dir r c ≡ true → edgeRoom s (oneWay m z [] ts) dir r c ≡ true
+  unfolding lacksDir lacksRow lacksRoom isEdge marksOf
+  edge-clear edge =
+      let row = nothing-all (λ y. lacksRow s (oneWay m z [] ts) dir y) (s .rows) clear r (at .in-rows) in
+      let one = nothing-all (λ x. lacksRoom s (oneWay m z [] ts) dir r x) (s .cols) row c (at .in-cols) in
+      pick-yes (isEdge s (oneWay m z [] ts) dir r c) (edgeRoom s (oneWay m z [] ts) dir r c) true _ (sym edge) refl ∙ unless-nothing _ _ one
+
+  clear-room : {steps t : List ℕ} → Table s steps ts t → isEdge s (marked m) dir r c ≡ true → roomOf s z (shortBy s (startBy t c) dir r) dir r c ≡ true
+  clear-room of edge =
+      ap (λ (b : Bool). roomOf s z b dir r c) (short-is of [] [] [] dir r c (at .in-cols))
+      ∙ edge-room-is s m z [] ts dir r c
+      ∙ edge-clear edge
+
+module _ {s : Plane} {steps : List ℕ} (v h w t q ts : List ℕ) {n : ℕ} {table low : List ℕ} (k : Checked s steps (tiled v h w t q ts) n) (by : ByQindex (s .depth) steps (s .deltaq) (s .deltaside) low) (made : IsTable low ts table) where
+  no-lack : (lacksDir s (oneWay v w [] ts) 0 ≡ Nothing) × (lacksDir s (oneWay h t [] ts) 1 ≡ Nothing)
+  unfolding noRoom lacksDir lacksRow lacksRoom isEdge marksOf edgeRoom indexAt indicesOf shortenedAt pick
   no-lack = sooner-nothing _ _ (k .room)
+
+  pub of-table : Table s steps ts table
+  of-table = record { entries = by-table made by; accepted = k .steps-ok; starts = λ c l. starts-table made c (omega (arith, l, k .sizes-ok .cols-most)) }
 
   pub field-vert : Field s v w q table n 0
   field-vert =
-      let l = lengths s (grid v h w t q) n (k .lengths) in
+      let l = lengths s (tiled v h w t q ts) n (k .lengths) in
       record {
-        ready = ready-vert v h w t (k .sizes-ok) (l .lists) (bad-none s v h w t q (k .cells));
+        ready = ready-vert v h w t (k .sizes-ok) (l .lists) (bad-none s v h w t q ts (k .cells));
         depth = k .depth;
         qindex-long = l .qindex;
         plane-long = l .samples;
-        levels = levels (s .depth) steps table (k .depth) (k .steps-ok) by;
-        room = no-lack .0;
+        levels = levels (s .depth) steps table (k .depth) (k .steps-ok) (by-table made by);
+        room = λ r c at edge. clear-room s v w ts 0 r c (no-lack .0) at of-table edge;
       }
 
   pub field-horz : Field s h t q table n 1
   field-horz =
-      let l = lengths s (grid v h w t q) n (k .lengths) in
+      let l = lengths s (tiled v h w t q ts) n (k .lengths) in
       record {
-        ready = ready-horz v h w t (k .sizes-ok) (l .lists) (bad-none s v h w t q (k .cells));
+        ready = ready-horz v h w t (k .sizes-ok) (l .lists) (bad-none s v h w t q ts (k .cells));
         depth = k .depth;
         qindex-long = l .qindex;
         plane-long = l .samples;
-        levels = levels (s .depth) steps table (k .depth) (k .steps-ok) by;
-        room = no-lack .1;
+        levels = levels (s .depth) steps table (k .depth) (k .steps-ok) (by-table made by);
+        room = λ r c at edge. clear-room s h t ts 1 r c (no-lack .1) at of-table edge;
       }
 
-  pub ran-plane : (a b : List ℕ) {x : Visited} {m c : List ℕ} → Ran s table (λ st. edgesOf s st (grid v h w t q)) (state a b none) (state m c x) → Noted s steps (grid v h w t q) a b x m c
+  pub ran-plane : (a b : List ℕ) {x : Visited} {m c : List ℕ} → Ran s table (λ st us. edgesOf s st (tiled v h w t q us)) (state a b none) (state m c x) → Noted s steps (tiled v h w t q ts) a b x m c
   unfolding runPlane runStored runChanged
-  ran-plane a b r =
-      let of : Table s steps table = record { entries = by; accepted = k .steps-ok } in
-      record {
-        plane = r .is steps of;
-        buffer = r .notes steps of;
-        visited = r .visited steps;
-        stored = omega (arith, r .stored steps of);
-        changed = omega (arith, r .changed steps of);
-      }
+  ran-plane a b r = record {
+    plane = r .is steps ts of-table;
+    buffer = r .notes steps ts of-table;
+    visited = r .visited steps ts;
+    stored = omega (arith, r .stored steps ts of-table);
+    changed = omega (arith, r .changed steps ts of-table);
+  }
 
 -- ---- the entry
 

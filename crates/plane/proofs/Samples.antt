@@ -31,7 +31,7 @@ run-length top stride (e ∷ es) l = run-length top stride es (segmentOf top str
 pub samples-stay : (s : Plane) (steps : List ℕ) (g : Grid) (l : List ℕ) → planeCheck s steps g l ≡ Accepted → (x y : ℕ) → x < 4 * s .cols → y < 4 * s .rows → getD (runPlane s steps g l) (y * s .stride + x) 0 ≤ topOf (s .depth)
 unfolding runPlane planeCheck overPlane overBox overRow
 samples-stay s steps g l e x y hx hy =
-    let last = else-parts _ _ (else-parts _ _ (else-parts _ _ (else-parts _ _ (else-parts _ _ (else-parts _ _ (else-parts _ _ e .1) .1) .1) .1) .1) .1) .1 in
+    let last = else-parts _ _ (else-parts _ _ (else-parts _ _ (else-parts _ _ (else-parts _ _ (else-parts _ _ (else-parts _ _ (else-parts _ _ e .1) .1) .1) .1) .1) .1) .1) .1 in
     let none = found-nothing _ Sample last in
     let row = nothing-all (λ j. overRow (topOf (s .depth)) l (0 + j * s .stride) (4 * s .cols)) (4 * s .rows) none y hy in
     let same : 0 + y * s .stride + x ≡ y * s .stride + x = omega arith in

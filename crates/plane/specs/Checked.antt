@@ -14,7 +14,7 @@ use Rattle.rules.specs.declared.refusals.Found.the-variants.{Nothing}
 use Rattle.rules.specs.Numbers.{depthOk, deltaOk}
 use Rattle.rules.specs.Refusals.{orElse, found}
 use Rattle.rules.specs.Thresholds.{stepsCheck}
-use Rattle.rules.specs.Plane.{Grid, badCell, noRoom, overPlane, planeLengthsOk, edgesOf, runPlane, runStored, runChanged, planeCheck, planeAfter, planeStored, planeChanged}
+use Rattle.rules.specs.Plane.{Grid, tilesCheck, badCell, noRoom, overPlane, planeLengthsOk, edgesOf, runPlane, runStored, runChanged, planeCheck, planeAfter, planeStored, planeChanged}
 use Rattle.cells.specs.Fit.{Sizes, Long}
 use Rattle.records.specs.Noted.{noted}
 use Rattle.plane.specs.declared.visited.Visited.{Visited}
@@ -38,6 +38,7 @@ pub record Checked (s : Plane) (steps : List ℕ) (g : Grid) (size : ℕ) : Type
   pub steps-ok : stepsCheck steps ≡ Accepted
   pub deltaq-ok : deltaOk (s .deltaq) ≡ true
   pub deltaside-ok : deltaOk (s .deltaside) ≡ true
+  pub tiles-ok : tilesCheck (s .cols) (g .tiles) ≡ Accepted
   pub cells : badCell s g ≡ Nothing
   pub room : noRoom s g ≡ Nothing
 

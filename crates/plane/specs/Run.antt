@@ -1,16 +1,15 @@
 -- What the functions of a plane's run ask of their lists, and what each makes of the plane.
 -- Assumes nothing.
 use mathlib.Core.Path.{_≡_}
-use mathlib.Core.Bool.{true}
+use mathlib.Core.Bool.{Bool, true}
 use mathlib.Core.List.{List, []}
-use Prim.Native.Nat.{ℕ, _+_, _*_, _/_, _%_, _≤_, _<_}
-use lib.Dec.{eqb}
+use Prim.Native.Nat.{ℕ, _+_, _*_, _-_, _/_, _%_, _≤_, _<_}
+use lib.Dec.{eqb, ltb}
 use lib.ListN.{length, getD}
 use Rattle.laws.specs.Choose.{pick}
 use Rattle.laws.specs.Loops.{each}
 use Rattle.rules.specs.declared.edge.Edge.{Edge}
 use Rattle.rules.specs.declared.settings.Plane.{Plane}
-use Rattle.rules.specs.declared.refusals.Found.the-variants.{Nothing}
 use Rattle.rules.specs.Numbers.{depthOk, topOf}
 use Rattle.rules.specs.Lengths.{pairOf}
 use Rattle.rules.specs.declared.refusals.Answer.the-variants.{Accepted}
@@ -18,18 +17,30 @@ use Rattle.rules.specs.Thresholds.{stepsCheck}
 use Rattle.thresholds.specs.ByQindex.{ByQindex}
 use Rattle.rules.specs.Segment.{runEdges}
 use Rattle.rules.specs.Counts.{storedBy, changedBy}
-use Rattle.rules.specs.Plane.{Grid, indexAt, shortenedAt, edgeAt, visitOf, sweepOf, startOf, countOf, lacksDir}
-use Rattle.cells.specs.Fit.{Ready, oneWay}
+use Rattle.rules.specs.Plane.{Grid, indexAt, startsTile, edgeAt, isEdge, visitOf, sweepOf, startOf, countOf}
+use Rattle.cells.specs.Fit.{Ready, Cell, oneWay, sized, marked, shortBy, roomOf}
 use Rattle.records.specs.Noted.{noted}
 use Rattle.plane.specs.declared.part.Part.{Part}
 use Rattle.plane.specs.declared.visited.Visited.{Visited}
 
--- ---- thresholds by qindex, made once a plane
+-- ---- a table that is made once a plane
 
--- a table of both thresholds of a block, for a plane's depth and deltas and an accepted step table
-pub record Table (s : Plane) (steps t : List ℕ) : Type 0 where
+-- its k-th number: both thresholds of the qindex k, and from 1416 on a 1 for each column that starts a tile
+unfoldable pub tableAt : List ℕ → List ℕ → ℕ → ℕ
+tableAt levels ts k = pick (ltb k 1416) (getD levels k 0) (pick (startsTile ts (length ts) (k - 1416)) 1 0)
+
+pub record IsTable (levels ts t : List ℕ) : Type 0 where
+  pub at : (k : ℕ) → k < 2440 → getD t k 0 ≡ tableAt levels ts k
+
+-- whether a column starts a tile, by the table
+abbrev pub startBy : List ℕ → ℕ → Bool
+startBy t c = eqb (getD t (1416 + c) 0) 1
+
+-- a table for a plane's depth and deltas, an accepted step table, and a list of tile starts
+pub record Table (s : Plane) (steps ts t : List ℕ) : Type 0 where
   pub entries : ByQindex (s .depth) steps (s .deltaq) (s .deltaside) t
   pub accepted : stepsCheck steps ≡ Accepted
+  pub starts : (c : ℕ) → c < s .cols → startBy t c ≡ startsTile ts (length ts) c
 
 -- no threshold of it is too large
 pub record Levels (t : List ℕ) : Type 0 where
@@ -38,13 +49,13 @@ pub record Levels (t : List ℕ) : Type 0 where
 
 -- ---- an edge, and a run
 
--- the edge of a cell, by any steps that the table was made of
-pub record IsEdgeAt (s : Plane) (t : List ℕ) (g : Grid) (dir r c : ℕ) (e : Edge) : Type 0 where
-  pub is : (steps : List ℕ) → Table s steps t → e ≡ edgeAt s steps g dir r c
+-- the edge of a cell, by any steps and tile starts that the table was made of
+pub record IsEdgeAt (s : Plane) (t sizes qindex : List ℕ) (dir r c : ℕ) (e : Edge) : Type 0 where
+  pub is : (steps ts : List ℕ) → Table s steps ts t → e ≡ edgeAt s steps (oneWay [] sizes qindex ts) dir r c
   pub x-is : e .x ≡ c * 4
   pub y-is : e .y ≡ r * 4
   pub dir-is : e .dir ≡ dir
-  pub pair-is : e .pair ≡ pairOf (indexAt s g dir r c) (s .chroma) (shortenedAt s dir r)
+  pub pair-is : e .pair ≡ pairOf (indexAt s (sized sizes) dir r c) (s .chroma) (shortBy s (startBy t c) dir r)
   pub q-most : e .q ≤ 2048
   pub side-most : e .side ≤ 839
 
@@ -73,16 +84,16 @@ pub record Few (n : ℕ) (d e : Visited) : Type 0 where
   pub stored-few : e .stored ≤ d .stored + 64 * n
   pub changed-few : e .changed ≤ d .changed + 64 * n
 
--- a run of a list of edges, by any steps that the table was made of, from x to y: each edge is noted, filtered and counted
-pub record Ran (s : Plane) (t : List ℕ) (edges : List ℕ → List Edge) (x y : State) : Type 0 where
-  pub is : (steps : List ℕ) → Table s steps t → y .plane ≡ runEdges (topOf (s .depth)) (s .stride) (edges steps) (x .plane)
-  pub notes : (steps : List ℕ) → Table s steps t → y .buffer ≡ noted (x .done .bytes) (edges steps) (x .buffer)
-  pub visited : (steps : List ℕ) → y .done .bytes ≡ x .done .bytes + 10 * length (edges steps)
-  pub stored : (steps : List ℕ) → Table s steps t → y .done .stored ≡ x .done .stored + storedBy (topOf (s .depth)) (s .stride) (edges steps) (x .plane)
-  pub changed : (steps : List ℕ) → Table s steps t → y .done .changed ≡ x .done .changed + changedBy (topOf (s .depth)) (s .stride) (edges steps) (x .plane)
+-- a run of a list of edges, by any steps and tile starts that the table was made of, from x to y: each edge is noted, filtered and counted
+pub record Ran (s : Plane) (t : List ℕ) (edges : List ℕ → List ℕ → List Edge) (x y : State) : Type 0 where
+  pub is : (steps ts : List ℕ) → Table s steps ts t → y .plane ≡ runEdges (topOf (s .depth)) (s .stride) (edges steps ts) (x .plane)
+  pub notes : (steps ts : List ℕ) → Table s steps ts t → y .buffer ≡ noted (x .done .bytes) (edges steps ts) (x .buffer)
+  pub visited : (steps ts : List ℕ) → y .done .bytes ≡ x .done .bytes + 10 * length (edges steps ts)
+  pub stored : (steps ts : List ℕ) → Table s steps ts t → y .done .stored ≡ x .done .stored + storedBy (topOf (s .depth)) (s .stride) (edges steps ts) (x .plane)
+  pub changed : (steps ts : List ℕ) → Table s steps ts t → y .done .changed ≡ x .done .changed + changedBy (topOf (s .depth)) (s .stride) (edges steps ts) (x .plane)
 
 -- the same of at most n edges
-pub record RanFew (s : Plane) (t : List ℕ) (n : ℕ) (edges : List ℕ → List Edge) (x y : State) : Type 0 where
+pub record RanFew (s : Plane) (t : List ℕ) (n : ℕ) (edges : List ℕ → List ℕ → List Edge) (x y : State) : Type 0 where
   pub ran : Ran s t edges x y
   pub few : Few n (x .done) (y .done)
 
@@ -120,4 +131,4 @@ pub record Field (s : Plane) (marks sizes qindex t : List ℕ) (size dir : ℕ) 
   pub qindex-long : s .rows * s .cols ≤ length qindex
   pub plane-long : 4 * s .rows * s .stride ≤ size
   pub levels : Levels t
-  pub room : lacksDir s (oneWay marks sizes []) dir ≡ Nothing
+  pub room : (r c : ℕ) → Cell s r c → isEdge s (marked marks) dir r c ≡ true → roomOf s sizes (shortBy s (startBy t c) dir r) dir r c ≡ true

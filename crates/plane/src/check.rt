@@ -1,9 +1,10 @@
-// Document 01's checks 1 to 8 of a plane, in their order.
+// Document 01's checks 1 to 8 of a plane, in their order, with document 02's check of the tile starts.
 use cells::grid::bad_cell;
 use cells::room::no_room;
 use cells::samples::over_plane;
 use cells::sizes::lengths_ok;
 use cells::sizes::sizes_ok;
+use cells::starts::tiles_check;
 use rules::depth::Depth;
 use rules::refusals::Answer;
 use rules::refusals::Found;
@@ -15,19 +16,27 @@ ghost use mathlib.Core.Path.{_≡_};
 ghost use mathlib.Core.List.{List};
 ghost use Prim.Native.Nat.{ℕ};
 ghost use lib.ListN.{length};
-ghost use Rattle.rules.specs.Plane.{grid, planeCheck};
+ghost use Rattle.rules.specs.Plane.{tiled, planeCheck};
 ghost use Rattle.plane.specs.Checked.{Sized, gridCheck};
 
 // The checks of what the lists hold, 6, 7 and 8, whatever the qindex.
-fn grid_check(plane: &[u16], vedge: &[u8], hedge: &[u8], sqw: &[u8], sqh: &[u8], s: Plane) -> Answer
+fn grid_check(
+    plane: &[u16],
+    vedge: &[u8],
+    hedge: &[u8],
+    sqw: &[u8],
+    sqh: &[u8],
+    tiles: &[u16],
+    s: Plane,
+) -> Answer
     requires { ⌜ Sized s (length (now plane)) (length (now vedge)) (length (now hedge)) (length (now sqw)) (length (now sqh)) ⌝ }
-    ensures { λ a. ⌜ ((q : List ℕ) → a ≡ gridCheck s (grid (now (vedge .entry)) (now (hedge .entry)) (now (sqw .entry)) (now (sqh .entry)) q) (now (plane .entry))) ⌝ }
+    ensures { λ a. ⌜ ((q : List ℕ) → a ≡ gridCheck s (tiled (now (vedge .entry)) (now (hedge .entry)) (now (sqw .entry)) (now (sqh .entry)) q (now (tiles .entry))) (now (plane .entry))) ⌝ }
 {
     let bad = bad_cell(vedge, hedge, sqw, sqh, s);
     if let Found::At(k) = bad {
         return Answer::Refused(Refusal::Cell(k));
     }
-    let narrow = no_room(vedge, hedge, sqw, sqh, s);
+    let narrow = no_room(vedge, hedge, sqw, sqh, tiles, s);
     if let Found::At(k) = narrow {
         return Answer::Refused(Refusal::Room(k));
     }
@@ -46,10 +55,11 @@ pub fn plane_check(
     sqw: &[u8],
     sqh: &[u8],
     qindex: &[u16],
+    tiles: &[u16],
     steps: &[u32],
     s: Plane,
 ) -> Answer
-    ensures { λ a. ⌜ a ≡ planeCheck s (now (steps .entry)) (grid (now (vedge .entry)) (now (hedge .entry)) (now (sqw .entry)) (now (sqh .entry)) (now (qindex .entry))) (now (plane .entry)) ⌝ }
+    ensures { λ a. ⌜ a ≡ planeCheck s (now (steps .entry)) (tiled (now (vedge .entry)) (now (hedge .entry)) (now (sqw .entry)) (now (sqh .entry)) (now (qindex .entry)) (now (tiles .entry))) (now (plane .entry)) ⌝ }
 {
     if !Depth::is(s.depth) {
         return Answer::Refused(Refusal::Depth);
@@ -68,5 +78,9 @@ pub fn plane_check(
     if let Answer::Refused(r) = deltas {
         return Answer::Refused(r);
     }
-    grid_check(plane, vedge, hedge, sqw, sqh, s)
+    let starts = tiles_check(tiles, s.cols);
+    if let Answer::Refused(r) = starts {
+        return Answer::Refused(r);
+    }
+    grid_check(plane, vedge, hedge, sqw, sqh, tiles, s)
 }

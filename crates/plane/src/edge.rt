@@ -1,35 +1,33 @@
-// The edge of a cell: its place, its pair of lengths, and its thresholds from a table by qindex.
+// The edge of a cell: its place, its pair of lengths, and its thresholds from the plane's table.
+use crate::table::entry;
 use cells::pair::cell_before;
 use cells::pair::cell_of;
 use cells::pair::pair_at;
 use rules::edge::Edge;
 use rules::settings::Plane;
-use thresholds::by_qindex::entry;
 use thresholds::by_qindex::q_of;
 use thresholds::by_qindex::side_of;
 ghost use mathlib.Core.Path.{_≡_};
-ghost use mathlib.Core.List.{[]};
 ghost use Prim.Native.Nat.{_*_, _≤_};
 ghost use lib.ListN.{length};
 ghost use mathlib.Core.Bool.{true};
 ghost use Rattle.rules.specs.Numbers.{depthOk};
-ghost use Rattle.rules.specs.Plane.{shortenedAt};
-ghost use Rattle.cells.specs.Fit.{Sizes, Inner, Indices, oneWay};
-ghost use Rattle.plane.specs.Run.{Levels, IsEdgeAt};
+ghost use Rattle.cells.specs.Fit.{Sizes, Inner, Indices, shortBy};
+ghost use Rattle.plane.specs.Run.{Levels, startBy, IsEdgeAt};
 
 // The edge of a cell that has one.
 pub fn edge_at(
     sizes: &[u8],
     qindex: &[u16],
-    table: &[u32; 1416],
+    table: &[u32; 2440],
     s: Plane,
     shortened: bool,
     dir: usize,
     r: usize,
     c: usize,
 ) -> Edge
-    requires { ⌜ Sizes s × Inner s dir r c × Indices s (now sizes) × (s .rows * s .cols ≤ length (now qindex)) × Levels (now table) × (depthOk (s .depth) ≡ true) × (shortened ≡ shortenedAt s dir r) ⌝ }
-    ensures { λ e. ⌜ IsEdgeAt s (now (table .entry)) (oneWay [] (now (sizes .entry)) (now (qindex .entry))) dir r c e ⌝ }
+    requires { ⌜ Sizes s × Inner s dir r c × Indices s (now sizes) × (s .rows * s .cols ≤ length (now qindex)) × Levels (now table) × (depthOk (s .depth) ≡ true) × (shortened ≡ shortBy s (startBy (now table) c) dir r) ⌝ }
+    ensures { λ e. ⌜ IsEdgeAt s (now (table .entry)) (now (sizes .entry)) (now (qindex .entry)) dir r c e ⌝ }
 {
     let i = cell_of(s, r, c);
     let j = cell_before(s, dir, r, c);

@@ -1,5 +1,8 @@
 // Document 01's plane: its checks, and its edges in their order.
 
+// What is made once and read at each edge.
+mod table;
+
 // The edge of a cell, with its thresholds.
 mod edge;
 
@@ -19,7 +22,10 @@ mod check;
 mod run;
 
 pub use check::plane_check;
+pub use order::sweep;
+pub use part::Part;
 pub use run::deblock_plane;
 pub use run::run_noted;
 pub use run::run_plane;
+pub use table::table_of;
 pub use visited::Visited;

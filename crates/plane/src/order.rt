@@ -7,18 +7,31 @@ use crate::part::superblock;
 use crate::visited::Visited;
 use cells::pair::by_dir;
 use cells::pair::is_edge;
-use cells::pair::shortened_at;
+use cells::pair::shortened_by;
 use records::note;
 use rules::depth::Depth;
 use rules::settings::Plane;
 use segment::filter_edge;
+ghost use mathlib.Core.Path.{_≡_};
 ghost use Prim.Native.Nat.{_+_, _*_, _≤_, _<_};
 ghost use lib.Dec.{eqb};
 ghost use lib.ListN.{length};
 ghost use Rattle.laws.specs.Choose.{pick};
-ghost use Rattle.rules.specs.Plane.{grid, visitOf, sbCols, turnOf, edgesOf};
-ghost use Rattle.cells.specs.Fit.{Cell, oneWay};
-ghost use Rattle.plane.specs.Run.{Field, PartOf, InPart, inLine, lineOf, inSweep, none, Most, state, Ran, RanFew};
+ghost use Rattle.rules.specs.Plane.{tiled, visitOf, sbCols, turnOf, edgesOf};
+ghost use Rattle.cells.specs.Fit.{Sizes, Cell, oneWay, shortBy};
+ghost use Rattle.plane.specs.Run.{startBy, Field, PartOf, InPart, inLine, lineOf, inSweep, none, Most, state, Ran, RanFew};
+
+// Whether a cell's edge is shortened. Tile starts are looked up for a vertical edge alone: with less to do for a horizontal one the compiler
+// makes a visit for each direction.
+fn is_short(table: &[u32; 2440], s: Plane, dir: usize, r: usize, c: usize) -> bool
+    requires { ⌜ Sizes s × (c < s .cols) ⌝ }
+    ensures { λ t. ⌜ t ≡ shortBy s (startBy (now (table .entry)) c) dir r ⌝ }
+{
+    if dir == 0 {
+        return table[1416 + c] == 1;
+    }
+    shortened_by(s, false, dir, r)
+}
 
 // The edge of one cell, where it has one.
 fn visit(
@@ -27,7 +40,7 @@ fn visit(
     marks: &[u8],
     sizes: &[u8],
     qindex: &[u16],
-    table: &[u32; 1416],
+    table: &[u32; 2440],
     s: Plane,
     done: Visited,
     dir: usize,
@@ -35,12 +48,12 @@ fn visit(
     c: usize,
 ) -> Visited
     requires { ⌜ Field s (now marks) (now sizes) (now qindex) (now table) (length (now plane)) dir × Cell s r c × (dir ≤ 1) × Most 70368744177664 done ⌝ }
-    ensures { λ a. ⌜ RanFew s (now (table .entry)) 1 (λ steps. visitOf s steps (oneWay (now (marks .entry)) (now (sizes .entry)) (now (qindex .entry))) dir r c) (state (now (plane .entry)) (now (buffer .entry)) done) (state (now (plane .exit)) (now (buffer .exit)) a) ⌝ }
+    ensures { λ a. ⌜ RanFew s (now (table .entry)) 1 (λ steps ts. visitOf s steps (oneWay (now (marks .entry)) (now (sizes .entry)) (now (qindex .entry)) ts) dir r c) (state (now (plane .entry)) (now (buffer .entry)) done) (state (now (plane .exit)) (now (buffer .exit)) a) ⌝ }
 {
     if !is_edge(marks, s, dir, r, c) {
         return done;
     }
-    let shortened = shortened_at(s, dir, r);
+    let shortened = is_short(table, s, dir, r, c);
     let e = edge_at(sizes, qindex, table, s, shortened, dir, r, c);
     note(buffer, done.bytes, e);
     let depth = Depth { bits: s.depth };
@@ -59,7 +72,7 @@ fn in_row(
     marks: &[u8],
     sizes: &[u8],
     qindex: &[u16],
-    table: &[u32; 1416],
+    table: &[u32; 2440],
     s: Plane,
     done: Visited,
     p: Part,
@@ -67,7 +80,7 @@ fn in_row(
     j: usize,
 ) -> Visited
     requires { ⌜ Field s (now marks) (now sizes) (now qindex) (now table) (length (now plane)) 0 × PartOf s p × (k < p .rows) × (j < p .cols) × Most 70368744177664 done ⌝ }
-    ensures { λ a. ⌜ RanFew s (now (table .entry)) 1 (λ steps. visitOf s steps (oneWay (now (marks .entry)) (now (sizes .entry)) (now (qindex .entry))) 0 (p .row + k) (p .col + j)) (state (now (plane .entry)) (now (buffer .entry)) done) (state (now (plane .exit)) (now (buffer .exit)) a) ⌝ }
+    ensures { λ a. ⌜ RanFew s (now (table .entry)) 1 (λ steps ts. visitOf s steps (oneWay (now (marks .entry)) (now (sizes .entry)) (now (qindex .entry)) ts) 0 (p .row + k) (p .col + j)) (state (now (plane .entry)) (now (buffer .entry)) done) (state (now (plane .exit)) (now (buffer .exit)) a) ⌝ }
 {
     visit(
         plane,
@@ -91,7 +104,7 @@ fn in_column(
     marks: &[u8],
     sizes: &[u8],
     qindex: &[u16],
-    table: &[u32; 1416],
+    table: &[u32; 2440],
     s: Plane,
     done: Visited,
     p: Part,
@@ -99,7 +112,7 @@ fn in_column(
     j: usize,
 ) -> Visited
     requires { ⌜ Field s (now marks) (now sizes) (now qindex) (now table) (length (now plane)) 1 × PartOf s p × (k < p .cols) × (j < p .rows) × Most 70368744177664 done ⌝ }
-    ensures { λ a. ⌜ RanFew s (now (table .entry)) 1 (λ steps. visitOf s steps (oneWay (now (marks .entry)) (now (sizes .entry)) (now (qindex .entry))) 1 (p .row + j) (p .col + k)) (state (now (plane .entry)) (now (buffer .entry)) done) (state (now (plane .exit)) (now (buffer .exit)) a) ⌝ }
+    ensures { λ a. ⌜ RanFew s (now (table .entry)) 1 (λ steps ts. visitOf s steps (oneWay (now (marks .entry)) (now (sizes .entry)) (now (qindex .entry)) ts) 1 (p .row + j) (p .col + k)) (state (now (plane .entry)) (now (buffer .entry)) done) (state (now (plane .exit)) (now (buffer .exit)) a) ⌝ }
 {
     visit(
         plane,
@@ -123,7 +136,7 @@ fn cell(
     marks: &[u8],
     sizes: &[u8],
     qindex: &[u16],
-    table: &[u32; 1416],
+    table: &[u32; 2440],
     s: Plane,
     done: Visited,
     dir: usize,
@@ -132,7 +145,7 @@ fn cell(
     j: usize,
 ) -> Visited
     requires { ⌜ Field s (now marks) (now sizes) (now qindex) (now table) (length (now plane)) dir × PartOf s p × InPart dir p k j × Most 70368744177664 done ⌝ }
-    ensures { λ a. ⌜ RanFew s (now (table .entry)) 1 (λ steps. inLine s steps (oneWay (now (marks .entry)) (now (sizes .entry)) (now (qindex .entry))) dir p k j) (state (now (plane .entry)) (now (buffer .entry)) done) (state (now (plane .exit)) (now (buffer .exit)) a) ⌝ }
+    ensures { λ a. ⌜ RanFew s (now (table .entry)) 1 (λ steps ts. inLine s steps (oneWay (now (marks .entry)) (now (sizes .entry)) (now (qindex .entry)) ts) dir p k j) (state (now (plane .entry)) (now (buffer .entry)) done) (state (now (plane .exit)) (now (buffer .exit)) a) ⌝ }
 {
     if dir == 0 {
         return in_row(plane, buffer, marks, sizes, qindex, table, s, done, p, k, j);
@@ -147,7 +160,7 @@ fn line(
     marks: &[u8],
     sizes: &[u8],
     qindex: &[u16],
-    table: &[u32; 1416],
+    table: &[u32; 2440],
     s: Plane,
     sofar: Visited,
     dir: usize,
@@ -155,7 +168,7 @@ fn line(
     k: usize,
 ) -> Visited
     requires { ⌜ Field s (now marks) (now sizes) (now qindex) (now table) (length (now plane)) dir × PartOf s p × (dir ≤ 1) × (k < pick (eqb dir 0) (p .rows) (p .cols)) × Most 35184372088832 sofar ⌝ }
-    ensures { λ a. ⌜ RanFew s (now (table .entry)) 1024 (λ steps. lineOf s steps (oneWay (now (marks .entry)) (now (sizes .entry)) (now (qindex .entry))) dir p k) (state (now (plane .entry)) (now (buffer .entry)) sofar) (state (now (plane .exit)) (now (buffer .exit)) a) ⌝ }
+    ensures { λ a. ⌜ RanFew s (now (table .entry)) 1024 (λ steps ts. lineOf s steps (oneWay (now (marks .entry)) (now (sizes .entry)) (now (qindex .entry)) ts) dir p k) (state (now (plane .entry)) (now (buffer .entry)) sofar) (state (now (plane .exit)) (now (buffer .exit)) a) ⌝ }
 {
     let n = by_dir(dir, p.cols, p.rows);
     let mut done = sofar;
@@ -179,20 +192,20 @@ fn line(
 }
 
 // One direction's edges of a part of the cells: vertical ones row by row, horizontal ones column by column.
-fn sweep(
+pub fn sweep(
     plane: &mut [u16],
     buffer: &mut [u8],
     marks: &[u8],
     sizes: &[u8],
     qindex: &[u16],
-    table: &[u32; 1416],
+    table: &[u32; 2440],
     s: Plane,
     sofar: Visited,
     dir: usize,
     p: Part,
 ) -> Visited
     requires { ⌜ Field s (now marks) (now sizes) (now qindex) (now table) (length (now plane)) dir × PartOf s p × (dir ≤ 1) × Most 17592186044416 sofar ⌝ }
-    ensures { λ a. ⌜ RanFew s (now (table .entry)) 1048576 (λ steps. inSweep s steps (oneWay (now (marks .entry)) (now (sizes .entry)) (now (qindex .entry))) dir p) (state (now (plane .entry)) (now (buffer .entry)) sofar) (state (now (plane .exit)) (now (buffer .exit)) a) ⌝ }
+    ensures { λ a. ⌜ RanFew s (now (table .entry)) 1048576 (λ steps ts. inSweep s steps (oneWay (now (marks .entry)) (now (sizes .entry)) (now (qindex .entry)) ts) dir p) (state (now (plane .entry)) (now (buffer .entry)) sofar) (state (now (plane .exit)) (now (buffer .exit)) a) ⌝ }
 {
     let n = by_dir(dir, p.rows, p.cols);
     let mut done = sofar;
@@ -223,13 +236,15 @@ fn turn(
     sqw: &[u8],
     sqh: &[u8],
     qindex: &[u16],
-    table: &[u32; 1416],
+    table: &[u32; 2440],
     s: Plane,
     done: Visited,
     sb: usize,
 ) -> Visited
     requires { ⌜ Field s (now vedge) (now sqw) (now qindex) (now table) (length (now plane)) 0 × Field s (now hedge) (now sqh) (now qindex) (now table) (length (now plane)) 1 × (sb < sbCols s) × Most 8796093022208 done ⌝ }
-    ensures { λ a. ⌜ RanFew s (now (table .entry)) 2097152 (λ t. turnOf s t (grid (now (vedge .entry)) (now (hedge .entry)) (now (sqw .entry)) (now (sqh .entry)) (now (qindex .entry))) sb) (state (now (plane .entry)) (now (buffer .entry)) done) (state (now (plane .exit)) (now (buffer .exit)) a) ⌝ }
+    ensures { λ a. ⌜ RanFew s (now (table .entry)) 2097152
+        (λ steps ts. turnOf s steps (tiled (now (vedge .entry)) (now (hedge .entry)) (now (sqw .entry)) (now (sqh .entry)) (now (qindex .entry)) ts) sb)
+        (state (now (plane .entry)) (now (buffer .entry)) done) (state (now (plane .exit)) (now (buffer .exit)) a) ⌝ }
 {
     let vertical = sweep(
         plane,
@@ -269,11 +284,13 @@ pub fn run(
     sqw: &[u8],
     sqh: &[u8],
     qindex: &[u16],
-    table: &[u32; 1416],
+    table: &[u32; 2440],
     s: Plane,
 ) -> Visited
     requires { ⌜ Field s (now vedge) (now sqw) (now qindex) (now table) (length (now plane)) 0 × Field s (now hedge) (now sqh) (now qindex) (now table) (length (now plane)) 1 ⌝ }
-    ensures { λ a. ⌜ Ran s (now (table .entry)) (λ steps. edgesOf s steps (grid (now (vedge .entry)) (now (hedge .entry)) (now (sqw .entry)) (now (sqh .entry)) (now (qindex .entry)))) (state (now (plane .entry)) (now (buffer .entry)) none) (state (now (plane .exit)) (now (buffer .exit)) a) ⌝ }
+    ensures { λ a. ⌜ Ran s (now (table .entry))
+        (λ steps ts. edgesOf s steps (tiled (now (vedge .entry)) (now (hedge .entry)) (now (sqw .entry)) (now (sqh .entry)) (now (qindex .entry)) ts))
+        (state (now (plane .entry)) (now (buffer .entry)) none) (state (now (plane .exit)) (now (buffer .exit)) a) ⌝ }
 {
     let n = (s.cols + s.sbw - 1) / s.sbw;
     let mut done = Visited {

@@ -1,6 +1,7 @@
 // A checked plane's run, and the plane's entry on any input.
 use crate::check::plane_check;
 use crate::order::run;
+use crate::table::table_of;
 use crate::visited::Visited;
 use rules::depth::Depth;
 use rules::refusals::Answer;
@@ -8,10 +9,10 @@ use rules::refusals::PlaneAnswer;
 use rules::settings::Plane;
 use thresholds::by_qindex::thresholds_by_qindex;
 ghost use lib.ListN.{length};
-ghost use Rattle.rules.specs.Plane.{grid};
+ghost use Rattle.rules.specs.Plane.{tiled};
 ghost use Rattle.plane.specs.Checked.{Checked, Noted, Filtered, Stated};
 
-// Runs every edge of a checked plane, and notes it in the record where that has room; the thresholds of each qindex are made once.
+// Runs every edge of a checked plane, and notes it in the record where that has room; the thresholds of each qindex and the tile starts are made a table once.
 pub fn run_noted(
     plane: &mut [u16],
     buffer: &mut [u8],
@@ -20,14 +21,16 @@ pub fn run_noted(
     sqw: &[u8],
     sqh: &[u8],
     qindex: &[u16],
+    tiles: &[u16],
     steps: &[u32],
     s: Plane,
 ) -> Visited
-    requires { ⌜ Checked s (now steps) (grid (now vedge) (now hedge) (now sqw) (now sqh) (now qindex)) (length (now plane)) ⌝ }
-    ensures { λ a. ⌜ Noted s (now (steps .entry)) (grid (now (vedge .entry)) (now (hedge .entry)) (now (sqw .entry)) (now (sqh .entry)) (now (qindex .entry))) (now (plane .entry)) (now (buffer .entry)) a (now (plane .exit)) (now (buffer .exit)) ⌝ }
+    requires { ⌜ Checked s (now steps) (tiled (now vedge) (now hedge) (now sqw) (now sqh) (now qindex) (now tiles)) (length (now plane)) ⌝ }
+    ensures { λ a. ⌜ Noted s (now (steps .entry)) (tiled (now (vedge .entry)) (now (hedge .entry)) (now (sqw .entry)) (now (sqh .entry)) (now (qindex .entry)) (now (tiles .entry))) (now (plane .entry)) (now (buffer .entry)) a (now (plane .exit)) (now (buffer .exit)) ⌝ }
 {
     let depth = Depth { bits: s.depth };
-    let table = thresholds_by_qindex(s.deltaq, s.deltaside, depth, steps);
+    let levels = thresholds_by_qindex(s.deltaq, s.deltaside, depth, steps);
+    let table = table_of(&levels, tiles);
     run(plane, buffer, vedge, hedge, sqw, sqh, qindex, &table, s)
 }
 
@@ -39,13 +42,25 @@ pub fn run_plane(
     sqw: &[u8],
     sqh: &[u8],
     qindex: &[u16],
+    tiles: &[u16],
     steps: &[u32],
     s: Plane,
 ) -> Visited
-    requires { ⌜ Checked s (now steps) (grid (now vedge) (now hedge) (now sqw) (now sqh) (now qindex)) (length (now plane)) ⌝ }
-    ensures { λ a. ⌜ Filtered s (now (steps .entry)) (grid (now (vedge .entry)) (now (hedge .entry)) (now (sqw .entry)) (now (sqh .entry)) (now (qindex .entry))) (now (plane .entry)) a (now (plane .exit)) ⌝ }
+    requires { ⌜ Checked s (now steps) (tiled (now vedge) (now hedge) (now sqw) (now sqh) (now qindex) (now tiles)) (length (now plane)) ⌝ }
+    ensures { λ a. ⌜ Filtered s (now (steps .entry)) (tiled (now (vedge .entry)) (now (hedge .entry)) (now (sqw .entry)) (now (sqh .entry)) (now (qindex .entry)) (now (tiles .entry))) (now (plane .entry)) a (now (plane .exit)) ⌝ }
 {
-    run_noted(plane, &mut [], vedge, hedge, sqw, sqh, qindex, steps, s)
+    run_noted(
+        plane,
+        &mut [],
+        vedge,
+        hedge,
+        sqw,
+        sqh,
+        qindex,
+        tiles,
+        steps,
+        s,
+    )
 }
 
 // Deblocks a plane and tells how many samples it stored and changed; or refuses it, leaves it as lent and tells of none.
@@ -56,12 +71,13 @@ pub fn deblock_plane(
     sqw: &[u8],
     sqh: &[u8],
     qindex: &[u16],
+    tiles: &[u16],
     steps: &[u32],
     s: Plane,
 ) -> PlaneAnswer
-    ensures { λ a. ⌜ Stated s (now (steps .entry)) (grid (now (vedge .entry)) (now (hedge .entry)) (now (sqw .entry)) (now (sqh .entry)) (now (qindex .entry))) (now (plane .entry)) a (now (plane .exit)) ⌝ }
+    ensures { λ a. ⌜ Stated s (now (steps .entry)) (tiled (now (vedge .entry)) (now (hedge .entry)) (now (sqw .entry)) (now (sqh .entry)) (now (qindex .entry)) (now (tiles .entry))) (now (plane .entry)) a (now (plane .exit)) ⌝ }
 {
-    let a = plane_check(plane, vedge, hedge, sqw, sqh, qindex, steps, s);
+    let a = plane_check(plane, vedge, hedge, sqw, sqh, qindex, tiles, steps, s);
     if let Answer::Refused(r) = a {
         return PlaneAnswer {
             answer: Answer::Refused(r),
@@ -69,7 +85,7 @@ pub fn deblock_plane(
             changed: 0,
         };
     }
-    let done = run_plane(plane, vedge, hedge, sqw, sqh, qindex, steps, s);
+    let done = run_plane(plane, vedge, hedge, sqw, sqh, qindex, tiles, steps, s);
     PlaneAnswer {
         answer: Answer::Accepted,
         stored: done.stored,

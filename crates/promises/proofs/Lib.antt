@@ -2,3 +2,4 @@ pub mod Edges
 pub mod Counts
 pub mod Exactly
 pub mod Witness
+pub mod OneTile

@@ -20,7 +20,8 @@ use Rattle.rules.specs.Lengths.{lengthBefore, lengthAfter, mostBefore, mostAfte
 use Rattle.rules.specs.Width.{bendOf, slopeOf, steepOf, atDistance, failsOf, fromOf, farOf, wideOf, gradeOf, widthOf}
 use Rattle.rules.specs.Segment.{placeOf, hasRoom, lineOf, linesOf, windowOf, chosenOf, lineStores, fourStores, storesOf, segmentOf, runEdges}
 use Rattle.rules.specs.Counts.{storedAt, changedAt, storedBy, changedBy}
-use Rattle.rules.specs.Plane.{Grid, grid, cellOf, cellBefore, marksOf, indicesOf, cappedOf, indexAt, shortenedAt, edgeAt, isEdge, visitOf, startOf, countOf, sbCols, sweepOf, columnOf, turnOf, edgesOf, runPlane, runStored, runChanged, planeSizesOk, planeLengthsOk, cellGood, badCell, edgeRoom, lacksRoom, lacksRow, lacksDir, noRoom, overPlane, planeCheck, planeAfter, planeStored, planeChanged}
+use Rattle.rules.specs.Plane.{Grid, grid, cellOf, cellBefore, marksOf, indicesOf, cappedOf, indexAt, shortenedAt, edgeAt, isEdge, visitOf, startOf, countOf, sbCols, sweepOf, columnOf, turnOf, edgesOf, runPlane, runStored, runChanged}
+use Rattle.rules.specs.Plane.{planeSizesOk, planeLengthsOk, badStart, tilesCheck, cellGood, badCell, edgeRoom, lacksRoom, lacksRow, lacksDir, noRoom, overPlane, planeCheck, planeAfter, planeStored, planeChanged}
 
 -- eight by four samples
 abbrev pub settings : Plane
@@ -42,7 +43,7 @@ samples = four (100 ∷ 100 ∷ 100 ∷ 100 ∷ 108 ∷ 108 ∷ 108 ∷ 108 ∷ 
 
 pub accepted : planeCheck settings steps cells samples ≡ Accepted
 unfolding each pick either both all depthOk topOf inRange inRangeZ deltaOk orElse unless found first sooner foundIf foundUnless over overRow overBox stepGood badStep stepsCheck deltasCheck lengthBefore lengthAfter reachOf reachBefore reachAfter pairOf hasRoom cellOf cellBefore marksOf indicesOf
-    cappedOf indexAt shortenedAt isEdge planeSizesOk planeLengthsOk cellGood badCell edgeRoom lacksRoom lacksRow lacksDir noRoom overPlane planeCheck
+    cappedOf indexAt shortenedAt isEdge planeSizesOk planeLengthsOk badStart tilesCheck cellGood badCell edgeRoom lacksRoom lacksRow lacksDir noRoom overPlane planeCheck
 accepted = refl
 
 -- three samples each side of four lines are stored, and each of them differs from before

@@ -7,8 +7,8 @@ use Rattle.laws.specs.Choose.{both}
 use Rattle.rules.specs.declared.settings.Plane.{Plane}
 use Rattle.rules.specs.Numbers.{depthOk, deltaOk}
 use Rattle.rules.specs.Thresholds.{badStep}
-use Rattle.rules.specs.Plane.{Grid, planeSizesOk, planeLengthsOk, badCell, noRoom, overPlane}
-use Rattle.scan.specs.Exactly.{ask, seek, Check, check}
+use Rattle.rules.specs.Plane.{Grid, planeSizesOk, planeLengthsOk, badStart, badCell, noRoom, overPlane}
+use Rattle.scan.specs.Exactly.{ask, seek, seekAny, andThen, Check, check}
 
 abbrev pub planeTests : Plane → List ℕ → Grid → List ℕ → List Check
 planeTests s steps g l =
@@ -16,7 +16,8 @@ planeTests s steps g l =
     ∷ check 2 (ask (planeSizesOk s))
     ∷ check 3 (ask (planeLengthsOk s g (length l)))
     ∷ check 4 (seek (badStep steps))
-    ∷ check 5 (ask (both (deltaOk (s .deltaq)) (deltaOk (s .deltaside))))
+    -- ticket 5: "5 also for a bad list"
+    ∷ check 5 (andThen (ask (both (deltaOk (s .deltaq)) (deltaOk (s .deltaside)))) (seekAny (badStart (s .cols) (g .tiles))))
     ∷ check 6 (seek (badCell s g))
     ∷ check 7 (seek (noRoom s g))
     ∷ check 8 (seek (overPlane s l))

@@ -9,12 +9,12 @@ use Rattle.rules.specs.declared.refusals.Answer.{Answer}
 use Rattle.rules.specs.declared.refusals.Answer.the-variants.{Accepted, Refused}
 use Rattle.rules.specs.declared.refusals.RecordAnswer.{RecordAnswer}
 use Rattle.rules.specs.Refusals.{orElse}
-use Rattle.rules.specs.Thresholds.{stepsCheck, deltasCheck}
-use Rattle.rules.specs.Plane.{Grid, planeCheck}
+use Rattle.rules.specs.Plane.{Grid}
 use Rattle.rules.specs.Record.{recordedCheck, answerBytes, recordedAnswer}
 use Rattle.scan.specs.Exactly.{Check, chain, Exactly}
 use Rattle.scan.proofs.Exactly.{chain-joined, exactly}
 use Rattle.promises.specs.Exactly.{planeTests}
+use Rattle.promises.proofs.Exactly.{plane-chain}
 use Rattle.recorded.specs.Stated.{Stated}
 use Rattle.record_promises.specs.Exactly.{roomTest, recordedTests, answered}
 
@@ -31,8 +31,9 @@ answered-is (Refused r) k = refl
 
 module _ (s : Plane) (steps : List ℕ) (g : Grid) (l : List ℕ) where
   pub recorded-exactly : (n : ℕ) {a : Answer} → a ≡ recordedCheck s steps g l n → Exactly a (recordedTests s steps g l n)
-  unfolding recordedCheck planeCheck stepsCheck deltasCheck
-  recorded-exactly n e = exactly (recordedTests s steps g l n) refl (e ∙ one-more (planeTests s steps g l) (roomTest s g n))
+  unfolding recordedCheck
+  recorded-exactly n e =
+      exactly (recordedTests s steps g l n) refl (e ∙ ap (λ (x : Answer). orElse x (chain (roomTest s g n ∷ []))) (plane-chain s steps g l) ∙ one-more (planeTests s steps g l) (roomTest s g n))
 
   -- of whatever the entry may answer
   pub stated-exactly : (b : List ℕ) {a : RecordAnswer} {m c : List ℕ} → Stated s steps g l b a m c → Exactly (answered (a .«record»)) (recordedTests s steps g l (length b))

@@ -1,3 +1,4 @@
 pub mod Theorems
 pub mod Exactly
+pub mod OneTile
 pub mod Witness

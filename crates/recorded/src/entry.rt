@@ -9,7 +9,7 @@ use rules::refusals::Recorded;
 use rules::refusals::Refusal;
 use rules::settings::Plane;
 ghost use mathlib.Core.Path.{_≡_};
-ghost use Rattle.rules.specs.Plane.{grid};
+ghost use Rattle.rules.specs.Plane.{tiled};
 ghost use Rattle.rules.specs.Record.{recordedCheck};
 ghost use Rattle.recorded.specs.Stated.{Stated};
 
@@ -22,12 +22,13 @@ fn record_check(
     sqw: &[u8],
     sqh: &[u8],
     qindex: &[u16],
+    tiles: &[u16],
     steps: &[u32],
     s: Plane,
 ) -> Answer
-    ensures { λ a. ⌜ a ≡ recordedCheck s (now (steps .entry)) (grid (now (vedge .entry)) (now (hedge .entry)) (now (sqw .entry)) (now (sqh .entry)) (now (qindex .entry))) (now (plane .entry)) room ⌝ }
+    ensures { λ a. ⌜ a ≡ recordedCheck s (now (steps .entry)) (tiled (now (vedge .entry)) (now (hedge .entry)) (now (sqw .entry)) (now (sqh .entry)) (now (qindex .entry)) (now (tiles .entry))) (now (plane .entry)) room ⌝ }
 {
-    let a = plane_check(plane, vedge, hedge, sqw, sqh, qindex, steps, s);
+    let a = plane_check(plane, vedge, hedge, sqw, sqh, qindex, tiles, steps, s);
     if let Answer::Refused(r) = a {
         return Answer::Refused(r);
     }
@@ -47,13 +48,14 @@ pub fn record_plane(
     sqw: &[u8],
     sqh: &[u8],
     qindex: &[u16],
+    tiles: &[u16],
     steps: &[u32],
     s: Plane,
 ) -> RecordAnswer
-    ensures { λ a. ⌜ Stated s (now (steps .entry)) (grid (now (vedge .entry)) (now (hedge .entry)) (now (sqw .entry)) (now (sqh .entry)) (now (qindex .entry))) (now (plane .entry)) (now (buffer .entry)) a (now (plane .exit)) (now (buffer .exit)) ⌝ }
+    ensures { λ a. ⌜ Stated s (now (steps .entry)) (tiled (now (vedge .entry)) (now (hedge .entry)) (now (sqw .entry)) (now (sqh .entry)) (now (qindex .entry)) (now (tiles .entry))) (now (plane .entry)) (now (buffer .entry)) a (now (plane .exit)) (now (buffer .exit)) ⌝ }
 {
     let room = buffer.len();
-    let a = record_check(plane, room, vedge, hedge, sqw, sqh, qindex, steps, s);
+    let a = record_check(plane, room, vedge, hedge, sqw, sqh, qindex, tiles, steps, s);
     if let Answer::Refused(r) = a {
         return RecordAnswer {
             record: Recorded::Refused(r),
@@ -62,7 +64,18 @@ pub fn record_plane(
         };
     }
     put_header(buffer);
-    let done = run_noted(plane, buffer, vedge, hedge, sqw, sqh, qindex, steps, s);
+    let done = run_noted(
+        plane,
+        buffer,
+        vedge,
+        hedge,
+        sqw,
+        sqh,
+        qindex,
+        tiles,
+        steps,
+        s,
+    );
     RecordAnswer {
         record: Recorded::Bytes(done.bytes),
         stored: done.stored,

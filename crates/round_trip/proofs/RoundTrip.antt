@@ -85,7 +85,7 @@ module _ (s : Plane) (steps : List ℕ) (g : Grid) (l : List ℕ) (ok : planeChe
   again-clean : overReplay (againOf s) l ≡ Nothing
   unfolding planeCheck overPlane
   again-clean =
-      found-nothing _ Sample (else-parts _ _ (else-parts _ _ (else-parts _ _ (else-parts _ _ (else-parts _ _ (else-parts _ _ (else-parts _ _ ok .1) .1) .1) .1) .1) .1) .1)
+      found-nothing _ Sample (else-parts _ _ (else-parts _ _ (else-parts _ _ (else-parts _ _ (else-parts _ _ (else-parts _ _ (else-parts _ _ (else-parts _ _ ok .1) .1) .1) .1) .1) .1) .1) .1)
 
   -- the record is accepted with the plane as it was lent
   pub again-accepted : replayCheck (againOf s) (recordOf edges) l ≡ Accepted

@@ -18,11 +18,11 @@ use Rattle.rules.specs.declared.refusals.Answer.the-variants.{Accepted, 
 use Rattle.rules.specs.Numbers.{depthOk, inRange, subsamplingOk, deltaOk, down}
 use Rattle.rules.specs.Refusals.{orElse, unless, found, onlyIf, settle}
 use Rattle.rules.specs.Thresholds.{stepsCheck}
-use Rattle.rules.specs.Plane.{Grid, grid, runPlane, runStored, runChanged, noRoom, overPlane}
+use Rattle.rules.specs.Plane.{Grid, tiled, tilesCheck, runPlane, runStored, runChanged, noRoom, overPlane}
 use Rattle.rules.specs.TuGrid.{Marks, marks, txGridOf, capOk, foursOk, badLeaf}
 use Rattle.rules.specs.QindexGrid.{qGridOf}
 
--- ---- the lent lists: three planes and two grids are written, five lists are only read
+-- ---- the lent lists: three planes and two grids are written, but for a grid's tile starts; these and five lists more are only read
 
 pub record Planes : Type 0 where
   pub y : List ℕ
@@ -141,14 +141,14 @@ chromaQ f = record { cols = chromaPlane f .cols; rows = chromaPlane f .rows; ssx
 unfoldable pub chromaOn : Frame → Bool
 chromaOn f = both (f .haschroma) (f .chromadeblock)
 
--- ---- the grids that are built: marks and indices from the leaves, qindex from the superblocks
+-- ---- the grids that are built: marks and indices from the leaves, qindex from the superblocks, tile starts as lent
 
-abbrev pub withQ : Marks → List ℕ → Grid
-withQ m q = grid (m .vedge) (m .hedge) (m .sqw) (m .sqh) q
+abbrev pub withQ : Marks → List ℕ → List ℕ → Grid
+withQ m q ts = tiled (m .vedge) (m .hedge) (m .sqw) (m .sqh) q ts
 
 unfoldable pub builtGrid : TuGrid → QindexGrid → List ℕ → List ℕ → List ℕ → Grid → Grid
 builtGrid tu q leaves skips sbq g =
-    withQ (txGridOf tu leaves skips (marks (g .vedge) (g .hedge) (g .sqw) (g .sqh))) (qGridOf q sbq (g .qindex))
+    withQ (txGridOf tu leaves skips (marks (g .vedge) (g .hedge) (g .sqw) (g .sqh))) (qGridOf q sbq (g .qindex)) (g .tiles)
 
 unfoldable pub builtGrids : Frame → Given → Grids → Grids
 builtGrids f n g =
@@ -220,19 +220,23 @@ frameSettings f =
     ∷ []))
     Setting
 
+-- ticket 5: "A frame takes one for luma and, where it filters chroma, one for chroma." "Refusal: 5 also for a bad list."
+unfoldable pub frameTiles : Frame → List ℕ → List ℕ → Answer
+frameTiles f luma chroma = orElse (tilesCheck (lumaPlane f .cols) luma) (onlyIf (chromaOn f) (tilesCheck (chromaPlane f .cols) chroma))
+
 -- "for 9, luma, chroma, then skip leaves"
 unfoldable pub frameLeaves : Given → Answer
 frameLeaves n =
     orElse (found (badLeaf false (n .leaves)) Leaf)
     (orElse (found (badLeaf false (n .chromaLeaves)) Leaf) (found (badLeaf true (n .skips)) Leaf))
 
--- order 4, 5, 9
-unfoldable pub frameGiven : Frame → Given → Answer
-frameGiven f n = orElse (stepsCheck (n .steps)) (orElse (frameSettings f) (frameLeaves n))
+-- order 4, 5, 9, with luma's and chroma's tile starts
+unfoldable pub frameGiven : Frame → List ℕ → List ℕ → Given → Answer
+frameGiven f luma chroma n = orElse (stepsCheck (n .steps)) (orElse (frameSettings f) (orElse (frameTiles f luma chroma) (frameLeaves n)))
 
 -- order 1, 2, 3, 4, 5, 9
-unfoldable pub frameEarly : Frame → FrameLengths → Given → Answer
-frameEarly f k n = orElse (frameShape f k) (frameGiven f n)
+unfoldable pub frameEarly : Frame → FrameLengths → List ℕ → List ℕ → Given → Answer
+frameEarly f k luma chroma n = orElse (frameShape f k) (frameGiven f luma chroma n)
 
 -- ---- the checks of the built grids and the planes, 7 and then 8
 
@@ -291,7 +295,9 @@ orDone (Refused r) l d = done (Refused r) l
 orDone Accepted l d = d
 
 unfoldable pub frameOf : Frame → Given → Lent → Done
-frameOf f n l = orDone (frameEarly f (lengthsOf n l) n) l (frameBuilt f (n .steps) (builtGrids f n (l .grids)) (l .planes))
+frameOf f n l =
+    orDone (frameEarly f (lengthsOf n l) (l .grids .luma .tiles) (l .grids .chroma .tiles) n) l
+    (frameBuilt f (n .steps) (builtGrids f n (l .grids)) (l .planes))
 
 -- ticket 4: stored and changed samples; "A refusal reports zero for both."
 unfoldable pub frameStored : Frame → Given → Lent → ℕ

@@ -2,7 +2,7 @@
 -- Assumes nothing.
 use mathlib.Core.Bool.{Bool, true, false}
 use mathlib.Core.List.{List, [], _∷_, _++_}
-use Prim.Native.Nat.{ℕ, _+_, _*_, _-_, _/_, _%_, min}
+use Prim.Native.Nat.{ℕ, zero, suc, _+_, _*_, _-_, _/_, _%_, min}
 use lib.Dec.{eqb, ltb, leb}
 use lib.ListN.{getD, length}
 use lib.IntN.{ℤ}
@@ -20,16 +20,22 @@ use Rattle.rules.specs.Lengths.{pairOf}
 use Rattle.rules.specs.Segment.{hasRoom, runEdges}
 use Rattle.rules.specs.Counts.{storedBy, changedBy}
 
--- the five lists of a grid: two marks, two size indices and the qindex of each cell
+-- what is known of the cells: two marks, two size indices and the qindex of each;
+-- document 02, ticket 5: "a list of tile-start columns in cells"
 pub record Grid : Type 0 where
   pub vedge : List ℕ
   pub hedge : List ℕ
   pub sqw : List ℕ
   pub sqh : List ℕ
   pub qindex : List ℕ
+  pub tiles : List ℕ
 
+abbrev pub tiled : List ℕ → List ℕ → List ℕ → List ℕ → List ℕ → List ℕ → Grid
+tiled v h w t q ts = record { vedge = v; hedge = h; sqw = w; sqh = t; qindex = q; tiles = ts }
+
+-- one tile
 abbrev pub grid : List ℕ → List ℕ → List ℕ → List ℕ → List ℕ → Grid
-grid v h w t q = record { vedge = v; hedge = h; sqw = w; sqh = t; qindex = q }
+grid v h w t q = tiled v h w t q []
 
 -- ---- the edge of a cell; direction 0 is its left side, 1 its upper side
 
@@ -59,16 +65,22 @@ indexAt s g dir r c =
     cappedOf (s .chroma) (pick (eqb dir 0) (c * 4) (r * 4)) (pick (eqb dir 0) (s .width) (s .height))
     (min (getD (indicesOf g dir) (cellOf s r c) 0) (getD (indicesOf g dir) (cellBefore s dir r c) 0))
 
--- "Horizontal edges in rows divisible by the superblock height are shortened; vertical edges never are."
-unfoldable pub shortenedAt : Plane → ℕ → ℕ → Bool
-shortenedAt s dir r = pick (eqb dir 0) false (eqb (r % s .sbh) 0)
+-- whether a column is among the first n of a list of tile starts
+unfoldable pub startsTile : List ℕ → ℕ → ℕ → Bool
+startsTile ts zero c = false
+startsTile ts (suc n) c = either (startsTile ts n c) (eqb (getD ts n 0) c)
+
+-- "Horizontal edges in rows divisible by the superblock height are shortened; vertical edges never are.";
+-- ticket 5: "vertical edges in them use the shortened pairs"
+unfoldable pub shortenedAt : Plane → Grid → ℕ → ℕ → ℕ → Bool
+shortenedAt s g dir r c = pick (eqb dir 0) (startsTile (g .tiles) (length (g .tiles)) c) (eqb (r % s .sbh) 0)
 
 unfoldable pub edgeAt : Plane → List ℕ → Grid → ℕ → ℕ → ℕ → Edge
 edgeAt s steps g dir r c = record {
   x = c * 4;
   y = r * 4;
   dir = dir;
-  pair = pairOf (indexAt s g dir r c) (s .chroma) (shortenedAt s dir r);
+  pair = pairOf (indexAt s g dir r c) (s .chroma) (shortenedAt s g dir r c);
   q = qThreshold (s .depth) steps (getD (g .qindex) (cellOf s r c) 0) (getD (g .qindex) (cellBefore s dir r c) 0) (s .deltaq);
   side = sideThreshold (s .depth) (getD (g .qindex) (cellOf s r c) 0) (getD (g .qindex) (cellBefore s dir r c) 0) (s .deltaside);
 }
@@ -125,6 +137,7 @@ runChanged s steps g l = changedBy (topOf (s .depth)) (s .stride) (edgesOf s ste
 -- ---- the checks
 
 -- "mi_cols and mi_rows 1..1024. Stride 4·mi_cols..8192. width 1..4·mi_cols and height 1..4·mi_rows. Superblock width and height in cells: 8 or 16 each."
+-- Ticket 6 needs these widths: from two cells on the order of superblocks leaves the plane of all vertical edges and then all horizontal ones; "with a width of one cell it would be false"
 unfoldable pub planeSizesOk : Plane → Bool
 planeSizesOk s =
     all
@@ -149,6 +162,17 @@ planeLengthsOk s g n =
     ∷ leb (s .rows * s .cols) (length (g .qindex))
     ∷ [])
 
+-- ticket 5: "strictly rising, each above 0 and below mi_cols"
+unfoldable pub startGood : ℕ → List ℕ → ℕ → Bool
+startGood cols ts k = both (ltb (pick (eqb k 0) 0 (getD ts (k - 1) 0)) (getD ts k 0)) (ltb (getD ts k 0) cols)
+
+unfoldable pub badStart : ℕ → List ℕ → Found
+badStart cols ts = first (length ts) (λ k. foundUnless (startGood cols ts k) k)
+
+-- "Refusal: 5 also for a bad list."
+unfoldable pub tilesCheck : ℕ → List ℕ → Answer
+tilesCheck cols ts = found (badStart cols ts) (λ k. Setting)
+
 -- "Grid cells: two marks (0 or 1) and two size indices 0..6."
 unfoldable pub cellGood : Grid → ℕ → Bool
 cellGood g k = all (leb (getD (g .vedge) k 0) 1 ∷ leb (getD (g .hedge) k 0) 1 ∷ leb (getD (g .sqw) k 0) 6 ∷ leb (getD (g .sqh) k 0) 6 ∷ [])
@@ -161,7 +185,7 @@ badCell s g = first (s .rows * s .cols) (λ k. foundUnless (cellGood g k) k)
 unfoldable pub edgeRoom : Plane → Grid → ℕ → ℕ → ℕ → Bool
 edgeRoom s g dir r c =
     hasRoom (4 * s .cols) (4 * s .rows)
-    (record { x = c * 4; y = r * 4; dir = dir; pair = pairOf (indexAt s g dir r c) (s .chroma) (shortenedAt s dir r); q = 0; side = 0 })
+    (record { x = c * 4; y = r * 4; dir = dir; pair = pairOf (indexAt s g dir r c) (s .chroma) (shortenedAt s g dir r c); q = 0; side = 0 })
 
 unfoldable pub lacksRoom : Plane → Grid → ℕ → ℕ → ℕ → Found
 lacksRoom s g dir r c = foundUnless (pick (isEdge s g dir r c) (edgeRoom s g dir r c) true) (cellOf s r c)
@@ -188,9 +212,10 @@ planeCheck s steps g l =
     (orElse (unless (planeLengthsOk s g (length l)) Length)
     (orElse (stepsCheck steps)
     (orElse (deltasCheck (s .deltaq) (s .deltaside))
+    (orElse (tilesCheck (s .cols) (g .tiles))
     (orElse (found (badCell s g) Cell)
     (orElse (found (noRoom s g) Room)
-    (found (overPlane s l) Sample)))))))
+    (found (overPlane s l) Sample))))))))
 
 -- the plane afterwards
 unfoldable pub planeAfter : Plane → List ℕ → Grid → List ℕ → List ℕ

@@ -42,6 +42,8 @@ fn compare(
     leaves: &[u16],
     chromaleaves: &[u16],
     skips: &[u16],
+    tiles: &[u16],
+    chromatiles: &[u16],
     y: &mut [u16],
     u: &mut [u16],
     v: &mut [u16],
@@ -75,6 +77,8 @@ fn compare(
         leaves,
         chromaleaves,
         skips,
+        tiles,
+        chromatiles,
         f,
     );
     let lists = same(
@@ -110,7 +114,7 @@ fn counted(before: Tally, told: Told, same: bool) -> Tally {
     tally::case(before, told.number, same)
 }
 
-// With chroma's grid and the answer.
+// With chroma's grid, the tile starts and the answer.
 fn with_chroma(
     text: &[u8],
     lent: Cursor,
@@ -136,13 +140,19 @@ fn with_chroma(
     let mut cw = [0u8; 16384];
     let mut ct = [0u8; 16384];
     let mut cq = [0u16; 16384];
+    let mut tiles = [0u16; 2048];
+    let mut chromatiles = [0u16; 2048];
     let n = read::grid(text, at, &mut cv, &mut ch, &mut cw, &mut ct, &mut cq);
-    let told = cases::read_counted(text, n.rest);
+    let l = cases::read_u16s(text, n.rest, &mut tiles);
+    let m = cases::read_u16s(text, l.rest, &mut chromatiles);
+    let told = cases::read_counted(text, m.rest);
     let ncv = n.vedge;
     let nch = n.hedge;
     let ncw = n.sqw;
     let nct = n.sqh;
     let ncq = n.qindex;
+    let starts = l.length;
+    let chromastarts = m.length;
     let same = compare(
         text,
         lent,
@@ -153,6 +163,8 @@ fn with_chroma(
         leaves,
         chromaleaves,
         skips,
+        &tiles[..starts],
+        &chromatiles[..chromastarts],
         y,
         u,
         v,

@@ -1,7 +1,5 @@
 // One plane, recorded or not: what the entry is asked, and what the stream says that it answers.
-ghost use Rattle.cases.specs.Lists.{Fills};
 use cases::Cursor;
-use cases::Listed;
 use cases::Told;
 use plane::deblock_plane;
 use recorded::record_plane;
@@ -104,22 +102,24 @@ fn compare_recorded(
     sqw: &[u8],
     sqh: &[u8],
     qindex: &[u16],
+    tiles: &[u16],
     plane: &mut [u16],
     buffer: &mut [u8],
     steps: &[u32],
 ) -> bool {
-    let answer = record_plane(plane, buffer, vedge, hedge, sqw, sqh, qindex, steps, s);
+    let answer = record_plane(
+        plane,
+        buffer,
+        vedge,
+        hedge,
+        sqw,
+        sqh,
+        qindex,
+        tiles,
+        steps,
+        s,
+    );
     same_record(answer, told) && held_both(text, lent, told, plane, buffer)
-}
-
-// The buffer of a recorded plane; a plane that is not recorded has none.
-fn read_buffer(text: &[u8], c: Cursor, recorded: bool, buffer: &mut [u8]) -> Listed
-    ensures { λ r. ⌜ Fills (r .length) (now (buffer .entry)) (now (buffer .exit)) ⌝ }
-{
-    if recorded {
-        return cases::read_u8s(text, c, buffer);
-    }
-    Listed { length: 0, rest: c }
 }
 
 // The entry's answer and its plane, held against the stream's.
@@ -133,15 +133,98 @@ fn compare(
     sqw: &[u8],
     sqh: &[u8],
     qindex: &[u16],
+    tiles: &[u16],
     plane: &mut [u16],
     steps: &[u32],
 ) -> bool {
-    let answer = deblock_plane(plane, vedge, hedge, sqw, sqh, qindex, steps, s);
+    let answer = deblock_plane(plane, vedge, hedge, sqw, sqh, qindex, tiles, steps, s);
     same(answer, told) && held(text, lent, told, plane)
 }
 
-// The lists after the grid's marks and size indices, and the answer.
-fn replay_samples(
+// A recorded plane after its grid: its samples, its buffer and the answer.
+fn replay_recorded(
+    text: &[u8],
+    lent: Cursor,
+    s: Plane,
+    vedge: &[u8],
+    hedge: &[u8],
+    sqw: &[u8],
+    sqh: &[u8],
+    qindex: &[u16],
+    tiles: &[u16],
+    steps: &[u32],
+    t: Tally,
+) -> Tally {
+    let mut plane = [0u16; 131072];
+    let mut buffer = [0u8; 65536];
+    let p = cases::read_u16s(text, lent, &mut plane);
+    let b = cases::read_u8s(text, p.rest, &mut buffer);
+    let told = cases::read_counted(text, b.rest);
+    let rest = told.rest;
+    if !rest.good {
+        return tally::unread(t);
+    }
+    let samples = p.length;
+    let bytes = b.length;
+    let same = compare_recorded(
+        text,
+        lent,
+        told,
+        s,
+        vedge,
+        hedge,
+        sqw,
+        sqh,
+        qindex,
+        tiles,
+        &mut plane[..samples],
+        &mut buffer[..bytes],
+        steps,
+    );
+    tally::case(t, told.number, same)
+}
+
+// A plane after its grid: its samples and the answer.
+fn replay_plane(
+    text: &[u8],
+    lent: Cursor,
+    s: Plane,
+    vedge: &[u8],
+    hedge: &[u8],
+    sqw: &[u8],
+    sqh: &[u8],
+    qindex: &[u16],
+    tiles: &[u16],
+    steps: &[u32],
+    t: Tally,
+) -> Tally {
+    let mut plane = [0u16; 131072];
+    let p = cases::read_u16s(text, lent, &mut plane);
+    let told = cases::read_counted(text, p.rest);
+    let rest = told.rest;
+    if !rest.good {
+        return tally::unread(t);
+    }
+    let samples = p.length;
+    let same = compare(
+        text,
+        lent,
+        told,
+        s,
+        vedge,
+        hedge,
+        sqw,
+        sqh,
+        qindex,
+        tiles,
+        &mut plane[..samples],
+        steps,
+    );
+    tally::case(t, told.number, same)
+}
+
+// The grid's last two lists, the qindex and the tile starts; then the rest of a plane or of a recorded one.
+fn replay_grid(
     text: &[u8],
     c: Cursor,
     s: Plane,
@@ -154,51 +237,18 @@ fn replay_samples(
     t: Tally,
 ) -> Tally {
     let mut qindex = [0u16; 16384];
-    let mut plane = [0u16; 131072];
-    let mut buffer = [0u8; 65536];
+    let mut tiles = [0u16; 2048];
     let q = cases::read_u16s(text, c, &mut qindex);
-    let lent = q.rest;
-    let p = cases::read_u16s(text, lent, &mut plane);
-    let b = read_buffer(text, p.rest, recorded, &mut buffer);
-    let told = cases::read_counted(text, b.rest);
-    let rest = told.rest;
-    if !rest.good {
-        return tally::unread(t);
-    }
+    let l = cases::read_u16s(text, q.rest, &mut tiles);
     let cells = q.length;
-    let samples = p.length;
-    let bytes = b.length;
+    let starts = l.length;
+    let q = &qindex[..cells];
+    let ts = &tiles[..starts];
+    let at = l.rest;
     if recorded {
-        let same = compare_recorded(
-            text,
-            lent,
-            told,
-            s,
-            vedge,
-            hedge,
-            sqw,
-            sqh,
-            &qindex[..cells],
-            &mut plane[..samples],
-            &mut buffer[..bytes],
-            steps,
-        );
-        return tally::case(t, told.number, same);
+        return replay_recorded(text, at, s, vedge, hedge, sqw, sqh, q, ts, steps, t);
     }
-    let same = compare(
-        text,
-        lent,
-        told,
-        s,
-        vedge,
-        hedge,
-        sqw,
-        sqh,
-        &qindex[..cells],
-        &mut plane[..samples],
-        steps,
-    );
-    tally::case(t, told.number, same)
+    replay_plane(text, at, s, vedge, hedge, sqw, sqh, q, ts, steps, t)
 }
 
 // A line after its kind.
@@ -214,7 +264,7 @@ pub fn replay(text: &[u8], c: Cursor, steps: &[u32], recorded: bool, t: Tally) -
     let h = marks.b;
     let w = indices.a;
     let n = indices.b;
-    replay_samples(
+    replay_grid(
         text,
         indices.rest,
         asked.s,

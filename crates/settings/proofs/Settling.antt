@@ -72,11 +72,16 @@ module _ (xs : List ℕ) (c : Cursor) (list from end : ℕ) (s : Lists) (t : Tak
   unfolding takeOf inFlags pick
   take-flags l k e = rw k (ap (inFlags s) e)
 
-  pub take-offsets : (l : List ℤ) → (list ≡ 0 → ⊥) → (list ≡ 1 → ⊥) → (list ≡ 2 → ⊥) → (list ≡ 3 → ⊥)
-      → record { list = l; left = t } ≡ takenTo xs (readOffset xs) (s .offsets) from end c
+  pub take-offsets : (l : List ℤ) → list ≡ 4 → record { list = l; left = t } ≡ takenTo xs (readOffset xs) (s .offsets) from end c
       → record { lists = lists (s .numbers) (s .shorts) (s .steps) (s .flags) l; left = t } ≡ takeOf xs c list from end s
   unfolding takeOf inOffsets pick
-  take-offsets l k0 k1 k2 k3 e = rw (ne-eqb _ _ k0, ne-eqb _ _ k1, ne-eqb _ _ k2, ne-eqb _ _ k3) (ap (inOffsets s) e)
+  take-offsets l k e = rw k (ap (inOffsets s) e)
+
+  pub take-tiles : (l : List ℕ) → (list ≡ 0 → ⊥) → (list ≡ 1 → ⊥) → (list ≡ 2 → ⊥) → (list ≡ 3 → ⊥) → (list ≡ 4 → ⊥)
+      → record { list = l; left = t } ≡ takenTo xs (readUpTo 65535 xs) (s .shorts) from end c
+      → record { lists = lists (s .numbers) l (s .steps) (s .flags) (s .offsets); left = t } ≡ takeOf xs c list from end s
+  unfolding takeOf inShorts pick
+  take-tiles l k0 k1 k2 k3 k4 e = rw (ne-eqb _ _ k0, ne-eqb _ _ k1, ne-eqb _ _ k2, ne-eqb _ _ k3, ne-eqb _ _ k4) (ap (inShorts s) e)
 
 -- ---- the version
 
@@ -173,7 +178,7 @@ module _ (xs : List ℕ) (from end at : ℕ) (s : State) (walked : at ≡ seek (
   line-empty h = rw (← walked, eq-eqb _ _ h)
 
   module _ (w : Word) (k : ℕ) (some : (at ≡ end → ⊥)) (read : w ≡ wordAt xs at end) (known : k ≡ kindOf (w .value)) where
-    pub line-unknown : k ≡ 0 → record { state = s; answer = 21 } ≡ lineOf xs from end s
+    pub line-unknown : k ≡ 0 → record { state = s; answer = 23 } ≡ lineOf xs from end s
     unfolding lineOf inkedOf namedOf pick
     line-unknown h = rw (← walked, ne-eqb _ _ some, ← read, ← known, eq-eqb _ _ h)
 

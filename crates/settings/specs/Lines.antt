@@ -73,13 +73,14 @@ takeOf xs c list from end s =
     (pick (eqb list 1) (inShorts s (takenTo xs (readUpTo 65535 xs) (s .shorts) from end c))
     (pick (eqb list 2) (inSteps s (takenTo xs (readUpTo 4294967295 xs) (s .steps) from end c))
     (pick (eqb list 3) (inFlags s (takenTo xs (readUpTo 1 xs) (s .flags) from end c))
-    (inOffsets s (takenTo xs (readOffset xs) (s .offsets) from end c)))))
+    (pick (eqb list 4) (inOffsets s (takenTo xs (readOffset xs) (s .offsets) from end c))
+    (inShorts s (takenTo xs (readUpTo 65535 xs) (s .shorts) from end c))))))
 
 -- ---- whether they are as they should be
 
--- signed numbers stand at places of their own, so that a line replaces the one before; others go on after those before them
+-- signed numbers and tile starts stand at places of their own, so that a line replaces the one before; others go on after those before them
 unfoldable pub startOf : ℕ → ℕ → ℕ → ℕ
-startOf list from place = pick (eqb list 0) from place
+startOf list from place = pick (eqb list 0) from (pick (eqb list 5) from place)
 
 -- every number was there, the line was read to its end, and it had as many as it should; 0 stands for any, but at least one
 unfoldable pub wholeOf : Taken → ℕ → ℕ → Bool
@@ -149,9 +150,9 @@ tooSoon kind first = both (not (eqb kind 1)) (eqb first 0)
 unfoldable pub settingOf : List ℕ → ℕ → ℕ → ℕ → State → Said
 settingOf xs at end kind s = pick (tooSoon kind (getD (s .places) 1 0)) (record { state = s; answer = 1 }) (fillOf xs at end kind s)
 
--- 21 stands for any name
+-- 23 stands for any name
 unfoldable pub namedOf : List ℕ → ℕ → Word → State → Said
-namedOf xs end w s = pick (eqb (kindOf (w .value)) 0) (record { state = s; answer = 21 }) (settingOf xs (w .next) end (kindOf (w .value)) s)
+namedOf xs end w s = pick (eqb (kindOf (w .value)) 0) (record { state = s; answer = 23 }) (settingOf xs (w .next) end (kindOf (w .value)) s)
 
 -- from a first byte that is no space on; an empty line says nothing
 unfoldable pub inkedOf : List ℕ → ℕ → ℕ → State → Said

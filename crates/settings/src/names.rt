@@ -5,8 +5,8 @@ ghost use Rattle.settings.specs.Names.{kindOf};
 ghost use Rattle.settings.specs.Rules.{leafRoom, ruleOf, firstPlaces};
 use laws::least;
 
-// Which list the numbers go to: 0 signed numbers, 1 short ones, 2 steps, 3 flags, 4 offsets; the first place and the one after the last;
-// and how many numbers a line has, 0 for any.
+// Which list the numbers go to: 0 signed numbers, 1 short ones, 2 steps, 3 flags, 4 offsets, 5 short ones of a setting of one line; the first place and the one
+// after the last; and how many numbers a line has, 0 for any.
 pub struct Rule {
     pub list: usize,
     pub from: usize,
@@ -16,7 +16,7 @@ pub struct Rule {
 
 // The number of a name, 0 for none.
 pub fn kind(name: usize) -> usize
-    ensures { λ r. ⌜ (r ≡ kindOf name) × (r ≤ 20) ⌝ }
+    ensures { λ r. ⌜ (r ≡ kindOf name) × (r ≤ 22) ⌝ }
 {
     match name {
         // settings
@@ -59,6 +59,10 @@ pub fn kind(name: usize) -> usize
         8027216031643885429 => 19,
         // offset_v
         8027216031643885430 => 20,
+        // tiles_y
+        32767011577880441 => 21,
+        // tiles_uv
+        8388354963937391990 => 22,
         _ => 0,
     }
 }
@@ -77,12 +81,12 @@ fn put(list: usize, from: usize, end: usize, each: usize) -> Rule
 
 // How many of n short numbers each sort of leaves has room for.
 pub fn leaf_room(n: usize) -> usize
-    ensures { λ r. ⌜ (r ≡ leafRoom n) × (r ≤ 4194304) × (3 * r ≤ n - 4096) ⌝ }
+    ensures { λ r. ⌜ (r ≡ leafRoom n) × (r ≤ 4194304) × (3 * r ≤ n - 6142) ⌝ }
 {
-    if n < 4096 {
+    if n < 6142 {
         return 0;
     }
-    least((n - 4096) / 3, 4194304)
+    least((n - 6142) / 3, 4194304)
 }
 
 // Where the numbers of a kind go, where there are n short ones.
@@ -92,13 +96,15 @@ pub fn rule_of(kind: usize, n: usize) -> Rule
     let room = leaf_room(n);
     let chroma = 4096 + room;
     let skips = chroma + room;
+    let tiles = skips + room;
+    let chromatiles = tiles + 1023;
     match kind {
         1 => put(0, 0, 1, 1),
         2 => put(1, 0, 4096, 0),
         3 => put(2, 0, 352, 0),
         4 => put(1, 4096, chroma, 4),
         5 => put(1, chroma, skips, 4),
-        6 => put(1, skips, skips + room, 4),
+        6 => put(1, skips, tiles, 4),
         7 => put(0, 1, 2, 1),
         8 => put(0, 2, 3, 1),
         9 => put(0, 3, 5, 2),
@@ -113,17 +119,19 @@ pub fn rule_of(kind: usize, n: usize) -> Rule
         18 => put(4, 0, 128, 0),
         19 => put(4, 128, 256, 0),
         20 => put(4, 256, 384, 0),
+        21 => put(5, tiles, chromatiles, 0),
+        22 => put(5, chromatiles, chromatiles + 1023, 0),
         _ => put(0, 0, 0, 0),
     }
 }
 
 // The first place of each kind, where there are n short numbers; as numbers are read it moves to the place after the last one.
-pub fn first_places(n: usize) -> [usize; 21]
+pub fn first_places(n: usize) -> [usize; 23]
     ensures { λ r. ⌜ r ≡ firstPlaces n ⌝ }
 {
-    let mut places: [usize; 21] = [0; 21];
+    let mut places: [usize; 23] = [0; 23];
     let mut kind = 0;
-    while kind < 21 {
+    while kind < 23 {
         let rule = rule_of(kind, n);
         places[kind] = rule.from;
         kind += 1;

@@ -6,12 +6,11 @@ use crate::steps::df_quant_from_qindex;
 use rules::depth::Depth;
 ghost use mathlib.Core.Path.{_≡_};
 ghost use mathlib.Core.Bool.{true};
-ghost use Prim.Native.Nat.{_/_, _%_, min};
-ghost use lib.ListN.{getD};
+ghost use Prim.Native.Nat.{_/_, _%_};
 ghost use Rattle.rules.specs.declared.refusals.Answer.the-variants.{Accepted};
 ghost use Rattle.rules.specs.Numbers.{depthOk, deltaOk};
 ghost use Rattle.rules.specs.Thresholds.{bothOf, stepsCheck};
-ghost use Rattle.thresholds.specs.ByQindex.{packedOf, lastQindex, ByQindex};
+ghost use Rattle.thresholds.specs.ByQindex.{packedOf, ByQindex};
 
 // Both thresholds of a block, packed.
 fn packed(qindex: u16, deltaq: i32, deltaside: i32, depth: Depth, steps: &[u32]) -> u32
@@ -33,14 +32,6 @@ pub fn thresholds_by_qindex(deltaq: i32, deltaside: i32, depth: Depth, steps: &[
         table[k] = packed(k as u16, deltaq, deltaside, depth, steps);
     }
     table
-}
-
-// A block's entry.
-pub fn entry(table: &[u32; 1416], qindex: u16) -> u32
-    ensures { λ r. ⌜ r ≡ getD (now (table .entry)) (min qindex lastQindex) 0 ⌝ }
-{
-    let k = qindex as usize;
-    if k < 1415 { table[k] } else { table[1415] }
 }
 
 // The q threshold of an edge from its two blocks' entries.

@@ -1,5 +1,5 @@
 -- `lists_of` limits each end. Assumes nothing.
-use Rattle.asked.proofs.Listing.{listing}
+use Rattle.asked.proofs.Listing.{listing, within-shared}
 use borrow.Author.Needs.{needs}
 use Rattle.asked.proofs.lists.lists_of.Statement.{statement}
 use Rattle.asked.proofs.lists.lists_of.Tie as tie
@@ -25,17 +25,39 @@ shared-slice-read-limit-2 c = search needs
 limit-requires-2 : tie.Need-limit-requires-2
 limit-requires-2 c κs = tt
 
+add-tiles : tie.Need-add-tiles
+add-tiles c = search needs
+
+add-chromatiles : tie.Need-add-chromatiles
+add-chromatiles c = search needs
+
 shared-slice-read-limit-3 : tie.Need-shared-slice-read-limit-3
 shared-slice-read-limit-3 c = search needs
-
-add-limit : tie.Need-add-limit
-add-limit c = search needs
 
 limit-requires-3 : tie.Need-limit-requires-3
 limit-requires-3 c κs = tt
 
+shared-slice-read-limit-4 : tie.Need-shared-slice-read-limit-4
+shared-slice-read-limit-4 c = search needs
+
+limit-requires-4 : tie.Need-limit-requires-4
+limit-requires-4 c κs = tt
+
+shared-slice-read-limit-5 : tie.Need-shared-slice-read-limit-5
+shared-slice-read-limit-5 c = search needs
+
+add-limit : tie.Need-add-limit
+add-limit c = search needs
+
+limit-requires-5 : tie.Need-limit-requires-5
+limit-requires-5 c κs = tt
+
 returns : tie.Need-returns
-returns c = (search listing, search listing)
+returns c =
+    let s = c .before .before .before .before .before in
+    let l = s .before .before .before .before in
+    let r = l .before .before in
+    (search listing, within-shared _ _ _ _ _ _ _ _ _ _ (r .before .before .pre .1) (r .leaf-room .ensures .2) (l .limit .ensures) (s .limit3 .ensures) (c .before .before .before .limit4 .ensures) (c .before .limit5 .ensures))
 
 returns-2 : tie.Need-returns-2
 returns-2 c = (search listing, search listing)
@@ -51,8 +73,14 @@ lists-of-spec =
     limit-requires
     shared-slice-read-limit-2
     limit-requires-2
+    add-tiles
+    add-chromatiles
     shared-slice-read-limit-3
-    add-limit
     limit-requires-3
+    shared-slice-read-limit-4
+    limit-requires-4
+    shared-slice-read-limit-5
+    add-limit
+    limit-requires-5
     returns
     returns-2)

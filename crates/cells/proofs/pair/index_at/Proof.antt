@@ -44,7 +44,7 @@ capped-requires c κs = search places
 
 returns : tie.Need-returns
 unfolding indexAt
-returns c = (cc (indices-one (c .before .before .before .before .before .before .before .before .before .before .before .args .dir) [] (c .before .before .before .before .before .before .before .before .before .before .before .args .sizes .now) []), search places)
+returns c = (cc (indices-one (c .before .before .before .before .before .before .before .before .before .before .before .args .dir) [] (c .before .before .before .before .before .before .before .before .before .before .before .args .sizes .now) [] []), search places)
 
 pub index-at-spec : {M : Type 1} → statement M
 index-at-spec =

@@ -4,6 +4,9 @@ use Rattle.laws.specs.Choose.{tests}
 use Rattle.cells.proofs.pair.shortened_at.Statement.{statement}
 use Rattle.cells.proofs.pair.shortened_at.Tie as tie
 
+starts-tile-requires : tie.Need-starts-tile-requires
+starts-tile-requires c κs = search tests
+
 returns : tie.Need-returns
 unfolding shortenedAt
 returns c = search tests
@@ -16,4 +19,4 @@ unfolding shortenedAt
 returns-2 c = search tests
 
 pub shortened-at-spec : {M : Type 1} → statement M
-shortened-at-spec = tie.close (tie.spec returns rem-result returns-2)
+shortened-at-spec = tie.close (tie.spec starts-tile-requires returns rem-result returns-2)

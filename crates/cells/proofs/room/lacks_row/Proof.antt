@@ -11,7 +11,7 @@ use Rattle.cells.proofs.room.lacks_row.Statement.{statement}
 use Rattle.cells.proofs.room.lacks_row.Tie as tie
 
 abbrev Inv-loop : tie.InvT-loop
-Inv-loop hedge sqh s r cols c₀ c = (c ≤ cols) × (first c (λ k. lacksRoom s (oneWay hedge sqh []) 1 r k) ≡ Nothing)
+Inv-loop hedge sqh s r cols c₀ c = (c ≤ cols) × (first c (λ k. lacksRoom s (oneWay hedge sqh [] []) 1 r k) ≡ Nothing)
 
 abbrev μ-loop : tie.MeasureT-loop
 μ-loop hedge sqh s r cols c₀ c = cols - c
@@ -19,8 +19,8 @@ abbrev μ-loop : tie.MeasureT-loop
 loop-holds : tie.Need-loop-holds Inv-loop μ-loop
 loop-holds c = search firsts
 
-lacks-room-requires : tie.Need-lacks-room-requires Inv-loop μ-loop
-lacks-room-requires c κs = search firsts
+lacks-above-requires : tie.Need-lacks-above-requires Inv-loop μ-loop
+lacks-above-requires c κs = search firsts
 
 enum-known-f : tie.Need-enum-known-f Inv-loop μ-loop
 enum-known-f c = search firsts
@@ -52,7 +52,7 @@ lacks-row-spec =
     Inv-loop
     μ-loop
     loop-holds
-    lacks-room-requires
+    lacks-above-requires
     enum-known-f
     returns
     enum-told

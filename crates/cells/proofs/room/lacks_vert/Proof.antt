@@ -11,10 +11,10 @@ use Rattle.cells.proofs.room.lacks_vert.Statement.{statement}
 use Rattle.cells.proofs.room.lacks_vert.Tie as tie
 
 abbrev Inv-loop : tie.InvT-loop
-Inv-loop vedge sqw s rows r₀ r = (r ≤ rows) × (first r (λ k. lacksRow s (oneWay vedge sqw []) 0 k) ≡ Nothing)
+Inv-loop vedge sqw tiles s rows r₀ r = (r ≤ rows) × (first r (λ k. lacksRow s (oneWay vedge sqw [] tiles) 0 k) ≡ Nothing)
 
 abbrev μ-loop : tie.MeasureT-loop
-μ-loop vedge sqw s rows r₀ r = rows - r
+μ-loop vedge sqw tiles s rows r₀ r = rows - r
 
 loop-holds : tie.Need-loop-holds Inv-loop μ-loop
 loop-holds c = search firsts

@@ -14,30 +14,30 @@ mul-if1-2 c = search sizing
 
 returns : tie.Need-returns
 unfolding planeLengthsOk
-returns c = all-bad _ _ (search tests)
+returns c = λ ts. all-bad _ _ (search tests)
 
 mul-cells : tie.Need-mul-cells
 mul-cells c = search sizing
 
 returns-2 : tie.Need-returns-2
 unfolding planeLengthsOk
-returns-2 c = all-ok _ _ _ (search tests) (all-bad _ _ (search tests))
+returns-2 c = λ ts. all-ok _ _ _ (search tests) (all-bad _ _ (search tests))
 
 returns-3 : tie.Need-returns-3
 unfolding planeLengthsOk
-returns-3 c = all-ok _ _ _ (search tests) (all-ok _ _ _ (search tests) (all-bad _ _ (search tests)))
+returns-3 c = λ ts. all-ok _ _ _ (search tests) (all-ok _ _ _ (search tests) (all-bad _ _ (search tests)))
 
 returns-4 : tie.Need-returns-4
 unfolding planeLengthsOk
-returns-4 c = all-ok _ _ _ (search tests) (all-ok _ _ _ (search tests) (all-ok _ _ _ (search tests) (all-bad _ _ (search tests))))
+returns-4 c = λ ts. all-ok _ _ _ (search tests) (all-ok _ _ _ (search tests) (all-ok _ _ _ (search tests) (all-bad _ _ (search tests))))
 
 returns-5 : tie.Need-returns-5
 unfolding planeLengthsOk
-returns-5 c = all-ok _ _ _ (search tests) (all-ok _ _ _ (search tests) (all-ok _ _ _ (search tests) (all-ok _ _ _ (search tests) (all-bad _ _ (search tests)))))
+returns-5 c = λ ts. all-ok _ _ _ (search tests) (all-ok _ _ _ (search tests) (all-ok _ _ _ (search tests) (all-ok _ _ _ (search tests) (all-bad _ _ (search tests)))))
 
 returns-6 : tie.Need-returns-6
 unfolding planeLengthsOk
-returns-6 c = all-ok _ _ _ (search tests) (all-ok _ _ _ (search tests) (all-ok _ _ _ (search tests) (all-ok _ _ _ (search tests) (all-ok _ _ _ (search tests) (all-last _ _ refl)))))
+returns-6 c = λ ts. all-ok _ _ _ (search tests) (all-ok _ _ _ (search tests) (all-ok _ _ _ (search tests) (all-ok _ _ _ (search tests) (all-ok _ _ _ (search tests) (all-last _ _ refl)))))
 
 pub lengths-ok-spec : {M : Type 1} → statement M
 lengths-ok-spec =

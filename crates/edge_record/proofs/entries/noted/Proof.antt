@@ -72,7 +72,7 @@ same-length c = search needs
 
 returns : tie.Need-returns
 returns c =
-    noted-by _ _ _ _ _ _ _ _
+    noted-by _ _ _ _ _ _ _ _ _
     (c .before .before .before .before .before .before .before .before .before .before .before .before .before .before .before .before .before .before .before .build-tx-grid .ensures .1)
     (c .before .before .before .before .before .before .before .before .before .before .before .before .before .build-qindex-grid .ensures .1)
     (c .before .before .before .before .before .before .before .before .before .before .before .before .before .before .before .before .before .before .before .before .before .before .before .before .before .before .before .before .marks .ensures)

@@ -16,6 +16,9 @@ steps-of-requires c κs = tt
 leaves-of-requires : tie.Need-leaves-of-requires
 leaves-of-requires c κs = search needs
 
+tiles-of-requires : tie.Need-tiles-of-requires
+tiles-of-requires c κs = search needs
+
 mul-noted : tie.Need-mul-noted
 mul-noted c = search needs
 
@@ -49,6 +52,9 @@ part-noted-start-3 c = search needs
 part-noted-end-3 : tie.Need-part-noted-end-3
 part-noted-end-3 c = search needs
 
+mul-noted-3 : tie.Need-mul-noted-3
+mul-noted-3 c = search needs
+
 sub-noted-4 : tie.Need-sub-noted-4
 sub-noted-4 c = search needs
 
@@ -58,14 +64,23 @@ part-noted-start-4 c = search needs
 part-noted-end-4 : tie.Need-part-noted-end-4
 part-noted-end-4 c = search needs
 
+sub-noted-5 : tie.Need-sub-noted-5
+sub-noted-5 c = search needs
+
+part-noted-start-5 : tie.Need-part-noted-start-5
+part-noted-start-5 c = search needs
+
+part-noted-end-5 : tie.Need-part-noted-end-5
+part-noted-end-5 c = search needs
+
 plane-of-requires : tie.Need-plane-of-requires
 plane-of-requires c κs = search needs
 
 tu-of-requires : tie.Need-tu-of-requires
-tu-of-requires c κs = search needs
+tu-of-requires c κs = c .before .before .before .before .before .before .before .before .before .before .before .before .before .before .before .before .pre .1
 
 q-of-requires : tie.Need-q-of-requires
-q-of-requires c κs = c .before .before .before .before .before .before .before .before .before .before .before .before .before .before .before .pre .1
+q-of-requires c κs = c .before .before .before .before .before .before .before .before .before .before .before .before .before .before .before .before .before .pre .1
 
 noted-requires : tie.Need-noted-requires
 noted-requires c κs = tt
@@ -79,11 +94,12 @@ returns c =
     let s1 = s0 .before in
     let s2 = s1 .before in
     let s3 = s2 .before in
-    let s4 = s3 .before .before .before .before .before .before in
+    let s4 = s3 .before .before .before .before .before .before .before in
     let s5 = s4 .before in
-    let s6 = s5 .before .before in
-    let s7 = s6 .before .before .before .before .before in
-    noted-so (s7 .args .f) (s7 .args .chroma) _ _ _ _ _ _ _ _ (s6 .lists-of .ensures .0) (s5 .steps-of .ensures .0) (s4 .leaves-of .ensures .1 .0) (s4 .leaves-of .ensures .1 .1) (s3 .plane-of .ensures) (s2 .tu-of .ensures) (s1 .q-of .ensures) (s0 .noted .ensures)
+    let s6 = s5 .before in
+    let s7 = s6 .before .before in
+    let s8 = s7 .before .before .before .before .before in
+    noted-so (s8 .args .f) (s8 .args .chroma) _ _ _ _ _ _ _ _ _ _ (s7 .lists-of .ensures .0) (s6 .steps-of .ensures .0) (s5 .leaves-of .ensures .1 .0) (s5 .leaves-of .ensures .1 .1) (s4 .tiles-of .ensures .1 .0) (s4 .tiles-of .ensures .1 .1) (s3 .plane-of .ensures) (s2 .tu-of .ensures) (s1 .q-of .ensures) (s0 .noted .ensures)
 
 pub record-of-spec : {M : Type 1} → statement M
 record-of-spec =
@@ -93,6 +109,7 @@ record-of-spec =
     shared-slice-read-steps-of
     steps-of-requires
     leaves-of-requires
+    tiles-of-requires
     mul-noted
     sub-noted
     part-noted-start
@@ -104,9 +121,13 @@ record-of-spec =
     sub-noted-3
     part-noted-start-3
     part-noted-end-3
+    mul-noted-3
     sub-noted-4
     part-noted-start-4
     part-noted-end-4
+    sub-noted-5
+    part-noted-start-5
+    part-noted-end-5
     plane-of-requires
     tu-of-requires
     q-of-requires

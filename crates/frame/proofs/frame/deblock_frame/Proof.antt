@@ -1,12 +1,18 @@
 -- `deblock_frame` at its ways out: refused early, and filtered by grids that are built. Assumes nothing.
 use mathlib.Core.Path.{refl, sym, _∙_}
 use mathlib.Core.List.{[]}
-use Rattle.frame.proofs.Given.{luma-sampled, u-sampled, v-sampled, luma-stepped, chroma-stepped, luma-built, chroma-built}
+use Rattle.frame.proofs.Given.{luma-sampled, u-sampled, v-sampled, luma-stepped, chroma-stepped, luma-starts, chroma-starts, luma-built, chroma-built}
 use Rattle.frame.proofs.Grids.{gridded}
 use Rattle.frame.proofs.Ways.{frame-refused, frame-built}
 use borrow.Author.Needs.{needs}
 use Rattle.frame.proofs.frame.deblock_frame.Statement.{statement}
 use Rattle.frame.proofs.frame.deblock_frame.Tie as tie
+
+grid-lengths-requires : tie.Need-grid-lengths-requires
+grid-lengths-requires c κs = search needs
+
+grid-lengths-requires-2 : tie.Need-grid-lengths-requires-2
+grid-lengths-requires-2 c κs = search needs
 
 frame-early-requires : tie.Need-frame-early-requires
 frame-early-requires c κs = search needs
@@ -14,8 +20,13 @@ frame-early-requires c κs = search needs
 enum-known-a : tie.Need-enum-known-a
 enum-known-a c = search needs
 
+refused-requires : tie.Need-refused-requires
+refused-requires c κs = search needs
+
 returns : tie.Need-returns
-returns c = frame-refused _ _ _ _ _ (c .before .before .before .frame-early .ensures _) (c .before .a .given .1)
+returns c =
+    let s0 = c .before .before .before .before in
+    rw (c .refused .ensures) (frame-refused _ _ _ _ _ (s0 .before .before .grid-lengths .ensures) (s0 .before .grid-lengths2 .ensures) (s0 .frame-early .ensures _) (c .before .before .a .given .1))
 
 enum-told : tie.Need-enum-told
 enum-told c = search needs
@@ -24,15 +35,17 @@ build-requires : tie.Need-build-requires
 build-requires c κs =
     let s0 = c .before .before .before .before .before in
     let s1 = s0 .before .before in
-    let ok = sym (s1 .frame-early .ensures []) ∙ s0 .enum-told .given .1 in
-    λ _. luma-built _ _ _ ok
+    let is = rw (s1 .before .before .grid-lengths .ensures, s1 .before .grid-lengths2 .ensures) at (s1 .frame-early .ensures []) in
+    let ok = sym is ∙ s0 .enum-told .given .1 in
+    λ _. luma-built _ _ _ _ _ ok
 
 build-requires-2 : tie.Need-build-requires-2
 build-requires-2 c κs =
     let s0 = c .before .before .before .before .before .before .before .before .before .before .before .before .before .before .before .before .before .before .before .before .before in
     let s1 = s0 .before .before in
-    let ok = sym (s1 .frame-early .ensures []) ∙ s0 .enum-told .given .1 in
-    chroma-built _ _ _ ok
+    let is = rw (s1 .before .before .grid-lengths .ensures, s1 .before .grid-lengths2 .ensures) at (s1 .frame-early .ensures []) in
+    let ok = sym is ∙ s0 .enum-told .given .1 in
+    chroma-built _ _ _ _ _ ok
 
 filter-requires : tie.Need-filter-requires
 filter-requires c κs =
@@ -40,15 +53,16 @@ filter-requires c κs =
     let s1 = s0 .before .before .before .before .before .before .before .before .before .before .before .before .before .before .before .before in
     let s2 = s1 .before .before .before .before .before .before in
     let s3 = s2 .before .before in
-    let ok = sym (s3 .frame-early .ensures []) ∙ s2 .enum-told .given .1 in
+    let is = rw (s3 .before .before .grid-lengths .ensures, s3 .before .grid-lengths2 .ensures) at (s3 .frame-early .ensures []) in
+    let ok = sym is ∙ s2 .enum-told .given .1 in
     let k = s1 .build .kept in
-    let luma = gridded _ _ (luma-sampled _ _ _ ok) (luma-built _ _ _ ok) (k .0) (k .1 .0) (k .1 .1 .0) (k .1 .1 .1 .0) (k .1 .1 .1 .1 .0) refl (s1 .build .ensures) in
+    let luma = gridded _ _ _ (luma-sampled _ _ _ _ _ ok) (luma-built _ _ _ _ _ ok) (k .0) (k .1 .0) (k .1 .1 .0) (k .1 .1 .1 .0) (k .1 .1 .1 .1 .0) refl (luma-starts _ _ _ _ _ ok) (s1 .build .ensures _) in
     let k = s0 .build2 .kept in (
-      (luma-stepped _ _ _ ok, luma),
+      (luma-stepped _ _ _ _ _ ok, luma),
       λ on. (
-        chroma-stepped _ _ _ ok,
-        gridded _ _ (u-sampled _ _ _ ok on) (chroma-built _ _ _ ok on) (k .0) (k .1 .0) (k .1 .1 .0) (k .1 .1 .1 .0) (k .1 .1 .1 .1 .0) on (s0 .build2 .ensures),
-        gridded _ _ (v-sampled _ _ _ ok on) (chroma-built _ _ _ ok on) (k .0) (k .1 .0) (k .1 .1 .0) (k .1 .1 .1 .0) (k .1 .1 .1 .1 .0) on (s0 .build2 .ensures),
+        chroma-stepped _ _ _ _ _ ok,
+        gridded _ _ _ (u-sampled _ _ _ _ _ ok on) (chroma-built _ _ _ _ _ ok on) (k .0) (k .1 .0) (k .1 .1 .0) (k .1 .1 .1 .0) (k .1 .1 .1 .1 .0) on (chroma-starts _ _ _ _ _ ok on) (s0 .build2 .ensures _),
+        gridded _ _ _ (v-sampled _ _ _ _ _ ok on) (chroma-built _ _ _ _ _ ok on) (k .0) (k .1 .0) (k .1 .1 .0) (k .1 .1 .1 .0) (k .1 .1 .1 .1 .0) on (chroma-starts _ _ _ _ _ ok on) (s0 .build2 .ensures _),
       ),
     )
 
@@ -129,7 +143,7 @@ returns-2 c =
     let s2 = s1 .before .before .before .before .before .before .before .before .before .before .before .before .before .before .before .before in
     let s3 = s2 .before .before .before .before .before .before in
     let s4 = s3 .before .before in
-    frame-built _ _ _ _ _ (s4 .frame-early .ensures _) (s3 .enum-told .given .1) (s2 .build .ensures) (s1 .build2 .ensures) (s0 .filter .ensures)
+    frame-built _ _ _ _ _ (s4 .before .before .grid-lengths .ensures) (s4 .before .grid-lengths2 .ensures) (s4 .frame-early .ensures _) (s3 .enum-told .given .1) (s2 .build .ensures _) (s1 .build2 .ensures _) (s0 .filter .ensures)
 
 pub deblock-frame-spec : {M : Type 1} → statement M
-deblock-frame-spec = tie.close (tie.spec frame-early-requires enum-known-a returns enum-told build-requires build-requires-2 filter-requires same-length same-length-2 same-length-3 same-length-4 same-length-5 same-length-6 same-length-7 same-length-8 same-length-9 same-length-10 same-length-11 same-length-12 same-length-13 returns-2)
+deblock-frame-spec = tie.close (tie.spec grid-lengths-requires grid-lengths-requires-2 frame-early-requires enum-known-a refused-requires returns enum-told build-requires build-requires-2 filter-requires same-length same-length-2 same-length-3 same-length-4 same-length-5 same-length-6 same-length-7 same-length-8 same-length-9 same-length-10 same-length-11 same-length-12 same-length-13 returns-2)

@@ -1,6 +1,7 @@
 -- `frame_early` is the checks 1, 2, 3, then 4, 5, 9. Assumes nothing.
 use Rattle.rules.specs.Frame.{frameEarly}
 use Rattle.scan.proofs.Checks.{stop-by, go-on-by}
+use Rattle.frame_checks.proofs.Accepted.{shape-sized}
 use borrow.Author.Needs.{needs}
 use Rattle.frame_checks.proofs.early.frame_early.Statement.{statement}
 use Rattle.frame_checks.proofs.early.frame_early.Tie as tie
@@ -19,7 +20,7 @@ enum-told : tie.Need-enum-told
 enum-told c = search needs
 
 frame-given-requires : tie.Need-frame-given-requires
-frame-given-requires c κs = search needs
+frame-given-requires c κs = shape-sized _ _ (c .before .before .frame-shape .ensures) (c .enum-told .given .1)
 
 returns-2 : tie.Need-returns-2
 unfolding frameEarly

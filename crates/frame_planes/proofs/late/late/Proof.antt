@@ -7,7 +7,7 @@ use Rattle.frame_planes.proofs.late.late.Statement.{statement}
 use Rattle.frame_planes.proofs.late.late.Tie as tie
 
 room-requires : tie.Need-room-requires
-room-requires c κs = λ _. c .before .before .before .before .before .before .before .before .before .before .before .pre .1 .0
+room-requires c κs = λ _. c .before .before .before .before .before .before .before .before .before .before .before .before .before .pre .1 .0
 
 enum-known-a : tie.Need-enum-known-a
 enum-known-a c = search needs
@@ -19,7 +19,7 @@ enum-told : tie.Need-enum-told
 enum-told c = search needs
 
 room-requires-2 : tie.Need-room-requires-2
-room-requires-2 c κs = c .before .before .before .before .before .before .before .before .before .before .before .before .before .before .pre .1 .1
+room-requires-2 c κs = c .before .before .before .before .before .before .before .before .before .before .before .before .before .before .before .before .pre .1 .1
 
 enum-known-b : tie.Need-enum-known-b
 enum-known-b c = search needs
@@ -31,7 +31,7 @@ enum-told-2 : tie.Need-enum-told-2
 enum-told-2 c = search needs
 
 overs-requires : tie.Need-overs-requires
-overs-requires c κs = c .before .before .before .before .before .before .before .before .before .before .before .before .before .before .before .before .before .pre .0
+overs-requires c κs = c .before .before .before .before .before .before .before .before .before .before .before .before .before .before .before .before .before .before .before .pre .0
 
 returns-3 : tie.Need-returns-3
 returns-3 c =

@@ -14,11 +14,11 @@ returns : tie.Need-returns
 returns c = λ q. only-no _ _ (told-no-not _ _ (c .before .kind-on .ensures) (c .if1 .taken))
 
 plane-of-requires : tie.Need-plane-of-requires
-plane-of-requires c κs = c .before .before .before .before .before .before .pre (sym (told-yes-not _ _ (c .before .kind-on .ensures) (c .if1 .left))) .sized
+plane-of-requires c κs = c .before .before .before .before .before .before .before .pre (sym (told-yes-not _ _ (c .before .kind-on .ensures) (c .if1 .left))) .sized
 
 no-room-requires : tie.Need-no-room-requires
 no-room-requires c κs =
-    let p = c .before .before .before .before .before .before .before .pre (sym (told-yes-not _ _ (c .before .before .kind-on .ensures) (c .before .if1 .left))) in
+    let p = c .before .before .before .before .before .before .before .before .pre (sym (told-yes-not _ _ (c .before .before .kind-on .ensures) (c .before .if1 .left))) in
     rw (c .plane-of .ensures) (p .vert, p .horz)
 
 enum-known-bad : tie.Need-enum-known-bad

@@ -67,6 +67,30 @@ part-deblock-given-start-5 c = search needs
 part-deblock-given-end-5 : tie.Need-part-deblock-given-end-5
 part-deblock-given-end-5 c = search needs
 
+mul-deblock-given-4 : tie.Need-mul-deblock-given-4
+mul-deblock-given-4 c = search needs
+
+sub-deblock-given-6 : tie.Need-sub-deblock-given-6
+sub-deblock-given-6 c = search needs
+
+part-deblock-given-start-6 : tie.Need-part-deblock-given-start-6
+part-deblock-given-start-6 c = search needs
+
+part-deblock-given-end-6 : tie.Need-part-deblock-given-end-6
+part-deblock-given-end-6 c = search needs
+
+mul-deblock-given-5 : tie.Need-mul-deblock-given-5
+mul-deblock-given-5 c = search needs
+
+sub-deblock-given-7 : tie.Need-sub-deblock-given-7
+sub-deblock-given-7 c = search needs
+
+part-deblock-given-start-7 : tie.Need-part-deblock-given-start-7
+part-deblock-given-start-7 c = search needs
+
+part-deblock-given-end-7 : tie.Need-part-deblock-given-end-7
+part-deblock-given-end-7 c = search needs
+
 deblock-given-requires : tie.Need-deblock-given-requires
 deblock-given-requires c κs = tt
 
@@ -107,6 +131,14 @@ deblock-asked-spec =
     sub-deblock-given-5
     part-deblock-given-start-5
     part-deblock-given-end-5
+    mul-deblock-given-4
+    sub-deblock-given-6
+    part-deblock-given-start-6
+    part-deblock-given-end-6
+    mul-deblock-given-5
+    sub-deblock-given-7
+    part-deblock-given-start-7
+    part-deblock-given-end-7
     deblock-given-requires
     same-length
     same-length-2

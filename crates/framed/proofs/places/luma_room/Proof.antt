@@ -1,10 +1,10 @@
 -- `luma_room` asks luma's grid, built over zeros, for room. Assumes nothing.
 use mathlib.Core.Path.{refl, ap, _∙_}
-use mathlib.Core.List.{List}
+use mathlib.Core.List.{List, []}
 use Prim.Native.Nat.{ℕ}
 use lib.ListN.{length}
 use Rattle.frame.proofs.Grids.{gridded, marked}
-use Rattle.framed.proofs.Zeroed.{luma-room-is}
+use Rattle.framed.proofs.Zeroed.{one-tile, luma-room-is}
 use borrow.Author.Needs.{needs}
 use Rattle.framed.proofs.places.luma_room.Statement.{statement}
 use Rattle.framed.proofs.places.luma_room.Tie as tie
@@ -46,7 +46,7 @@ build-requires c κs =
     let s2 = s1 .before in
     let s3 = s2 .before in
     let s4 = s3 .before in
-    let s5 = s4 .before .before .before .before in
+    let s5 = s4 .before .before .before .before .before in
     λ _. rw (s4 .marks .ensures, s3 .marks2 .ensures, s2 .marks3 .ensures, s1 .marks4 .ensures, s0 .indices .ensures) (s5 .pre .built)
 
 slice-aggregate-room : tie.Need-slice-aggregate-room
@@ -69,16 +69,16 @@ room-requires c κs =
     let s3 = s2 .before in
     let s4 = s3 .before in
     let s5 = s4 .before in
-    let s6 = s5 .before .before .before .before in
+    let s6 = s5 .before .before .before .before .before in
     let k = s0 .build .kept in
     λ _. marked
-    (gridded _ _ (s6 .pre .sampled) (s6 .pre .built)
+    (gridded _ _ [] (s6 .pre .sampled) (s6 .pre .built)
     (k .0 ∙ ap (λ (x : List ℕ). length x) (s5 .marks .ensures))
     (k .1 .0 ∙ ap (λ (x : List ℕ). length x) (s4 .marks2 .ensures))
     (k .1 .1 .0 ∙ ap (λ (x : List ℕ). length x) (s3 .marks3 .ensures))
     (k .1 .1 .1 .0 ∙ ap (λ (x : List ℕ). length x) (s2 .marks4 .ensures))
     (k .1 .1 .1 .1 .0 ∙ ap (λ (x : List ℕ). length x) (s1 .indices .ensures))
-    refl (s0 .build .ensures))
+    refl (one-tile _) (s0 .build .ensures []))
 
 returns : tie.Need-returns
 returns c =
@@ -88,7 +88,7 @@ returns c =
     let s3 = s2 .before in
     let s4 = s3 .before in
     let s5 = s4 .before in
-    luma-room-is _ _ _ _ (λ p. c .room .ensures p) (s0 .build .ensures) (s5 .marks .ensures) (s4 .marks2 .ensures) (s3 .marks3 .ensures) (s2 .marks4 .ensures) (s1 .indices .ensures)
+    luma-room-is _ _ _ _ _ (λ p. c .room .ensures p) (s0 .build .ensures _) (s5 .marks .ensures) (s4 .marks2 .ensures) (s3 .marks3 .ensures) (s2 .marks4 .ensures) (s1 .indices .ensures)
 
 pub luma-room-spec : {M : Type 1} → statement M
 luma-room-spec =

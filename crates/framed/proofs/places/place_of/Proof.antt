@@ -15,7 +15,7 @@ enum-known-r-2 c = search needs
 
 room-at-requires : tie.Need-room-at-requires
 room-at-requires c κs =
-    let s0 = c .before .before .before .before .before .before .before .before .before in
+    let s0 = c .before .before .before .before .before .before .before .before .before .before in
     s0 .pre _ (c .before .r2 .given .1)
 
 enum-known-r-3 : tie.Need-enum-known-r-3
@@ -85,28 +85,28 @@ at-requires-10 : tie.Need-at-requires-10
 at-requires-10 c κs = tt
 
 returns : tie.Need-returns
-returns c = λ s v. at-sample _ _ _ _ (c .before .before .r .given .1) (c .sample-place .ensures)
+returns c = λ s v. at-sample _ _ _ _ _ (c .before .before .r .given .1) (c .sample-place .ensures)
 
 returns-2 : tie.Need-returns-2
-returns-2 c = λ s v. at-room _ _ _ _ (c .before .before .r2 .given .1) (c .room-at .ensures)
+returns-2 c = λ s v. at-room _ _ _ _ _ (c .before .before .r2 .given .1) (c .room-at .ensures)
 
 returns-3 : tie.Need-returns-3
-returns-3 c = λ s v. at-leaf _ _ _ _ (c .before .before .r3 .given .1) (c .leaves-place .ensures)
+returns-3 c = λ s v. at-leaf _ _ _ _ _ (c .before .before .r3 .given .1) (c .leaves-place .ensures)
 
 returns-4 : tie.Need-returns-4
-returns-4 c = λ s v. at-step _ _ _ _ (c .before .before .r4 .given .1) (c .at .ensures)
+returns-4 c = λ s v. at-step _ _ _ _ _ (c .before .before .r4 .given .1) (c .at .ensures)
 
 returns-5 : tie.Need-returns-5
-returns-5 c = λ s v. of-depth _ _ _ _ (c .before .enum-told .given .1) (c .at2 .ensures)
+returns-5 c = λ s v. of-depth _ _ _ _ _ (c .before .enum-told .given .1) (c .at2 .ensures)
 
 returns-6 : tie.Need-returns-6
-returns-6 c = λ s v. of-size _ _ _ _ (c .before .enum-told2 .given .1) (c .at3 .ensures)
+returns-6 c = λ s v. of-size _ _ _ _ _ (c .before .enum-told2 .given .1) (c .at3 .ensures)
 
 returns-7 : tie.Need-returns-7
-returns-7 c = λ s v. of-length _ _ _ _ (c .before .enum-told3 .given .1) (c .at4 .ensures)
+returns-7 c = λ s v. of-length _ _ _ _ _ (c .before .enum-told3 .given .1) (c .at4 .ensures)
 
 returns-8 : tie.Need-returns-8
-returns-8 c = λ s v. of-setting _ _ _ _ (c .before .enum-told4 .given .1) (c .at5 .ensures)
+returns-8 c = λ s v. of-setting _ _ _ _ _ (c .before .enum-told4 .given .1) (c .at5 .ensures)
 
 returns-9 : tie.Need-returns-9
 returns-9 c = λ s v. search refusing

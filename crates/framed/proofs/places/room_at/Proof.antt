@@ -5,7 +5,7 @@ use Rattle.framed.proofs.places.room_at.Statement.{statement}
 use Rattle.framed.proofs.places.room_at.Tie as tie
 
 luma-room-requires : tie.Need-luma-room-requires
-luma-room-requires c κs = c .before .before .before .pre
+luma-room-requires c κs = c .before .before .before .before .pre
 
 enum-told : tie.Need-enum-told
 enum-told c = search needs

@@ -1,4 +1,5 @@
 -- `plane_check` meets its contract. Assumes nothing.
+use mathlib.Core.List.{[]}
 use mir.Syntax.{w32}
 use mir.Facts.{toZ-ofZ}
 use borrow.Author.Needs.{needs}
@@ -30,7 +31,7 @@ lengths-ok-requires c κs = sizes-by _ _ (c .before .sizes-ok .ensures) (c .if2 
 
 returns-3 : tie.Need-returns-3
 unfolding planeCheck
-returns-3 c = go-on _ _ _ (unless-good _ _ (told-yes-not _ _ (c .before .before .before .before .before .is .ensures) (c .before .before .before .before .if1 .left))) (go-on _ _ _ (unless-good _ _ (told-yes-not _ _ (c .before .before .before .sizes-ok .ensures) (c .before .before .if2 .left))) (stop _ _ (unless-bad _ _ (told-no-not _ _ (c .before .lengths-ok .ensures) (c .if3 .taken)))))
+returns-3 c = go-on _ _ _ (unless-good _ _ (told-yes-not _ _ (c .before .before .before .before .before .is .ensures) (c .before .before .before .before .if1 .left))) (go-on _ _ _ (unless-good _ _ (told-yes-not _ _ (c .before .before .before .sizes-ok .ensures) (c .before .before .if2 .left))) (stop _ _ (unless-bad _ _ (told-no-not _ _ (c .before .lengths-ok .ensures _) (c .if3 .taken)))))
 
 steps-check-requires : tie.Need-steps-check-requires
 steps-check-requires c κs = search needs
@@ -45,7 +46,7 @@ returns-4 c =
     (unless-good _ _ (told-yes-not _ _ (c .before .before .before .before .before .before .before .before .before .is .ensures) (c .before .before .before .before .before .before .before .before .if1 .left)))
     (go-on _ _ _
     (unless-good _ _ (told-yes-not _ _ (c .before .before .before .before .before .before .before .sizes-ok .ensures) (c .before .before .before .before .before .before .if2 .left)))
-    (go-on _ _ _ (unless-good _ _ (told-yes-not _ _ (c .before .before .before .before .before .lengths-ok .ensures) (c .before .before .before .before .if3 .left))) (stop-by _ _ _ (c .before .before .before .steps-check .ensures) (search needs))))
+    (go-on _ _ _ (unless-good _ _ (told-yes-not _ _ (c .before .before .before .before .before .lengths-ok .ensures _) (c .before .before .before .before .if3 .left))) (stop-by _ _ _ (c .before .before .before .steps-check .ensures) (search needs))))
 
 enum-told : tie.Need-enum-told
 enum-told c = search needs
@@ -64,13 +65,13 @@ returns-5 c =
     (go-on _ _ _
     (unless-good _ _ (told-yes-not _ _ (c .before .before .before .before .before .before .before .before .before .before .before .before .sizes-ok .ensures) (c .before .before .before .before .before .before .before .before .before .before .before .if2 .left)))
     (go-on _ _ _
-    (unless-good _ _ (told-yes-not _ _ (c .before .before .before .before .before .before .before .before .before .before .lengths-ok .ensures) (c .before .before .before .before .before .before .before .before .before .if3 .left)))
+    (unless-good _ _ (told-yes-not _ _ (c .before .before .before .before .before .before .before .before .before .before .lengths-ok .ensures _) (c .before .before .before .before .before .before .before .before .before .if3 .left)))
     (go-on _ _ _
     (accepted-by _ _ (c .before .before .before .before .before .before .before .before .steps-check .ensures) (search needs))
     (stop-by _ _ _
     (rw (
-      toZ-ofZ {w = w32} {z = c .before .before .before .before .before .before .before .before .before .before .before .before .before .before .before .before .before .before .before .before .before .before .args .s .deltaq} (record { sfits = c .before .before .before .before .struct-told2 .given .1 .1 .1 .1 .1 .1 .1 .1 .1 .0 .1 }),
-      toZ-ofZ {w = w32} {z = c .before .before .before .before .before .before .before .before .before .before .before .before .before .before .before .before .before .before .before .before .before .before .args .s .deltaside} (record { sfits = c .before .before .before .before .struct-told2 .given .1 .1 .1 .1 .1 .1 .1 .1 .1 .1 .0 .1 }),
+      toZ-ofZ {w = w32} {z = c .before .before .before .before .before .before .before .before .before .before .before .before .before .before .before .before .before .before .before .before .before .before .before .args .s .deltaq} (record { sfits = c .before .before .before .before .struct-told2 .given .1 .1 .1 .1 .1 .1 .1 .1 .1 .0 .1 }),
+      toZ-ofZ {w = w32} {z = c .before .before .before .before .before .before .before .before .before .before .before .before .before .before .before .before .before .before .before .before .before .before .before .args .s .deltaside} (record { sfits = c .before .before .before .before .struct-told2 .given .1 .1 .1 .1 .1 .1 .1 .1 .1 .1 .0 .1 }),
     )
     at
     (c .before .before .before .deltas-check .ensures))
@@ -79,37 +80,70 @@ returns-5 c =
 enum-told-2 : tie.Need-enum-told-2
 enum-told-2 c = search needs
 
-grid-check-requires : tie.Need-grid-check-requires
-grid-check-requires c κs =
-    sized-by _ _ _ _ _
-    (c .before .before .before .before .before .before .before .before .before .before .before .before .before .is .ensures)
-    (c .before .before .before .before .before .before .before .before .before .before .before .before .if1 .left)
-    (c .before .before .before .before .before .before .before .before .before .before .before .sizes-ok .ensures)
-    (c .before .before .before .before .before .before .before .before .before .before .if2 .left)
-    (c .before .before .before .before .before .before .before .before .before .lengths-ok .ensures)
-    (c .before .before .before .before .before .before .before .before .if3 .left)
+tiles-check-requires : tie.Need-tiles-check-requires
+tiles-check-requires c κs = search needs
+
+enum-known-starts : tie.Need-enum-known-starts
+enum-known-starts c = search needs
 
 returns-6 : tie.Need-returns-6
-unfolding planeCheck gridCheck
+unfolding planeCheck
 returns-6 c =
     go-on _ _ _
-    (unless-good _ _ (told-yes-not _ _ (c .before .before .before .before .before .before .before .before .before .before .before .before .before .before .is .ensures) (c .before .before .before .before .before .before .before .before .before .before .before .before .before .if1 .left)))
+    (unless-good _ _ (told-yes-not _ _ (c .before .before .before .before .before .before .before .before .before .before .before .before .before .before .before .before .before .is .ensures) (c .before .before .before .before .before .before .before .before .before .before .before .before .before .before .before .before .if1 .left)))
     (go-on _ _ _
-    (unless-good _ _ (told-yes-not _ _ (c .before .before .before .before .before .before .before .before .before .before .before .before .sizes-ok .ensures) (c .before .before .before .before .before .before .before .before .before .before .before .if2 .left)))
+    (unless-good _ _ (told-yes-not _ _ (c .before .before .before .before .before .before .before .before .before .before .before .before .before .before .before .sizes-ok .ensures) (c .before .before .before .before .before .before .before .before .before .before .before .before .before .before .if2 .left)))
     (go-on _ _ _
-    (unless-good _ _ (told-yes-not _ _ (c .before .before .before .before .before .before .before .before .before .before .lengths-ok .ensures) (c .before .before .before .before .before .before .before .before .before .if3 .left)))
+    (unless-good _ _ (told-yes-not _ _ (c .before .before .before .before .before .before .before .before .before .before .before .before .before .lengths-ok .ensures _) (c .before .before .before .before .before .before .before .before .before .before .before .before .if3 .left)))
     (go-on _ _ _
-    (accepted-by _ _ (c .before .before .before .before .before .before .before .before .steps-check .ensures) (search needs))
+    (accepted-by _ _ (c .before .before .before .before .before .before .before .before .before .before .before .steps-check .ensures) (search needs))
     (go-on _ _ _
     (accepted-by _ _
     (rw (
-      toZ-ofZ {w = w32} {z = c .before .before .before .before .before .before .before .before .before .before .before .before .before .before .before .before .before .before .before .before .before .before .args .s .deltaq} (record { sfits = c .before .before .before .before .struct-told2 .given .1 .1 .1 .1 .1 .1 .1 .1 .1 .0 .1 }),
-      toZ-ofZ {w = w32} {z = c .before .before .before .before .before .before .before .before .before .before .before .before .before .before .before .before .before .before .before .before .before .before .args .s .deltaside} (record { sfits = c .before .before .before .before .struct-told2 .given .1 .1 .1 .1 .1 .1 .1 .1 .1 .1 .0 .1 }),
+      toZ-ofZ {w = w32} {z = c .before .before .before .before .before .before .before .before .before .before .before .before .before .before .before .before .before .before .before .before .before .before .before .before .before .before .args .s .deltaq} (record { sfits = c .before .before .before .before .before .before .before .struct-told2 .given .1 .1 .1 .1 .1 .1 .1 .1 .1 .0 .1 }),
+      toZ-ofZ {w = w32} {z = c .before .before .before .before .before .before .before .before .before .before .before .before .before .before .before .before .before .before .before .before .before .before .before .before .before .before .args .s .deltaside} (record { sfits = c .before .before .before .before .before .before .before .struct-told2 .given .1 .1 .1 .1 .1 .1 .1 .1 .1 .1 .0 .1 }),
     )
     at
-    (c .before .before .before .deltas-check .ensures))
+    (c .before .before .before .before .before .before .deltas-check .ensures))
     (search needs))
-    (c .grid-check .ensures _)))))
+    (stop-by _ _ _ (c .before .before .before .tiles-check .ensures) (search needs))))))
+
+enum-told-3 : tie.Need-enum-told-3
+enum-told-3 c = search needs
+
+grid-check-requires : tie.Need-grid-check-requires
+grid-check-requires c κs =
+    sized-by _ _ _ _ _ []
+    (c .before .before .before .before .before .before .before .before .before .before .before .before .before .before .before .before .is .ensures)
+    (c .before .before .before .before .before .before .before .before .before .before .before .before .before .before .before .if1 .left)
+    (c .before .before .before .before .before .before .before .before .before .before .before .before .before .before .sizes-ok .ensures)
+    (c .before .before .before .before .before .before .before .before .before .before .before .before .before .if2 .left)
+    (c .before .before .before .before .before .before .before .before .before .before .before .before .lengths-ok .ensures _)
+    (c .before .before .before .before .before .before .before .before .before .before .before .if3 .left)
+
+returns-7 : tie.Need-returns-7
+unfolding planeCheck gridCheck
+returns-7 c =
+    go-on _ _ _
+    (unless-good _ _ (told-yes-not _ _ (c .before .before .before .before .before .before .before .before .before .before .before .before .before .before .before .before .before .is .ensures) (c .before .before .before .before .before .before .before .before .before .before .before .before .before .before .before .before .if1 .left)))
+    (go-on _ _ _
+    (unless-good _ _ (told-yes-not _ _ (c .before .before .before .before .before .before .before .before .before .before .before .before .before .before .before .sizes-ok .ensures) (c .before .before .before .before .before .before .before .before .before .before .before .before .before .before .if2 .left)))
+    (go-on _ _ _
+    (unless-good _ _ (told-yes-not _ _ (c .before .before .before .before .before .before .before .before .before .before .before .before .before .lengths-ok .ensures _) (c .before .before .before .before .before .before .before .before .before .before .before .before .if3 .left)))
+    (go-on _ _ _
+    (accepted-by _ _ (c .before .before .before .before .before .before .before .before .before .before .before .steps-check .ensures) (search needs))
+    (go-on _ _ _
+    (accepted-by _ _
+    (rw (
+      toZ-ofZ {w = w32} {z = c .before .before .before .before .before .before .before .before .before .before .before .before .before .before .before .before .before .before .before .before .before .before .before .before .before .before .args .s .deltaq} (record { sfits = c .before .before .before .before .before .before .before .struct-told2 .given .1 .1 .1 .1 .1 .1 .1 .1 .1 .0 .1 }),
+      toZ-ofZ {w = w32} {z = c .before .before .before .before .before .before .before .before .before .before .before .before .before .before .before .before .before .before .before .before .before .before .before .before .before .before .args .s .deltaside} (record { sfits = c .before .before .before .before .before .before .before .struct-told2 .given .1 .1 .1 .1 .1 .1 .1 .1 .1 .1 .0 .1 }),
+    )
+    at
+    (c .before .before .before .before .before .before .deltas-check .ensures))
+    (search needs))
+    (go-on _ _ _
+    (accepted-by _ _ (c .before .before .before .tiles-check .ensures) (search needs))
+    (c .grid-check .ensures _))))))
 
 pub plane-check-spec : {M : Type 1} → statement M
 plane-check-spec =
@@ -129,5 +163,9 @@ plane-check-spec =
     enum-known-deltas
     returns-5
     enum-told-2
+    tiles-check-requires
+    enum-known-starts
+    returns-6
+    enum-told-3
     grid-check-requires
-    returns-6)
+    returns-7)

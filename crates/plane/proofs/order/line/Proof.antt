@@ -15,7 +15,7 @@ use Rattle.plane.proofs.order.line.Tie as tie
 abbrev Inv-loop : tie.InvT-loop
 Inv-loop plane₀ buffer₀ marks sizes qindex table s dir p k n done₀ j₀ plane buffer done j =
     (j ≤ n)
-    × Ran s table (λ steps. each j (λ i. inLine s steps (oneWay marks sizes qindex) dir p k i)) (state plane₀ buffer₀ done₀) (state plane buffer done)
+    × Ran s table (λ steps ts. each j (λ i. inLine s steps (oneWay marks sizes qindex ts) dir p k i)) (state plane₀ buffer₀ done₀) (state plane buffer done)
     × (length plane ≡ length plane₀) × (length buffer ≡ length buffer₀) × Few j done₀ done
 
 abbrev μ-loop : tie.MeasureT-loop

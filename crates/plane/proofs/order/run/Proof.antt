@@ -6,7 +6,7 @@ use lib.ListN.{length}
 use mathlib.Core.Path.{_≡_, refl}
 use Rattle.laws.specs.Loops.{each}
 use Rattle.plane.specs.Run.{none, Few, state, Ran}
-use Rattle.rules.specs.Plane.{grid, turnOf, sbCols}
+use Rattle.rules.specs.Plane.{tiled, turnOf, sbCols}
 use Rattle.plane.proofs.Runs.{field-same, few-none, few-then, few-most, most-none, ran-none, ran-more}
 use Rattle.plane.proofs.Superblocks.{sb-some, sb-last, sb-most, sb-part, horz-of, edges-are}
 use Rattle.plane.proofs.order.run.Statement.{statement}
@@ -15,7 +15,7 @@ use Rattle.plane.proofs.order.run.Tie as tie
 abbrev Inv-loop : tie.InvT-loop
 Inv-loop plane₀ buffer₀ vedge hedge sqw sqh qindex table s n done₀ sb₀ plane buffer done sb =
     (sb ≤ n)
-    × Ran s table (λ steps. each sb (λ k. turnOf s steps (grid vedge hedge sqw sqh qindex) k)) (state plane₀ buffer₀ none) (state plane buffer done)
+    × Ran s table (λ steps ts. each sb (λ k. turnOf s steps (tiled vedge hedge sqw sqh qindex ts) k)) (state plane₀ buffer₀ none) (state plane buffer done)
     × (length plane ≡ length plane₀) × (length buffer ≡ length buffer₀) × Few (sb * 2097152) none done
 
 abbrev μ-loop : tie.MeasureT-loop

@@ -15,7 +15,7 @@ use Rattle.plane.proofs.order.sweep.Tie as tie
 abbrev Inv-loop : tie.InvT-loop
 Inv-loop plane₀ buffer₀ marks sizes qindex table s dir p n done₀ k₀ plane buffer done k =
     (k ≤ n)
-    × Ran s table (λ steps. each k (λ i. lineOf s steps (oneWay marks sizes qindex) dir p i)) (state plane₀ buffer₀ done₀) (state plane buffer done)
+    × Ran s table (λ steps ts. each k (λ i. lineOf s steps (oneWay marks sizes qindex ts) dir p i)) (state plane₀ buffer₀ done₀) (state plane buffer done)
     × (length plane ≡ length plane₀) × (length buffer ≡ length buffer₀) × Few (k * 1024) done₀ done
 
 abbrev μ-loop : tie.MeasureT-loop

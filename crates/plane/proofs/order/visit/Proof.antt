@@ -14,8 +14,8 @@ is-edge-requires c κs = search visits
 returns : tie.Need-returns
 returns c = record { ran = visit-none _ _ _ _ _ _ _ (c .before .is-edge .ensures) (c .if1 .taken) _; few = few-none 1 _ }
 
-shortened-at-requires : tie.Need-shortened-at-requires
-shortened-at-requires c κs = c .before .before .before .before .before .before .before .pre .0 .ready .sizes-ok
+is-short-requires : tie.Need-is-short-requires
+is-short-requires c κs = (c .before .before .before .before .before .before .before .pre .0 .ready .sizes-ok, c .before .before .before .before .before .before .before .pre .1 .in-cols)
 
 edge-at-requires : tie.Need-edge-at-requires
 edge-at-requires c κs = search asked
@@ -37,7 +37,8 @@ top-requires c κs = c .before .before .before .before .before .before .before .
 filter-edge-requires : tie.Need-filter-edge-requires
 filter-edge-requires c κs =
     let given = c .before .before .before .before .before .before .before .before .before .before .before .before .before .before .before .before .before .pre in
-    in-plane _ _ _ _ _ _ (given .0) (given .1) (c .before .before .before .before .before .before .before .before .edge-at .ensures) (c .before .before .before .before .before .before .before .before .before .before .before .is-edge .ensures) (c .before .before .before .before .before .before .before .before .before .before .if1 .left)
+    let there = c .before .before .before .before .before .before .before .before .before .before .before .is-edge .ensures in
+    in-plane _ _ _ _ _ _ (given .0) (given .1) (c .before .before .before .before .before .before .before .before .edge-at .ensures) there (c .before .before .before .before .before .before .before .before .before .before .if1 .left)
 
 add-t23 : tie.Need-add-t23
 add-t23 c = record { fits = omega (arith, c .before .before .before .before .before .before .before .before .before .before .before .before .before .before .before .before .before .before .before .before .before .pre .3 .bytes-most) }
@@ -47,16 +48,18 @@ add-t24 c =
     let given = c .before .before .before .before .before .before .before .before .before .before .before .before .before .before .before .before .before .before .before .before .before .before .before .pre in
     let is = c .before .before .before .before .before .before .before .before .before .before .before .before .before .before .edge-at .ensures in
     let there = c .before .before .before .before .before .before .before .before .before .before .before .before .before .before .before .before .before .is-edge .ensures in
+    let done = c .before .before .before .before .before .filter-edge .ensures in
     let k = in-plane _ _ _ _ _ _ (given .0) (given .1) is there (c .before .before .before .before .before .before .before .before .before .before .before .before .before .before .before .before .if1 .left) in
-    record { fits = omega (arith, given .3 .stored-most, edge-stored k (c .before .before .before .before .before .filter-edge .ensures)) }
+    record { fits = omega (arith, given .3 .stored-most, edge-stored k done) }
 
 add-t26 : tie.Need-add-t26
 add-t26 c =
     let given = c .before .before .before .before .before .before .before .before .before .before .before .before .before .before .before .before .before .before .before .before .before .before .before .before .before .pre in
     let is = c .before .before .before .before .before .before .before .before .before .before .before .before .before .before .before .before .edge-at .ensures in
     let there = c .before .before .before .before .before .before .before .before .before .before .before .before .before .before .before .before .before .before .before .is-edge .ensures in
+    let done = c .before .before .before .before .before .before .before .filter-edge .ensures in
     let k = in-plane _ _ _ _ _ _ (given .0) (given .1) is there (c .before .before .before .before .before .before .before .before .before .before .before .before .before .before .before .before .before .before .if1 .left) in
-    record { fits = omega (arith, given .3 .changed-most, edge-changed k (c .before .before .before .before .before .before .before .filter-edge .ensures)) }
+    record { fits = omega (arith, given .3 .changed-most, edge-changed k done) }
 
 same-length : tie.Need-same-length
 same-length c = search visits
@@ -69,17 +72,11 @@ returns-2 c =
     let given = c .before .before .before .before .before .before .before .before .before .before .before .before .before .before .before .before .before .before .before .before .before .before .before .before .before .pre in
     let is = c .before .before .before .before .before .before .before .before .before .before .before .before .before .before .before .before .edge-at .ensures in
     let there = c .before .before .before .before .before .before .before .before .before .before .before .before .before .before .before .before .before .before .before .is-edge .ensures in
-    let k = in-plane _ _ _ _ _ _ (given .0) (given .1) is there (c .before .before .before .before .before .before .before .before .before .before .before .before .before .before .before .before .before .before .if1 .left) in
+    let left = c .before .before .before .before .before .before .before .before .before .before .before .before .before .before .before .before .before .before .if1 .left in
+    let k = in-plane _ _ _ _ _ _ (given .0) (given .1) is there left in
     let done = c .before .before .before .before .before .before .before .filter-edge .ensures in
     record {
-      ran =
-          visit-edge _ _ _ _ _ _ _ there
-          (c .before .before .before .before .before .before .before .before .before .before .before .before .before .before .before .before .before .before .if1 .left)
-          is
-          (c .before .before .before .before .before .before .before .before .top .ensures)
-          (c .before .before .before .before .before .before .before .before .before .before .before .before .before .before .note .ensures)
-          done
-          refl;
+      ran = visit-edge _ _ _ _ _ _ _ there left is (c .before .before .before .before .before .before .before .before .top .ensures) (c .before .before .before .before .before .before .before .before .before .before .before .before .before .before .note .ensures) done refl;
       few = few-edge (edge-stored k done) (edge-changed k done);
     }
 
@@ -89,7 +86,7 @@ visit-spec =
     (tie.spec
     is-edge-requires
     returns
-    shortened-at-requires
+    is-short-requires
     edge-at-requires
     note-requires
     mul-filter-edge

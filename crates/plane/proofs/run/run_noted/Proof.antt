@@ -9,14 +9,19 @@ use Rattle.plane.proofs.run.run_noted.Tie as tie
 thresholds-by-qindex-requires : tie.Need-thresholds-by-qindex-requires
 thresholds-by-qindex-requires c κs = search needs
 
+table-of-requires : tie.Need-table-of-requires
+table-of-requires c κs = search needs
+
 run-requires : tie.Need-run-requires
 run-requires c κs =
-    let s = c .before .before .before .before .before .before .before .before .before .before .before .before .before .before .args .s in
-    let told = c .before .before .before .before .struct-told2 .given in
+    let s = c .before .before .before .before .before .before .before .before .before .before .before .before .before .before .before .before .before .args .s in
+    let told = c .before .before .before .before .before .before .struct-told2 .given in
     let q-fits = toZ-ofZ {w = w32} {z = s .deltaq} (record { sfits = told .1 .1 .1 .1 .1 .1 .1 .1 .1 .0 .1 }) in
     let side-fits = toZ-ofZ {w = w32} {z = s .deltaside} (record { sfits = told .1 .1 .1 .1 .1 .1 .1 .1 .1 .1 .0 .1 }) in
-    let by = rw (q-fits, side-fits) at (c .before .before .before .thresholds-by-qindex .ensures) in
-    (field-vert _ _ _ _ _ (c .before .before .before .before .before .before .before .before .before .before .before .before .before .before .pre) by, field-horz _ _ _ _ _ (c .before .before .before .before .before .before .before .before .before .before .before .before .before .before .pre) by)
+    let by = rw (q-fits, side-fits) at (c .before .before .before .before .before .thresholds-by-qindex .ensures) in
+    let given = c .before .before .before .before .before .before .before .before .before .before .before .before .before .before .before .before .before .pre in
+    let made = c .before .before .before .table-of .ensures in
+    (field-vert _ _ _ _ _ _ given by made, field-horz _ _ _ _ _ _ given by made)
 
 same-length : tie.Need-same-length
 same-length c = search needs
@@ -26,18 +31,19 @@ same-length-2 c = search needs
 
 returns : tie.Need-returns
 returns c =
-    let s = c .before .before .before .before .before .before .before .before .before .before .before .before .before .before .before .before .before .before .before .args .s in
-    let told = c .before .before .before .before .before .before .before .before .before .struct-told2 .given in
+    let s = c .before .before .before .before .before .before .before .before .before .before .before .before .before .before .before .before .before .before .before .before .before .before .args .s in
+    let told = c .before .before .before .before .before .before .before .before .before .before .before .struct-told2 .given in
     let q-fits = toZ-ofZ {w = w32} {z = s .deltaq} (record { sfits = told .1 .1 .1 .1 .1 .1 .1 .1 .1 .0 .1 }) in
     let side-fits = toZ-ofZ {w = w32} {z = s .deltaside} (record { sfits = told .1 .1 .1 .1 .1 .1 .1 .1 .1 .1 .0 .1 }) in
-    let by = rw (q-fits, side-fits) at (c .before .before .before .before .before .before .before .before .thresholds-by-qindex .ensures) in
-    ran-plane _ _ _ _ _ (c .before .before .before .before .before .before .before .before .before .before .before .before .before .before .before .before .before .before .before .pre) by _ _ (c .before .before .before .before .run .ensures)
+    let by = rw (q-fits, side-fits) at (c .before .before .before .before .before .before .before .before .before .before .thresholds-by-qindex .ensures) in
+    ran-plane _ _ _ _ _ _ (c .before .before .before .before .before .before .before .before .before .before .before .before .before .before .before .before .before .before .before .before .before .before .pre) by (c .before .before .before .before .before .before .before .before .table-of .ensures) _ _ (c .before .before .before .before .run .ensures)
 
 pub run-noted-spec : {M : Type 1} → statement M
 run-noted-spec =
     tie.close
     (tie.spec
     thresholds-by-qindex-requires
+    table-of-requires
     run-requires
     same-length
     same-length-2

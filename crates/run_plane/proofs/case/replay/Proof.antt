@@ -28,29 +28,29 @@ read-two-requires-2 c κs = search needs
 array-share-prefix-vedge : tie.Need-array-share-prefix-vedge
 array-share-prefix-vedge c = search needs
 
-slice-aggregate-replay-samples : tie.Need-slice-aggregate-replay-samples
-slice-aggregate-replay-samples c = front _ _ (search needs)
+slice-aggregate-replay-grid : tie.Need-slice-aggregate-replay-grid
+slice-aggregate-replay-grid c = front _ _ (search needs)
 
 array-share-prefix-hedge : tie.Need-array-share-prefix-hedge
 array-share-prefix-hedge c = search needs
 
-slice-aggregate-replay-samples-2 : tie.Need-slice-aggregate-replay-samples-2
-slice-aggregate-replay-samples-2 c = front _ _ (search needs)
+slice-aggregate-replay-grid-2 : tie.Need-slice-aggregate-replay-grid-2
+slice-aggregate-replay-grid-2 c = front _ _ (search needs)
 
 array-share-prefix-sqw : tie.Need-array-share-prefix-sqw
 array-share-prefix-sqw c = search needs
 
-slice-aggregate-replay-samples-3 : tie.Need-slice-aggregate-replay-samples-3
-slice-aggregate-replay-samples-3 c = front _ _ (search needs)
+slice-aggregate-replay-grid-3 : tie.Need-slice-aggregate-replay-grid-3
+slice-aggregate-replay-grid-3 c = front _ _ (search needs)
 
 array-share-prefix-sqh : tie.Need-array-share-prefix-sqh
 array-share-prefix-sqh c = search needs
 
-slice-aggregate-replay-samples-4 : tie.Need-slice-aggregate-replay-samples-4
-slice-aggregate-replay-samples-4 c = front _ _ (search needs)
+slice-aggregate-replay-grid-4 : tie.Need-slice-aggregate-replay-grid-4
+slice-aggregate-replay-grid-4 c = front _ _ (search needs)
 
-replay-samples-requires : tie.Need-replay-samples-requires
-replay-samples-requires c κs = search needs
+replay-grid-requires : tie.Need-replay-grid-requires
+replay-grid-requires c κs = search needs
 
 returns : tie.Need-returns
 returns c = search needs
@@ -67,12 +67,12 @@ replay-spec =
     slice-aggregate-read-two-4
     read-two-requires-2
     array-share-prefix-vedge
-    slice-aggregate-replay-samples
+    slice-aggregate-replay-grid
     array-share-prefix-hedge
-    slice-aggregate-replay-samples-2
+    slice-aggregate-replay-grid-2
     array-share-prefix-sqw
-    slice-aggregate-replay-samples-3
+    slice-aggregate-replay-grid-3
     array-share-prefix-sqh
-    slice-aggregate-replay-samples-4
-    replay-samples-requires
+    slice-aggregate-replay-grid-4
+    replay-grid-requires
     returns)

@@ -1,4 +1,4 @@
--- `kind` tells the twenty names from all other words. Assumes nothing.
+-- `kind` tells the names from all other words. Assumes nothing.
 use borrow.Author.Needs.{needs}
 use borrow.Author.Tests.{ne-eqb}
 use Rattle.laws.specs.Choose.{pick}
@@ -88,8 +88,18 @@ returns-20 c = (rw (c .match .keys20), search needs)
 
 returns-21 : tie.Need-returns-21
 unfolding kindOf pick
-returns-21 c = (
+returns-21 c = (rw (c .match .keys21), search needs)
+
+returns-22 : tie.Need-returns-22
+unfolding kindOf pick
+returns-22 c = (rw (c .match .keys22), search needs)
+
+returns-23 : tie.Need-returns-23
+unfolding kindOf pick
+returns-23 c = (
   rw (
+    ne-eqb _ _ (c .match .rest .0 .0 .0 .0 .0 .0 .0 .0 .0 .0 .0 .0 .0 .0 .0 .0 .0 .0 .0 .0 .0 .1),
+    ne-eqb _ _ (c .match .rest .0 .0 .0 .0 .0 .0 .0 .0 .0 .0 .0 .0 .0 .0 .0 .0 .0 .0 .0 .0 .1),
     ne-eqb _ _ (c .match .rest .0 .0 .0 .0 .0 .0 .0 .0 .0 .0 .0 .0 .0 .0 .0 .0 .0 .0 .0 .1),
     ne-eqb _ _ (c .match .rest .0 .0 .0 .0 .0 .0 .0 .0 .0 .0 .0 .0 .0 .0 .0 .0 .0 .0 .1),
     ne-eqb _ _ (c .match .rest .0 .0 .0 .0 .0 .0 .0 .0 .0 .0 .0 .0 .0 .0 .0 .0 .0 .1),
@@ -138,4 +148,6 @@ kind-spec =
     returns-18
     returns-19
     returns-20
-    returns-21)
+    returns-21
+    returns-22
+    returns-23)

@@ -1,7 +1,7 @@
--- `rule_of` tells the twenty kinds from all other numbers. Assumes nothing.
+-- `rule_of` tells the kinds from all other numbers. Assumes nothing.
 use borrow.Author.Tests.{ne-eqb}
 use Rattle.laws.specs.Choose.{pick}
-use Rattle.settings.specs.Rules.{ruleOf}
+use Rattle.settings.specs.Rules.{tilesFrom, ruleOf}
 use borrow.Author.Needs.{needs}
 use Rattle.settings.proofs.names.rule_of.Statement.{statement}
 use Rattle.settings.proofs.names.rule_of.Tie as tie
@@ -14,6 +14,12 @@ add-chroma c = search needs
 
 add-skips : tie.Need-add-skips
 add-skips c = search needs
+
+add-tiles : tie.Need-add-tiles
+add-tiles c = search needs
+
+add-chromatiles : tie.Need-add-chromatiles
+add-chromatiles c = search needs
 
 put-requires : tie.Need-put-requires
 put-requires c κs = search needs
@@ -29,9 +35,6 @@ put-requires-4 c κs = search needs
 
 put-requires-5 : tie.Need-put-requires-5
 put-requires-5 c κs = search needs
-
-add-put : tie.Need-add-put
-add-put c = search needs
 
 put-requires-6 : tie.Need-put-requires-6
 put-requires-6 c κs = search needs
@@ -80,6 +83,15 @@ put-requires-20 c κs = search needs
 
 put-requires-21 : tie.Need-put-requires-21
 put-requires-21 c κs = search needs
+
+add-put : tie.Need-add-put
+add-put c = search needs
+
+put-requires-22 : tie.Need-put-requires-22
+put-requires-22 c κs = search needs
+
+put-requires-23 : tie.Need-put-requires-23
+put-requires-23 c κs = search needs
 
 returns : tie.Need-returns
 unfolding ruleOf pick
@@ -162,9 +174,19 @@ unfolding ruleOf pick
 returns-20 c = rw (c .before .match .keys20) (cc)
 
 returns-21 : tie.Need-returns-21
+unfolding ruleOf tilesFrom pick
+returns-21 c = rw (c .before .match .keys21) (cc)
+
+returns-22 : tie.Need-returns-22
+unfolding ruleOf tilesFrom pick
+returns-22 c = rw (c .before .match .keys22) (cc)
+
+returns-23 : tie.Need-returns-23
 unfolding ruleOf pick
-returns-21 c =
+returns-23 c =
     rw (
+      ne-eqb _ _ (c .before .match .rest .0 .0 .0 .0 .0 .0 .0 .0 .0 .0 .0 .0 .0 .0 .0 .0 .0 .0 .0 .0 .0 .1),
+      ne-eqb _ _ (c .before .match .rest .0 .0 .0 .0 .0 .0 .0 .0 .0 .0 .0 .0 .0 .0 .0 .0 .0 .0 .0 .0 .1),
       ne-eqb _ _ (c .before .match .rest .0 .0 .0 .0 .0 .0 .0 .0 .0 .0 .0 .0 .0 .0 .0 .0 .0 .0 .0 .1),
       ne-eqb _ _ (c .before .match .rest .0 .0 .0 .0 .0 .0 .0 .0 .0 .0 .0 .0 .0 .0 .0 .0 .0 .0 .1),
       ne-eqb _ _ (c .before .match .rest .0 .0 .0 .0 .0 .0 .0 .0 .0 .0 .0 .0 .0 .0 .0 .0 .0 .1),
@@ -195,12 +217,13 @@ rule-of-spec =
     leaf-room-requires
     add-chroma
     add-skips
+    add-tiles
+    add-chromatiles
     put-requires
     put-requires-2
     put-requires-3
     put-requires-4
     put-requires-5
-    add-put
     put-requires-6
     put-requires-7
     put-requires-8
@@ -217,6 +240,9 @@ rule-of-spec =
     put-requires-19
     put-requires-20
     put-requires-21
+    add-put
+    put-requires-22
+    put-requires-23
     returns
     returns-2
     returns-3
@@ -237,4 +263,6 @@ rule-of-spec =
     returns-18
     returns-19
     returns-20
-    returns-21)
+    returns-21
+    returns-22
+    returns-23)

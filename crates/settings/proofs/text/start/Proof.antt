@@ -12,5 +12,9 @@ returns-2 : tie.Need-returns-2
 unfolding startOf
 returns-2 c = search tests
 
+returns-3 : tie.Need-returns-3
+unfolding startOf
+returns-3 c = search tests
+
 pub start-spec : {M : Type 1} → statement M
-start-spec = tie.close (tie.spec returns returns-2)
+start-spec = tie.close (tie.spec returns returns-2 returns-3)

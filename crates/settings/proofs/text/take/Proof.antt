@@ -1,5 +1,5 @@
 -- `take` goes by the list. Assumes nothing.
-use Rattle.settings.proofs.Settling.{kept-numbers, kept-shorts, kept-steps, kept-flags, kept-offsets, take-numbers, take-shorts, take-steps, take-flags, take-offsets}
+use Rattle.settings.proofs.Settling.{kept-numbers, kept-shorts, kept-steps, kept-flags, kept-offsets, take-numbers, take-shorts, take-steps, take-flags, take-offsets, take-tiles}
 use borrow.Author.Needs.{needs}
 use Rattle.settings.proofs.text.take.Statement.{statement}
 use Rattle.settings.proofs.text.take.Tie as tie
@@ -18,6 +18,9 @@ flags-requires c κs = search needs
 
 offsets-requires : tie.Need-offsets-requires
 offsets-requires c κs = search needs
+
+shorts-requires-2 : tie.Need-shorts-requires-2
+shorts-requires-2 c κs = search needs
 
 same-length : tie.Need-same-length
 same-length c = search needs
@@ -47,7 +50,13 @@ same-length-5 : tie.Need-same-length-5
 same-length-5 c = search needs
 
 returns-5 : tie.Need-returns-5
-returns-5 c = let e = c .before .offsets .ensures in (e .0, (kept-offsets _ _ (e .1 .0), take-offsets _ _ _ _ _ _ _ _ (c .before .before .before .match .rest .0 .0 .0 .1) (c .before .before .before .match .rest .0 .0 .1) (c .before .before .before .match .rest .0 .1) (c .before .before .before .match .rest .1) (e .1 .1)))
+returns-5 c = let e = c .before .offsets .ensures in (e .0, (kept-offsets _ _ (e .1 .0), take-offsets _ _ _ _ _ _ _ _ (c .before .before .before .match .keys5) (e .1 .1)))
+
+same-length-6 : tie.Need-same-length-6
+same-length-6 c = search needs
+
+returns-6 : tie.Need-returns-6
+returns-6 c = let e = c .before .before .shorts3 .ensures in let m = c .before .before .before .before .match .rest in (e .0, (kept-shorts _ _ (e .1 .0), take-tiles _ _ _ _ _ _ _ _ (m .0 .0 .0 .0 .1) (m .0 .0 .0 .1) (m .0 .0 .1) (m .0 .1) (m .1) (e .1 .1)))
 
 pub take-spec : {M : Type 1} → statement M
 take-spec =
@@ -58,6 +67,7 @@ take-spec =
     steps-requires
     flags-requires
     offsets-requires
+    shorts-requires-2
     same-length
     returns
     same-length-2
@@ -67,4 +77,6 @@ take-spec =
     same-length-4
     returns-4
     same-length-5
-    returns-5)
+    returns-5
+    same-length-6
+    returns-6)

@@ -4,8 +4,8 @@ use Prim.Native.Nat.{ℕ}
 use native.Mathlib.Omega.{arith}
 use lib.ListN.{getD}
 use borrow.Author.Needs.{needs}
-use Rattle.thresholds.proofs.by_qindex.entry.Statement.{statement}
-use Rattle.thresholds.proofs.by_qindex.entry.Tie as tie
+use Rattle.plane.proofs.table.entry.Statement.{statement}
+use Rattle.plane.proofs.table.entry.Tie as tie
 
 mul-result : tie.Need-mul-result
 mul-result c = search needs
