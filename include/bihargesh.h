@@ -91,6 +91,14 @@ int32_t bihargesh_plane(uint16_t *plane, size_t plane_len, const uint8_t *vedge,
                         const uint16_t *tiles, size_t tiles_len, const uint32_t *steps, size_t steps_len, const int32_t *settings, size_t settings_len,
                         size_t *place, size_t place_len, size_t *counts, size_t counts_len);
 
+/* Filters a plane as bihargesh_plane does, in an order that can be audited by eye: all vertical edges, rows in order, and then all horizontal edges,
+ * columns in order, where bihargesh_plane goes by columns of superblocks. It takes what bihargesh_plane takes and always answers as that does, refusals
+ * included: the same number, place, counts and plane. (That rests on superblocks of 8 or 16 cells across; with one cell samples would differ.) */
+int32_t bihargesh_plane_plain(uint16_t *plane, size_t plane_len, const uint8_t *vedge, size_t vedge_len, const uint8_t *hedge, size_t hedge_len,
+                              const uint8_t *sqw, size_t sqw_len, const uint8_t *sqh, size_t sqh_len, const uint16_t *qindex, size_t qindex_len,
+                              const uint16_t *tiles, size_t tiles_len, const uint32_t *steps, size_t steps_len, const int32_t *settings, size_t settings_len,
+                              size_t *place, size_t place_len, size_t *counts, size_t counts_len);
+
 /* Filters a plane as bihargesh_plane does, writes a record of every edge into the beginning of `record`, and answers the record's length in bytes.
  * The record: the three bytes `EDG`, the version 1 in two bytes, and ten bytes for each marked edge in the order in which they are filtered: x and y
  * (two bytes each, of the first sample after the edge), direction (one byte, 0 for vedge and 1 for hedge), number of the length pair (one byte, 0..7),

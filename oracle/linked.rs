@@ -272,7 +272,8 @@ impl PlaneCase {
     }
 }
 
-fn of_plane(random: &Random, made: &Made) -> Compared {
+/// A plane by one of the two engines.
+fn of_engine(engine: raw::Engine, random: &Random, made: &Made) -> Compared {
     let mut n = Numbers::of(made);
     let PlaneCase { all, grid, qindex, tiles, mut plane, steps } = PlaneCase::of(made, &mut n);
     let due = n.counted();
@@ -283,7 +284,7 @@ fn of_plane(random: &Random, made: &Made) -> Compared {
     let lent = (grid.clone(), qindex.clone(), tiles.clone(), steps.clone(), settings.clone());
     let [v, h, w, t] = &grid;
     let answer = unsafe {
-        raw::bihargesh_plane(
+        engine(
             plane.as_mut_ptr(), plane.len(), v.as_ptr(), v.len(), h.as_ptr(), h.len(), w.as_ptr(), w.len(), t.as_ptr(), t.len(),
             qindex.as_ptr(), qindex.len(), tiles.as_ptr(), tiles.len(), steps.as_ptr(), steps.len(), settings.as_ptr(), settings.len(),
             place.as_mut_ptr(), place.len(), counts.as_mut_ptr(), counts.len(),
@@ -297,7 +298,15 @@ fn of_plane(random: &Random, made: &Made) -> Compared {
     Ok(due.no)
 }
 
-/// The same with a record of the edges, whose length stands as the place of an accepted case.
+fn of_plane(random: &Random, made: &Made) -> Compared {
+    of_engine(raw::bihargesh_plane, random, made)
+}
+
+fn of_plane_plain(random: &Random, made: &Made) -> Compared {
+    of_engine(raw::bihargesh_plane_plain, random, made)
+}
+
+/// A plane with a record of the edges, whose length stands as the place of an accepted case.
 fn of_record_plane(random: &Random, made: &Made) -> Compared {
     let mut n = Numbers::of(made);
     let PlaneCase { all, grid, qindex, tiles, mut plane, steps } = PlaneCase::of(made, &mut n);
@@ -596,10 +605,14 @@ struct Part {
     compare: fn(&Random, &Made) -> Compared,
 }
 
-const PARTS: [Part; 11] = [
+/// What makes the cases of both engines.
+const PLANES: &[Make] = &[plane::make, plane::make_bins, plane::make_tiles, plane::make_room_at_one];
+
+const PARTS: [Part; 12] = [
     Part { name: "bihargesh_thresholds", makes: &[thresholds::make], kind: None, compare: of_thresholds },
     Part { name: "bihargesh_segment", makes: &[segment::make_window], kind: None, compare: of_segment },
-    Part { name: "bihargesh_plane", makes: &[plane::make, plane::make_bins, plane::make_tiles, plane::make_room_at_one], kind: None, compare: of_plane },
+    Part { name: "bihargesh_plane", makes: PLANES, kind: None, compare: of_plane },
+    Part { name: "bihargesh_plane_plain", makes: PLANES, kind: None, compare: of_plane_plain },
     Part { name: "bihargesh_record_plane", makes: &[record::make], kind: None, compare: of_record_plane },
     Part { name: "bihargesh_replay", makes: &[replay::make], kind: None, compare: of_replay },
     Part { name: "bihargesh_replay of bihargesh_record_plane", makes: &[recorded], kind: None, compare: of_round_trip },

@@ -1,11 +1,11 @@
-//! One plane run, by the published Rust's `deblock_plane` or by our `bihargesh_plane`, on equal square planes of depth 8.
+//! One plane run, by the published Rust's `deblock_plane` or by our `bihargesh_plane` or `bihargesh_plane_plain`, on equal square planes of depth 8.
 //!
 //!     pace once none|rust|ours SIZE KIND   one run, for counting instructions; `none` stops where the run would begin
 //!     pace time SIZE KIND                  medians of 31 runs of each on fresh copies, in nanoseconds: the Rust's, then ours
 //!     pace same SIZE KIND                  both once: how many edges and changed samples; fails where the planes differ
 //!
-//! KIND is the size index of all blocks, or `dark`: index 1, and every qindex 0, so that every threshold is 0; or `recorded`: index 1, and ours
-//! is `bihargesh_record_plane` with a buffer that the record just fills, beside the Rust's run, which writes none.
+//! KIND is the size index of all blocks, or `dark`: index 1, and every qindex 0, so that every threshold is 0; or `plain`: index 1, and ours is `bihargesh_plane_plain`;
+//! or `recorded`: index 1, and ours is `bihargesh_record_plane` with a buffer that the record just fills, beside the Rust's run, which writes none.
 
 #[path = "src/random.rs"]
 mod random;
@@ -30,6 +30,20 @@ const REACH: [usize; 4] = [3, 4, 7, 8];
 #[link(name = "cside", kind = "static")]
 extern "C" {
     fn bihargesh_plane(
+        plane: *mut u16, plane_len: usize,
+        vedge: *const u8, vedge_len: usize,
+        hedge: *const u8, hedge_len: usize,
+        sqw: *const u8, sqw_len: usize,
+        sqh: *const u8, sqh_len: usize,
+        qindex: *const u16, qindex_len: usize,
+        tiles: *const u16, tiles_len: usize,
+        steps: *const u32, steps_len: usize,
+        settings: *const i32, settings_len: usize,
+        place: *mut usize, place_len: usize,
+        counts: *mut usize, counts_len: usize,
+    ) -> i32;
+
+    fn bihargesh_plane_plain(
         plane: *mut u16, plane_len: usize,
         vedge: *const u8, vedge_len: usize,
         hedge: *const u8, hedge_len: usize,
@@ -73,6 +87,8 @@ struct Scene {
     samples: Vec<u16>,
     /// Whether ours writes a record.
     recorded: bool,
+    /// Whether ours is the plain engine.
+    plain: bool,
 }
 
 /// Cells of nearly even samples, with small steps from cell to cell, so that every width occurs.
@@ -85,8 +101,8 @@ fn samples(random: &Random, size: usize) -> Vec<u16> {
 
 impl Scene {
     fn new(size: usize, kind: &str) -> Scene {
-        let (dark, recorded) = (kind == "dark", kind == "recorded");
-        let index: usize = if dark || recorded { 1 } else { kind.parse().expect("an index") };
+        let (dark, recorded, plain) = (kind == "dark", kind == "recorded", kind == "plain");
+        let index: usize = if dark || recorded || plain { 1 } else { kind.parse().expect("an index") };
         let random = Random::new(13);
         let cells = size / 4;
         let room = |k: usize| (k > 0 && 4 * k >= REACH[index] && 4 * k + REACH[index] <= size) as u8;
@@ -101,6 +117,7 @@ impl Scene {
             steps: rust::quant::steps(),
             samples: samples(&random, size),
             recorded,
+            plain,
         }
     }
 
@@ -195,8 +212,9 @@ fn run_ours(s: &Scene, plane: &mut [u16], record: &mut [u8]) {
     }
     let settings = settings(s);
     let (mut place, mut counts) = ([0usize], [0usize; 2]);
+    let engine = if s.plain { bihargesh_plane_plain } else { bihargesh_plane };
     let answer = unsafe {
-        bihargesh_plane(
+        engine(
             plane.as_mut_ptr(), plane.len(),
             s.vertical.as_ptr(), s.vertical.len(),
             s.horizontal.as_ptr(), s.horizontal.len(),

@@ -1,4 +1,5 @@
-/* Calls the functions of the static library from C and holds them to document 01's figures and refusals, to ticket 4's counts and ticket 5's tile starts. */
+/* Calls the functions of the static library from C and holds them to document 01's figures and refusals, to ticket 4's counts, to ticket 5's tile starts,
+ * and the plain engine to the scheduled one. */
 #include "bihargesh.h"
 #include <stdio.h>
 #include <string.h>
@@ -374,6 +375,75 @@ static void tile_starts(void) {
   refused_plane("a tile before a cell", 11, -5, 0);
 }
 
+/* ---- the plain engine beside bihargesh_plane, on planes drawn by chance: 20 by 9 cells, superblocks of 8 cells */
+
+enum { MANY_COLS = 20, MANY_ROWS = 9, MANY_CELLS = MANY_COLS * MANY_ROWS, MANY = 16 * MANY_CELLS };
+
+/* What both take, and what each leaves. */
+static uint16_t many[2][MANY], many_blocks[MANY_CELLS], many_tiles[3];
+static uint8_t many_marks[2][MANY_CELLS], many_sizes[2][MANY_CELLS];
+static int32_t many_settings[11];
+
+static unsigned drawn(unsigned below) {
+  static uint32_t state = 20261116;
+  state = state * 1664525u + 1013904223u;
+  return (state >> 8) % below;
+}
+
+/* Steps between blocks and a little noise; marks at a third of the cells; at most three tile starts, in rising order. */
+static void draw_many(void) {
+  const int32_t settings[11] = {MANY_COLS, MANY_ROWS, 4 * MANY_COLS, 4 * MANY_COLS, 4 * MANY_ROWS, 8, 8, 0, 8, 0, 0};
+  memcpy(many_settings, settings, sizeof settings);
+  many_settings[BIHARGESH_PLANE_SB_HEIGHT] += 8 * (int32_t)drawn(2);
+  many_settings[BIHARGESH_PLANE_CHROMA] = (int32_t)drawn(2);
+  for (int k = 0; k < MANY; k++) many[0][k] = (uint16_t)(100 + 6 * (k % (4 * MANY_COLS) / 8) + 5 * (k / (16 * MANY_COLS)) + (int)drawn(3));
+  for (int k = 0; k < MANY_CELLS; k++) {
+    int inner = k % MANY_COLS > 1 && k % MANY_COLS < MANY_COLS - 1, between = k / MANY_COLS > 1 && k / MANY_COLS < MANY_ROWS - 1;
+    many_marks[0][k] = inner && drawn(3) == 0;
+    many_marks[1][k] = between && drawn(3) == 0;
+    many_sizes[0][k] = (uint8_t)drawn(7);
+    many_sizes[1][k] = (uint8_t)drawn(7);
+    many_blocks[k] = (uint16_t)(150 + drawn(100));
+  }
+  for (int k = 0; k < 3; k++) many_tiles[k] = (uint16_t)(1 + 6 * k + (int)drawn(6));
+}
+
+/* One thing that is refused by each number, or nothing. */
+static void damage_many(unsigned by) {
+  if (by == 1) many_settings[BIHARGESH_PLANE_DEPTH] = 9;
+  if (by == 2) many_settings[BIHARGESH_PLANE_SB_WIDTH] = 1;
+  if (by == 3) many_settings[BIHARGESH_PLANE_STRIDE]++;
+  if (by == 4) table[drawn(352)] = 1048577;
+  if (by == 5) many_tiles[1] = many_tiles[2];
+  if (by == 6) many_marks[drawn(2)][drawn(MANY_CELLS)] = 2;
+  if (by == 7) memset(many_sizes, 6, sizeof many_sizes), many_settings[BIHARGESH_PLANE_CHROMA] = 0, many_marks[0][1 + MANY_COLS * drawn(MANY_ROWS)] = 1;
+  if (by == 8) many[0][drawn(MANY)] = 256;
+}
+
+static void plain_engine(void) {
+  size_t places[2][1], both[2][2], changed = 0;
+  for (unsigned k = 0; k < 900; k++) {
+    int32_t answers[2];
+    same("steps", bihargesh_steps(table, LEN(table)), 0);
+    draw_many();
+    damage_many(k % 9);
+    memcpy(many[1], many[0], sizeof many[0]);
+    for (int plain = 0; plain < 2; plain++) {
+      places[plain][0] = 77;
+      answers[plain] = (plain ? bihargesh_plane_plain : bihargesh_plane)(
+          many[plain], MANY, many_marks[0], MANY_CELLS, many_marks[1], MANY_CELLS, many_sizes[0], MANY_CELLS, many_sizes[1], MANY_CELLS, many_blocks,
+          MANY_CELLS, many_tiles, 3, table, LEN(table), many_settings, 11, places[plain], 1, both[plain], 2);
+    }
+    same("a plane drawn by chance", answers[0], -(int32_t)(k % 9));
+    same("the plain engine's answer", answers[1], answers[0]);
+    same("its place", (long long)places[1][0], (long long)places[0][0]);
+    same("its counts", memcmp(both[1], both[0], sizeof both[0]), 0);
+    same("its plane", memcmp(many[1], many[0], sizeof many[0]), 0);
+    changed += both[0][1];
+  }
+  same("samples were changed", changed > 10000, 1);
+}
+
 /* ---- that record, run again */
 
 static uint8_t again[35];
@@ -720,6 +790,7 @@ int main(void) {
   planes();
   records();
   tile_starts();
+  plain_engine();
   replays();
   grids();
   leaf_records();

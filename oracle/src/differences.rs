@@ -11,7 +11,7 @@ use std::panic;
 /// What is said of the Rust, and whether it is so.
 type Said = (&'static str, fn() -> bool);
 
-const SAID: [Said; 16] = [
+const SAID: [Said; 18] = [
     ("read_line clamps an offset before the plane to its first sample", clamps_before),
     ("read_line clamps an offset past the plane to its last sample", clamps_after),
     ("f32 samples are cut to whole numbers when read", cuts),
@@ -28,6 +28,8 @@ const SAID: [Said; 16] = [
     ("deblock_plane passes false for vertical edges: a superblock's first column is filtered as 8,8 where the turned plane's first row is as 6,8", never_shortens),
     ("the oracle's reading of tile starts is deblock_plane where there are none, on 1000 planes", reads_bare),
     ("the oracle's reading of tile starts is deblock_plane on the turned plane where every k-th column starts a tile, on 1000 planes", reads_turned),
+    ("with superblocks one cell wide deblock_plane leaves other samples than the plain order, on a plane of 4x2 cells", one_cell_wide),
+    ("with superblocks of 8 or 16 cells it leaves the plain order's, which is its own with one superblock across, on 1000 planes", plain_order),
 ];
 
 fn clamps_before() -> bool {
@@ -171,6 +173,24 @@ fn reads_turned() -> bool {
     };
     let telling = tiled_planes().map(every).filter(|c| tiles::matter(c, &tiles::read(c)) == Some(true)).count();
     telling > 100 && tiled_planes().map(every).all(|c| tiles::holds_turned(&c) != Some(false))
+}
+
+/// A vertical edge in column 2 and a horizontal one in column 0, which superblocks one cell wide do first: x = 5 and x = 10 of rows 0 to 3 tell. Two cells are wide enough.
+fn one_cell_wide() -> bool {
+    let marks = Marks { vertical: vec![0, 0, 1, 0, 0, 0, 0, 0], horizontal: vec![0, 0, 0, 0, 1, 0, 0, 0], width: vec![2; 8], height: vec![0; 8] };
+    let plane: Vec<u16> = (0..128).map(|i| 100 + 2 * (i % 16 / 8 + i / 64)).collect();
+    let by = |across| {
+        let settings = Settings { cells: (4, 2), stride: 16, size: (16, 8), superblock: (across, 16), chroma: false, depth: 8, delta_q: 0, delta_side: 0 };
+        deblock::plane(&settings, &marks, &[120; 8], &plane)
+    };
+    let ends = |plane: &[u16], five: u16, ten: u16| (0..4).all(|row| plane[16 * row + 5] == five && plane[16 * row + 10] == ten);
+    let plain = by(4);
+    deblock::thresholds(120, 120, 0, 0, 8) == (2, 2) && ends(&by(1), 100, 102) && ends(&plain, 101, 101) && [2, 8, 16].iter().all(|&across| by(across) == plain)
+}
+
+fn plain_order() -> bool {
+    let by = |c: &Case, across: u64| deblock::plane(&Settings { superblock: (across as usize, c.superblock.1 as usize), ..c.settings() }, &c.marks, &c.qindex, &c.plane);
+    tiled_planes().all(|c| [8, 16].iter().all(|&across| by(&c, across) == by(&c, c.cells.0)))
 }
 
 fn taps_within() -> bool {

@@ -378,11 +378,15 @@ pub fn asked(c: &Case, kind: u64) -> Line {
 }
 
 /// The Rust's plane, with tile starts by the reading that is held to it; and its stores: those of its segments in document 01's order, which must leave the same plane.
+/// The plain order, which is the Rust's with one superblock across, must leave and store the same.
 pub fn filtered(c: &Case) -> (Vec<u16>, Counts) {
     assert!(tiles::holds_bare(c) && tiles::holds_turned(c) != Some(false), "the reading of tile starts is not the Rust's");
     let plane = tiles::read(c);
     let (seen, counts) = replay::run(record::entries(c), c.stride, c.depth, &c.plane);
     assert!(seen == plane, "the segments that were watched left another plane");
+    let plain = tiles::plain(c);
+    assert!(tiles::holds_bare(&plain) && tiles::read(&plain) == plane, "the plain order leaves another plane");
+    assert!(replay::run(record::entries(&plain), c.stride, c.depth, &c.plane) == (seen, counts), "the plain order has other counts");
     (plane, counts)
 }
 

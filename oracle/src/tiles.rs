@@ -40,6 +40,11 @@ pub fn bare(c: &Case) -> Case {
     Case { starts: Vec::new(), ..c.clone() }
 }
 
+/// The case with one superblock across: document 01's order is then ticket 6's plain one, all vertical edges, rows in order, and then all horizontal ones, columns in order.
+pub fn plain(c: &Case) -> Case {
+    Case { superblock: (c.cells.0, c.superblock.1), ..c.clone() }
+}
+
 /// Of a case with tile starts: whether its plane would end otherwise without them.
 pub fn matter(c: &Case, plane: &[u16]) -> Option<bool> {
     c.starts.first().map(|_| read(&bare(c)) != plane)

@@ -346,13 +346,13 @@ pub fn segment(window: &mut [u8], depth: u32, pair: u32, q: u32, side: u32) -> R
     Ok((answer as usize, both(counts)))
 }
 
-/// Filters every marked edge of a plane; how many samples were stored and changed.
-pub fn deblock_plane(plane: &mut [u16], grid: Grid, steps: &[u32], s: Plane) -> Result<Counts, Refusal> {
+/// A plane by one of the two functions that filter it.
+fn deblock_by(engine: Engine, plane: &mut [u16], grid: Grid, steps: &[u32], s: Plane) -> Result<Counts, Refusal> {
     let settings = plane_settings(s);
     let (mut place, mut counts) = ([0], [0; 2]);
     // SAFETY: as above.
     let answer = unsafe {
-        bihargesh_plane(
+        engine(
             plane.as_mut_ptr(), plane.len(), grid.vedge.as_ptr(), grid.vedge.len(), grid.hedge.as_ptr(), grid.hedge.len(),
             grid.sqw.as_ptr(), grid.sqw.len(), grid.sqh.as_ptr(), grid.sqh.len(), grid.qindex.as_ptr(), grid.qindex.len(),
             grid.tiles.as_ptr(), grid.tiles.len(), steps.as_ptr(), steps.len(), settings.as_ptr(), settings.len(),
@@ -360,6 +360,31 @@ pub fn deblock_plane(plane: &mut [u16], grid: Grid, steps: &[u32], s: Plane) -> 
         )
     };
     filtered(answer, place, counts)
+}
+
+/// Filters every marked edge of a plane; how many samples were stored and changed.
+pub fn deblock_plane(plane: &mut [u16], grid: Grid, steps: &[u32], s: Plane) -> Result<Counts, Refusal> {
+    deblock_by(bihargesh_plane, plane, grid, steps, s)
+}
+
+/// The same in an order that can be audited by eye: all vertical edges, rows in order, and then all horizontal edges, columns in order. The answer,
+/// the counts and the plane are always those of `deblock_plane`, refusals included.
+///
+/// ```
+/// use bihargesh::{deblock_plane, deblock_plane_plain, Grid, Plane};
+///
+/// // six cells with a vertical edge at the third, where a tile begins, on a step from 100 to 108
+/// let grid = Grid { vedge: &[0, 0, 1, 0, 0, 0], hedge: &[0; 6], sqw: &[3; 6], sqh: &[0; 6], qindex: &[200; 6], tiles: &[2] };
+/// let settings = Plane { cols: 6, rows: 1, stride: 24, width: 24, height: 4, superblock_width: 8, superblock_height: 8, depth: 8, ..Plane::default() };
+/// let mut plane: Vec<u16> = [vec![100; 8], vec![108; 16]].concat().repeat(4);
+/// let mut plain = plane.clone();
+/// let counts = deblock_plane(&mut plane, grid, &bihargesh::steps(), settings);
+/// assert_eq!(deblock_plane_plain(&mut plain, grid, &bihargesh::steps(), settings), counts);
+/// assert_eq!(plain, plane);
+/// assert!(plain[7] > 100);
+/// ```
+pub fn deblock_plane_plain(plane: &mut [u16], grid: Grid, steps: &[u32], s: Plane) -> Result<Counts, Refusal> {
+    deblock_by(bihargesh_plane_plain, plane, grid, steps, s)
 }
 
 /// Filters every marked edge of a plane and writes the record of these edges into the beginning of a buffer; how many bytes it takes, and both counts.

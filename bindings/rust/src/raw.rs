@@ -10,12 +10,24 @@ pub struct Leaf {
     pub h: u16,
 }
 
+/// Both functions that filter a plane: what they take, and their answer.
+pub type Engine = unsafe extern "C" fn(
+    *mut u16, usize, *const u8, usize, *const u8, usize, *const u8, usize, *const u8, usize, *const u16, usize,
+    *const u16, usize, *const u32, usize, *const i32, usize, *mut usize, usize, *mut usize, usize,
+) -> i32;
+
 #[link(name = "bihargesh", kind = "static")]
 extern "C" {
     pub fn bihargesh_steps(steps: *mut u32, steps_len: usize) -> i32;
     pub fn bihargesh_thresholds(curr: u16, prev: u16, delta_q: i32, delta_side: i32, depth: u32, steps: *const u8, steps_len: usize) -> i32;
     pub fn bihargesh_segment(window: *mut u8, window_len: usize, depth: u32, pair: u32, q: u32, side: u32, counts: *mut usize, counts_len: usize) -> i32;
     pub fn bihargesh_plane(
+        plane: *mut u16, plane_len: usize, vedge: *const u8, vedge_len: usize, hedge: *const u8, hedge_len: usize,
+        sqw: *const u8, sqw_len: usize, sqh: *const u8, sqh_len: usize, qindex: *const u16, qindex_len: usize,
+        tiles: *const u16, tiles_len: usize, steps: *const u32, steps_len: usize, settings: *const i32, settings_len: usize,
+        place: *mut usize, place_len: usize, counts: *mut usize, counts_len: usize,
+    ) -> i32;
+    pub fn bihargesh_plane_plain(
         plane: *mut u16, plane_len: usize, vedge: *const u8, vedge_len: usize, hedge: *const u8, hedge_len: usize,
         sqw: *const u8, sqw_len: usize, sqh: *const u8, sqh_len: usize, qindex: *const u16, qindex_len: usize,
         tiles: *const u16, tiles_len: usize, steps: *const u32, steps_len: usize, settings: *const i32, settings_len: usize,

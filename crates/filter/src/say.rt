@@ -13,7 +13,7 @@ use words::place::line_end;
 use y4m::header::Header;
 
 pub fn usage() {
-    words(b"usage: filter PICTURE SETTINGS OUT\n");
+    words(b"usage: filter PICTURE SETTINGS OUT [plain]\n");
 }
 
 // How many frames are done, on a terminal.

@@ -190,6 +190,12 @@ fn width_of(j: Job) -> usize {
     c.width
 }
 
+// Whether the plain engine is asked for, by the program's fourth word.
+fn plain_asked() -> bool {
+    let mut word = io::buffer();
+    os::arg(4, &mut word) != 0
+}
+
 // Whether the planes were filtered, and how many samples deblocking stored and changed.
 pub struct Treated {
     pub good: bool,
@@ -214,7 +220,8 @@ pub fn treat(
     requires { ⌜ Shaped j × Lent (length (now numbers)) (length (now shorts)) (length (now steps)) (length (now flags)) (length (now offsets)) (length (now places)) ⌝ }
 {
     let f = frame_by(j, numbers);
-    let o = deblock_asked(y, u, v, shorts, steps, places, f);
+    let plain = plain_asked();
+    let o = deblock_asked(y, u, v, shorts, steps, places, f, plain);
     let counts = Counts {
         stored: o.stored,
         changed: o.changed,

@@ -1,4 +1,4 @@
--- A built grid is long enough and its cells are good, so that its plane can be checked and run.
+-- A built grid is long enough and its cells are good, so that its plane can be checked.
 -- Assumes nothing.
 use mathlib.Core.Path.{_≡_, refl, sym, ap, _∙_}
 use mathlib.Core.Bool.{Bool, true, false}
@@ -20,8 +20,7 @@ use Rattle.grid.proofs.Built.{no-bad-cell}
 use Rattle.plane.proofs.Accepting.{lengths, readies-by}
 use Rattle.frame_checks.specs.Settings.{kindOn, planeOf, tuOf, qOf}
 use Rattle.frame_planes.specs.Fit.{Sampled, Marked, Buildable}
-use Rattle.frame_planes.specs.Ran.{Runnable}
-use Rattle.frame.specs.Fit.{Stepped, Gridded}
+use Rattle.frame.specs.Fit.{Gridded}
 
 -- the TU grid has the plane's cells
 rows-same : (f : Frame) (chroma : Bool) → planeOf f chroma .rows ≡ tuOf f chroma .rows
@@ -72,7 +71,7 @@ module _ {f : Frame} {chroma : Bool} {ls ks : List ℕ} (sbq : List ℕ) (g : Gr
         cells = rw (rw on at is) (good-cells f chroma ls ks sbq g);
       }
 
--- ---- what the checks and the run of a plane with such a grid ask
+-- ---- what the checks of a plane with such a grid ask
 
 module _ {f : Frame} {chroma : Bool} {v h w t q ts : List ℕ} {size : ℕ} (k : Gridded f chroma (tiled v h w t q ts) size) where
   same-cells : (p us : List ℕ) → Nothing ≡ badCell (planeOf f chroma) (tiled v h w t p us)
@@ -84,19 +83,3 @@ module _ {f : Frame} {chroma : Bool} {v h w t q ts : List ℕ} {size : ℕ} (k :
       let l = lengths (planeOf f chroma) (tiled v h w t q ts) size (k .lengths) in
       let r = readies-by v h w t (record { depth = k .sampled .depth; sizes-ok = k .sampled .sizes-ok; plane-long = l .samples; lists-long = l .lists }) same-cells refl in
       record { sized = k .sampled .sized; vert = r .0; horz = r .1 }
-
-  pub runnable : {steps : List ℕ} → Stepped f chroma steps → noRoom (planeOf f chroma) (tiled v h w t q ts) ≡ Nothing → Runnable f chroma steps (tiled v h w t q ts) size
-  runnable s room = record {
-    sized = k .sampled .sized;
-    checked = record {
-      depth = k .sampled .depth;
-      sizes-ok = k .sampled .sizes-ok;
-      lengths = k .lengths;
-      steps-ok = s .steps-ok;
-      deltaq-ok = s .deltaq-ok;
-      deltaside-ok = s .deltaside-ok;
-      tiles-ok = k .tiles-ok;
-      cells = k .cells;
-      room = room;
-    };
-  }

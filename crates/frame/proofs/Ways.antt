@@ -8,21 +8,21 @@ use Rattle.laws.specs.Choose.{pick}
 use Rattle.rules.specs.declared.settings.Frame.{Frame}
 use Rattle.rules.specs.declared.lent.GridLengths.{GridLengths}
 use Rattle.rules.specs.declared.refusals.Refusal.{Refusal}
-use Rattle.rules.specs.declared.refusals.Refusal.the-variants.{Room}
+use Rattle.rules.specs.declared.refusals.Refusal.the-variants.{Room, Sample}
 use Rattle.rules.specs.declared.refusals.Answer.{Answer}
 use Rattle.rules.specs.declared.refusals.Answer.the-variants.{Accepted, Refused}
 use Rattle.rules.specs.declared.refusals.PlaneAnswer.{PlaneAnswer}
 use Rattle.rules.specs.declared.refusals.Found.the-variants.{Nothing}
 use Rattle.rules.specs.declared.counts.Counts.{Counts}
 use Rattle.rules.specs.Refusals.{settle}
-use Rattle.rules.specs.Plane.{Grid, noRoom}
-use Rattle.rules.specs.Frame.{Planes, Grids, Given, grids, lent, done, gridLengths, lengthsOf, lumaPlane, chromaPlane, lumaTu, chromaTu, lumaQ, chromaQ, chromaOn, builtGrid, builtGrids, frameEarly, frameRoom, frameLate, frameBuilt, orDone, frameOf, frameStored, frameChanged}
+use Rattle.rules.specs.Plane.{Grid, noRoom, overPlane}
+use Rattle.rules.specs.Frame.{Planes, Grids, Given, grids, lent, done, gridLengths, lengthsOf, lumaPlane, chromaPlane, lumaTu, chromaTu, lumaQ, chromaQ, chromaOn, builtGrid, builtGrids, frameEarly, frameRoom, frameSamples, frameLate, frameBuilt, orDone, frameOf, frameStored, frameChanged}
 use Rattle.scan.proofs.Checks.{else-parts, found-nothing, only-part, settle-refused, settle-accepted}
 use Rattle.frame_planes.specs.Ran.{FrameRun}
 use Rattle.frame.specs.Fit.{lengthsFor}
 use Rattle.frame.specs.Stated.{refusedBy, Finished, Stated}
 
--- ---- room, by the accepted late checks
+-- ---- room and samples, by the accepted late checks
 
 module _ (f : Frame) (l c : Grid) (p : Planes) {a : Answer} (is : a ≡ frameLate f (grids l c) p) (ok : a ≡ Accepted) where
   rooms : frameRoom f (grids l c) ≡ Accepted
@@ -36,6 +36,20 @@ module _ (f : Frame) (l c : Grid) (p : Planes) {a : Answer} (is : a ≡ frameLat
   pub chroma-room : chromaOn f ≡ true → noRoom (chromaPlane f) c ≡ Nothing
   unfolding frameRoom
   chroma-room on = found-nothing _ Room (only-part _ _ (else-parts _ _ rooms .1) on)
+
+  samples : frameSamples f p ≡ Accepted
+  unfolding frameLate
+  samples = else-parts _ _ (sym is ∙ ok) .1
+
+  pub luma-over : overPlane (lumaPlane f) (p .y) ≡ Nothing
+  unfolding frameSamples
+  luma-over = found-nothing _ Sample (else-parts _ _ samples .0)
+
+  pub chroma-over : chromaOn f ≡ true → (overPlane (chromaPlane f) (p .u) ≡ Nothing) × (overPlane (chromaPlane f) (p .v) ≡ Nothing)
+  unfolding frameSamples
+  chroma-over on =
+      let e = else-parts _ _ (only-part _ _ (else-parts _ _ samples .1) on) in
+      (found-nothing _ Sample (e .0), found-nothing _ Sample (e .1))
 
 -- ---- the ways out of a frame whose grids are built
 

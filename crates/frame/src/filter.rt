@@ -24,7 +24,7 @@ pub fn refused(r: Refusal) -> PlaneAnswer
     }
 }
 
-// Filters the planes and tells how many samples that stored and changed; or refuses them, and tells of none.
+// Filters the planes, in document 01's order or in the plain one, and tells how many samples that stored and changed; or refuses them, and tells of none.
 pub fn filter(
     y: &mut [u16],
     u: &mut [u16],
@@ -43,6 +43,7 @@ pub fn filter(
     ctiles: &[u16],
     steps: &[u32],
     f: Frame,
+    plain: bool,
 ) -> PlaneAnswer
     requires { ⌜ Stepped f false (now steps) × Gridded f false (tiled (now lv) (now lh) (now lw) (now lt) (now lq) (now ltiles)) (length (now y)) ⌝ }
     requires { ⌜ (chromaOn f ≡ true → Stepped f true (now steps) × Gridded f true (tiled (now cv) (now ch) (now cw) (now ct) (now cq) (now ctiles)) (length (now u)) × Gridded f true (tiled (now cv) (now ch) (now cw) (now ct) (now cq) (now ctiles)) (length (now v))) ⌝ }
@@ -75,6 +76,7 @@ pub fn filter(
         ctiles,
         steps,
         f,
+        plain,
     );
     PlaneAnswer {
         answer: Answer::Accepted,

@@ -27,7 +27,8 @@ fn grid_lengths(vedge: usize, hedge: usize, sqw: usize, sqh: usize, qindex: usiz
     }
 }
 
-// Filters a frame of any settings and lists and tells how many samples that stored and changed, or says why it does not: answer, counts and every lent list are those of rules.
+// Filters a frame of any settings and lists, in document 01's order or in ticket 6's plain one, and tells how many samples that stored and changed, or says why it does not:
+// answer, counts and every lent list are those of rules in either order.
 pub fn deblock_frame(
     y: &mut [u16],
     u: &mut [u16],
@@ -50,6 +51,7 @@ pub fn deblock_frame(
     tiles: &[u16],
     chromatiles: &[u16],
     f: Frame,
+    plain: bool,
 ) -> PlaneAnswer
     ensures { λ a. ⌜ Stated f
         (given (now (steps .entry)) (now (sbq .entry)) (now (leaves .entry)) (now (chromaleaves .entry)) (now (skips .entry)))
@@ -98,5 +100,6 @@ pub fn deblock_frame(
         chromatiles,
         steps,
         f,
+        plain,
     )
 }

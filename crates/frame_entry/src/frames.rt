@@ -78,5 +78,6 @@ pub fn filter(
         tiles,
         chromatiles,
         f,
+        false,
     )
 }

@@ -1,21 +1,25 @@
 -- A plane's counts are small enough to be added, and a frame's are the sums of its planes'.
 -- Assumes nothing.
-use mathlib.Core.Path.{_≡_}
+use mathlib.Core.Path.{_≡_, refl}
 use mathlib.Core.Bool.{Bool, true, false}
 use mathlib.Core.List.{List}
 use Prim.Native.Nat.{ℕ, _+_, _*_, _≤_}
 use native.Mathlib.Nat.{mul-le-mul}
 use native.Mathlib.Omega.{arith}
+use lib.ListN.{length}
 use Rattle.laws.specs.Choose.{pick}
 use Rattle.rules.specs.declared.settings.Frame.{Frame}
 use Rattle.rules.specs.declared.settings.Plane.{Plane}
 use Rattle.rules.specs.declared.counts.Counts.{Counts}
+use Rattle.rules.specs.declared.refusals.PlaneAnswer.{PlaneAnswer}
+use Rattle.rules.specs.Refusals.{settle}
 use Rattle.rules.specs.Numbers.{topOf}
-use Rattle.rules.specs.Plane.{Grid, edgesOf, runStored, runChanged}
+use Rattle.rules.specs.Plane.{Grid, edgesOf, runStored, runChanged, planeAfter, planeStored, planeChanged}
 use Rattle.rules.specs.Frame.{planes, grids, runFrame, runFrameStored, runFrameChanged}
 use Rattle.segment.proofs.Counts.{run-stored, run-changed}
-use Rattle.plane.specs.Checked.{Checked, Filtered}
+use Rattle.plane.specs.Checked.{Checked, Filtered, Stated}
 use Rattle.plane.specs.declared.visited.Visited.{Visited}
+use Rattle.plane.proofs.Accepting.{checked}
 use Rattle.plane.proofs.Everywhere.{edges-inside}
 use Rattle.orders.proofs.Once.{edges-most}
 use Rattle.frame_checks.specs.Settings.{kindOn, planeOf}
@@ -50,14 +54,23 @@ module _ {f : Frame} {chroma : Bool} {steps : List ℕ} {g : Grid} {l : List ℕ
   }
 
   -- one that is
-  pub plane-on : true ≡ kindOn f chroma → {size : ℕ} → Runnable f chroma steps g size → {x : Visited} {m : List ℕ} → Filtered (planeOf f chroma) steps g l x m → PlaneRun f chroma steps g l (record { stored = x .stored; changed = x .changed }) m
-  plane-on on k run = record {
-    plane = where-on _ on (run .plane);
-    stored = where-on _ on (run .stored);
-    changed = where-on _ on (run .changed);
-    stored-most = omega (arith, run .stored, stored-few (planeOf f chroma) steps g (k .checked) l);
-    changed-most = omega (arith, run .changed, changed-few (planeOf f chroma) steps g (k .checked) l);
-  }
+  pub plane-on : true ≡ kindOn f chroma → Runnable f chroma steps g l → {x : Visited} {m : List ℕ} → Filtered (planeOf f chroma) steps g l x m → PlaneRun f chroma steps g l (record { stored = x .stored; changed = x .changed }) m
+  plane-on on k run =
+      let c = checked (planeOf f chroma) steps g l (k .accepted) in
+      record {
+        plane = where-on _ on (run .plane);
+        stored = where-on _ on (run .stored);
+        changed = where-on _ on (run .changed);
+        stored-most = omega (arith, run .stored, stored-few (planeOf f chroma) steps g c l);
+        changed-most = omega (arith, run .changed, changed-few (planeOf f chroma) steps g c l);
+      }
+
+  -- one that is, by the plane's entry in the plain order
+  pub plane-plain : true ≡ kindOn f chroma → Runnable f chroma steps g l → {a : PlaneAnswer} {m : List ℕ} → Stated (planeOf f chroma) steps g l a m → PlaneRun f chroma steps g l (record { stored = a .stored; changed = a .changed }) m
+  unfolding planeAfter planeStored planeChanged settle
+  plane-plain on k {a} done =
+      plane-on on k {x = record { bytes = 5 + 10 * length (edgesOf (planeOf f chroma) steps g); stored = a .stored; changed = a .changed }}
+      (record { plane = rw (k .accepted) at (done .plane); visited = refl; stored = rw (k .accepted) at (done .stored); changed = rw (k .accepted) at (done .changed) })
 
 -- ---- a frame
 

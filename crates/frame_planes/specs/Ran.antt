@@ -7,15 +7,15 @@ use Prim.Native.Nat.{ℕ, _≤_}
 use Rattle.laws.specs.Choose.{pick}
 use Rattle.rules.specs.declared.settings.Frame.{Frame}
 use Rattle.rules.specs.declared.counts.Counts.{Counts}
-use Rattle.rules.specs.Plane.{Grid, runPlane, runStored, runChanged}
+use Rattle.rules.specs.declared.refusals.Answer.the-variants.{Accepted}
+use Rattle.rules.specs.Plane.{Grid, planeCheck, runPlane, runStored, runChanged}
 use Rattle.rules.specs.Frame.{Planes, Grids, runFrame, runFrameStored, runFrameChanged}
-use Rattle.plane.specs.Checked.{Checked}
 use Rattle.frame_checks.specs.Settings.{Sized, kindOn, planeOf}
 
--- a plane of size samples that can be run by its grid
-pub record Runnable (f : Frame) (chroma : Bool) (steps : List ℕ) (g : Grid) (size : ℕ) : Type 0 where
+-- a plane l that can be run by its grid, in any order that gives document 01's plane
+pub record Runnable (f : Frame) (chroma : Bool) (steps : List ℕ) (g : Grid) (l : List ℕ) : Type 0 where
   pub sized : Sized f
-  pub checked : Checked (planeOf f chroma) steps g size
+  pub accepted : planeCheck (planeOf f chroma) steps g l ≡ Accepted
 
 -- of one plane l, where it is filtered: the plane m and its counts, which are small enough to be added
 pub record PlaneRun (f : Frame) (chroma : Bool) (steps : List ℕ) (g : Grid) (l : List ℕ) (a : Counts) (m : List ℕ) : Type 0 where

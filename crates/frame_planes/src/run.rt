@@ -1,18 +1,18 @@
 // A frame's planes filtered by their grids, and how many samples that stored and changed.
 use frame_checks::planes::kind_on;
 use frame_checks::planes::plane_of;
+use plain::deblock_plane_plain;
 use plane::run_plane;
 use rules::counts::Counts;
 use rules::settings::Frame;
 ghost use mathlib.Core.Path.{_≡_};
 ghost use mathlib.Core.Bool.{true, false};
-ghost use lib.ListN.{length};
 ghost use Rattle.rules.specs.Plane.{tiled};
 ghost use Rattle.rules.specs.Frame.{planes, grids, chromaOn};
 ghost use Rattle.frame_checks.specs.Settings.{kindOn};
 ghost use Rattle.frame_planes.specs.Ran.{Runnable, PlaneRun, FrameRun};
 
-// Runs one plane where it is filtered.
+// Runs one plane where it is filtered, in document 01's order or in the plain one.
 fn run(
     plane: &mut [u16],
     vedge: &[u8],
@@ -24,8 +24,9 @@ fn run(
     steps: &[u32],
     f: Frame,
     chroma: bool,
+    plain: bool,
 ) -> Counts
-    requires { ⌜ (kindOn f chroma ≡ true → Runnable f chroma (now steps) (tiled (now vedge) (now hedge) (now sqw) (now sqh) (now qindex) (now tiles)) (length (now plane))) ⌝ }
+    requires { ⌜ (kindOn f chroma ≡ true → Runnable f chroma (now steps) (tiled (now vedge) (now hedge) (now sqw) (now sqh) (now qindex) (now tiles)) (now plane)) ⌝ }
     ensures { λ a. ⌜ PlaneRun f chroma (now (steps .entry)) (tiled (now (vedge .entry)) (now (hedge .entry)) (now (sqw .entry)) (now (sqh .entry)) (now (qindex .entry)) (now (tiles .entry))) (now (plane .entry)) a (now (plane .exit)) ⌝ }
 {
     if !kind_on(f, chroma) {
@@ -34,17 +35,15 @@ fn run(
             changed: 0,
         };
     }
-    let done = run_plane(
-        plane,
-        vedge,
-        hedge,
-        sqw,
-        sqh,
-        qindex,
-        tiles,
-        steps,
-        plane_of(f, chroma),
-    );
+    let s = plane_of(f, chroma);
+    if plain {
+        let a = deblock_plane_plain(plane, vedge, hedge, sqw, sqh, qindex, tiles, steps, s);
+        return Counts {
+            stored: a.stored,
+            changed: a.changed,
+        };
+    }
+    let done = run_plane(plane, vedge, hedge, sqw, sqh, qindex, tiles, steps, s);
     Counts {
         stored: done.stored,
         changed: done.changed,
@@ -70,9 +69,10 @@ pub fn run_planes(
     ctiles: &[u16],
     steps: &[u32],
     f: Frame,
+    plain: bool,
 ) -> Counts
-    requires { ⌜ Runnable f false (now steps) (tiled (now lv) (now lh) (now lw) (now lt) (now lq) (now ltiles)) (length (now y)) ⌝ }
-    requires { ⌜ (chromaOn f ≡ true → Runnable f true (now steps) (tiled (now cv) (now ch) (now cw) (now ct) (now cq) (now ctiles)) (length (now u)) × Runnable f true (now steps) (tiled (now cv) (now ch) (now cw) (now ct) (now cq) (now ctiles)) (length (now v))) ⌝ }
+    requires { ⌜ Runnable f false (now steps) (tiled (now lv) (now lh) (now lw) (now lt) (now lq) (now ltiles)) (now y) ⌝ }
+    requires { ⌜ (chromaOn f ≡ true → Runnable f true (now steps) (tiled (now cv) (now ch) (now cw) (now ct) (now cq) (now ctiles)) (now u) × Runnable f true (now steps) (tiled (now cv) (now ch) (now cw) (now ct) (now cq) (now ctiles)) (now v)) ⌝ }
     ensures { λ a. ⌜ FrameRun f
         (now (steps .entry))
         (grids (tiled (now (lv .entry)) (now (lh .entry)) (now (lw .entry)) (now (lt .entry)) (now (lq .entry)) (now (ltiles .entry))) (tiled (now (cv .entry)) (now (ch .entry)) (now (cw .entry)) (now (ct .entry)) (now (cq .entry)) (now (ctiles .entry))))
@@ -80,9 +80,9 @@ pub fn run_planes(
         a
         (planes (now (y .exit)) (now (u .exit)) (now (v .exit))) ⌝ }
 {
-    let of_y = run(y, lv, lh, lw, lt, lq, ltiles, steps, f, false);
-    let of_u = run(u, cv, ch, cw, ct, cq, ctiles, steps, f, true);
-    let of_v = run(v, cv, ch, cw, ct, cq, ctiles, steps, f, true);
+    let of_y = run(y, lv, lh, lw, lt, lq, ltiles, steps, f, false, plain);
+    let of_u = run(u, cv, ch, cw, ct, cq, ctiles, steps, f, true, plain);
+    let of_v = run(v, cv, ch, cw, ct, cq, ctiles, steps, f, true, plain);
     Counts {
         stored: of_y.stored + of_u.stored + of_v.stored,
         changed: of_y.changed + of_u.changed + of_v.changed,

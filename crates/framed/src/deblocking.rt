@@ -20,7 +20,7 @@ pub fn indices() -> [u16; 1048576]
     [0; 1048576]
 }
 
-// Deblocks a frame and tells how many samples that stored and changed, or refuses and leaves its planes as lent.
+// Deblocks a frame, in document 01's order or in the plain one, and tells how many samples that stored and changed, or refuses and leaves its planes as lent.
 pub fn deblock(
     y: &mut [u16],
     u: &mut [u16],
@@ -33,6 +33,7 @@ pub fn deblock(
     tiles: &[u16],
     chromatiles: &[u16],
     f: Frame,
+    plain: bool,
 ) -> PlaneAnswer
     ensures { λ a. ⌜ Deblocked f (given (now (steps .entry)) (now (sbq .entry)) (now (leaves .entry)) (now (chromaleaves .entry)) (now (skips .entry))) (starts (now (tiles .entry)) (now (chromatiles .entry))) (planes (now (y .entry)) (now (u .entry)) (now (v .entry))) a (planes (now (y .exit)) (now (u .exit)) (now (v .exit))) ⌝ }
 {
@@ -68,5 +69,6 @@ pub fn deblock(
         tiles,
         chromatiles,
         f,
+        plain,
     )
 }

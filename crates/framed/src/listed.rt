@@ -20,7 +20,7 @@ pub struct Outcome {
     pub changed: usize,
 }
 
-// Deblocks a frame, or says where it was refused and leaves its planes as lent.
+// Deblocks a frame, in document 01's order or in the plain one, or says where it was refused and leaves its planes as lent.
 fn deblock_given(
     y: &mut [u16],
     u: &mut [u16],
@@ -33,6 +33,7 @@ fn deblock_given(
     tiles: &[u16],
     chromatiles: &[u16],
     f: Frame,
+    plain: bool,
 ) -> Outcome
     ensures { λ o. ⌜ Told f (given (now (steps .entry)) (now (sbq .entry)) (now (leaves .entry)) (now (chromaleaves .entry)) (now (skips .entry))) (starts (now (tiles .entry)) (now (chromatiles .entry))) (planes (now (y .entry)) (now (u .entry)) (now (v .entry))) o (planes (now (y .exit)) (now (u .exit)) (now (v .exit))) ⌝ }
 {
@@ -48,6 +49,7 @@ fn deblock_given(
         tiles,
         chromatiles,
         f,
+        plain,
     );
     let answer = a.answer;
     if let Answer::Refused(r) = answer {
@@ -75,6 +77,7 @@ pub fn deblock_asked(
     steps: &[u32],
     places: &[usize],
     f: Frame,
+    plain: bool,
 ) -> Outcome
     requires { ⌜ Listed (length (now shorts)) (length (now steps)) (length (now places)) ⌝ }
     ensures { λ o. ⌜ Told f (givenAsked (now (shorts .entry)) (now (steps .entry)) (now (places .entry))) (startsAsked (now (shorts .entry)) (now (places .entry))) (planes (now (y .entry)) (now (u .entry)) (now (v .entry))) o (planes (now (y .exit)) (now (u .exit)) (now (v .exit))) ⌝ }
@@ -104,5 +107,6 @@ pub fn deblock_asked(
         &shorts[h..i],
         &shorts[j..k],
         f,
+        plain,
     )
 }

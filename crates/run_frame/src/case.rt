@@ -80,6 +80,7 @@ fn compare(
         tiles,
         chromatiles,
         f,
+        false,
     );
     let lists = same(
         text,

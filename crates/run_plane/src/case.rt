@@ -1,6 +1,7 @@
 // One plane, recorded or not: what the entry is asked, and what the stream says that it answers.
 use cases::Cursor;
 use cases::Told;
+use plain::deblock_plane_plain;
 use plane::deblock_plane;
 use recorded::record_plane;
 use rules::refusals::PlaneAnswer;
@@ -122,7 +123,7 @@ fn compare_recorded(
     same_record(answer, told) && held_both(text, lent, told, plane, buffer)
 }
 
-// The entry's answer and its plane, held against the stream's.
+// Both engines' answers and their planes, held against the stream's.
 fn compare(
     text: &[u8],
     lent: Cursor,
@@ -135,10 +136,15 @@ fn compare(
     qindex: &[u16],
     tiles: &[u16],
     plane: &mut [u16],
+    again: &mut [u16],
     steps: &[u32],
 ) -> bool {
     let answer = deblock_plane(plane, vedge, hedge, sqw, sqh, qindex, tiles, steps, s);
-    same(answer, told) && held(text, lent, told, plane)
+    let plain = deblock_plane_plain(again, vedge, hedge, sqw, sqh, qindex, tiles, steps, s);
+    same(answer, told)
+        && held(text, lent, told, plane)
+        && same(plain, told)
+        && held(text, lent, told, again)
 }
 
 // A recorded plane after its grid: its samples, its buffer and the answer.
@@ -184,7 +190,7 @@ fn replay_recorded(
     tally::case(t, told.number, same)
 }
 
-// A plane after its grid: its samples and the answer.
+// A plane after its grid: its samples, once for each engine, and the answer.
 fn replay_plane(
     text: &[u8],
     lent: Cursor,
@@ -199,13 +205,16 @@ fn replay_plane(
     t: Tally,
 ) -> Tally {
     let mut plane = [0u16; 131072];
+    let mut again = [0u16; 131072];
     let p = cases::read_u16s(text, lent, &mut plane);
+    let a = cases::read_u16s(text, lent, &mut again);
     let told = cases::read_counted(text, p.rest);
     let rest = told.rest;
     if !rest.good {
         return tally::unread(t);
     }
     let samples = p.length;
+    let copied = a.length;
     let same = compare(
         text,
         lent,
@@ -218,6 +227,7 @@ fn replay_plane(
         qindex,
         tiles,
         &mut plane[..samples],
+        &mut again[..copied],
         steps,
     );
     tally::case(t, told.number, same)

@@ -1,8 +1,9 @@
 -- `filter` stops where the late checks refuse, and else runs planes whose edges have room. Assumes nothing.
 use mathlib.Core.Path.{refl}
 use mathlib.Core.List.{[]}
-use Rattle.frame.proofs.Grids.{marked, runnable}
-use Rattle.frame.proofs.Ways.{luma-room, chroma-room, late-stop, late-run}
+use Rattle.frame.proofs.Grids.{marked}
+use Rattle.frame.proofs.Accepted.{runnable}
+use Rattle.frame.proofs.Ways.{luma-room, chroma-room, luma-over, chroma-over, late-stop, late-run}
 use borrow.Author.Needs.{needs}
 use Rattle.frame.proofs.filter.filter.Statement.{statement}
 use Rattle.frame.proofs.filter.filter.Tie as tie
@@ -38,7 +39,10 @@ run-planes-requires c κs =
     let p = c .before .before .before .before .before .before .before .before .before .before .before .before .before .before .before .before .before .before .before .before .before .before .before .before .before .pre in
     let is = c .before .before .before .before .before .late .ensures in
     let ok = c .before .before .before .enum-told .given .1 in
-    (runnable (p .0 .1) (p .0 .0) (luma-room _ _ _ _ (is _ []) ok), λ on. (runnable (p .1 on .1) (p .1 on .0) (chroma-room _ _ _ _ (is [] _) ok on), runnable (p .1 on .2) (p .1 on .0) (chroma-room _ _ _ _ (is [] _) ok on)))
+    let over = chroma-over _ _ _ _ (is [] []) ok in (
+      runnable (p .0 .1) (p .0 .0) (luma-room _ _ _ _ (is _ []) ok) (luma-over _ _ _ _ (is [] []) ok),
+      λ on. (runnable (p .1 on .1) (p .1 on .0) (chroma-room _ _ _ _ (is [] _) ok on) (over on .0), runnable (p .1 on .2) (p .1 on .0) (chroma-room _ _ _ _ (is [] _) ok on) (over on .1)),
+    )
 
 same-length-4 : tie.Need-same-length-4
 same-length-4 c = c .before .before .before .before .before .before .run-planes .kept .0

@@ -1,0 +1,4 @@
+pub mod Agree
+pub mod Columns
+pub mod OneCell
+mod Plain
