@@ -7,6 +7,7 @@ use Prim.Native.Nat.{ℕ, _+_, _-_, _*_, _%_, _≤_, _<_, max}
 use native.Mathlib.Nat.{mul-le-mul-right, add-mul, le-antisymm, mod-eq-of-lt}
 use native.Mathlib.Omega.{arith}
 use lib.ListN.{length, length-append, getD, set}
+use lib.Seq.{getD-set-other}
 use lib.IntN.{ℤ}
 use Rattle.laws.specs.Lists.{Each, each-append, each-loop}
 use Rattle.laws.specs.Loops.{each, each-same, singles-length}
@@ -19,7 +20,7 @@ use Rattle.rules.specs.Segment.{pAt, qAt}
 use Rattle.taps.specs.Signed.{signed, along, against}
 use Rattle.taps.proofs.Signs.{before-is, after-is}
 use Rattle.segment.specs.Fit.{Spread}
-use Rattle.segment.specs.Sides.{alongStores, againstStores, bothStores, differenceIn, beforeTaps, afterTaps, lineTaps, fourTaps, Scales, none, Tapped}
+use Rattle.segment.specs.Sides.{alongStores, againstStores, bothStores, Paired, differenceIn, beforeTaps, afterTaps, lineTaps, fourTaps, Scales, none, Tapped}
 use Rattle.segment.proofs.Places.{line-in}
 
 -- ---- places of one line
@@ -90,10 +91,17 @@ module _ (top at step s by : ℕ) (plus : Bool) (l : List ℕ) (one : 1 ≤ step
 
   -- the plane q after i stores on either side; those that changed a sample took the count from m to n
   abbrev pub Pairs : ℕ → List ℕ → ℕ → ℕ → Type 0
-  Pairs i q m n = (q ≡ puts (Q i) (puts (P i) l)) × (n ≡ m + (changes (P i) l + changes (Q i) l))
+  Pairs i q m n = Paired top at step s plus by l i q m n
 
   pub pair-none : (m : ℕ) → Pairs 0 l m m
-  pair-none m = (puts-none _ l ∙ puts-none _ (puts (P 0) l), omega (arith, put-none (λ j. P1 j) l 0 .count, put-none (λ j. Q1 j) l 0 .count))
+  pair-none m = record {
+    list = puts-none _ l ∙ puts-none _ (puts (P 0) l);
+    count = omega (arith, put-none (λ j. P1 j) l 0 .count, put-none (λ j. Q1 j) l 0 .count);
+  }
+
+  -- counted from another number on
+  pub pair-on : (i : ℕ) {q : List ℕ} {n : ℕ} (m : ℕ) → Pairs i q 0 n → Pairs i q m (m + n)
+  pair-on i m e = record { list = e .list; count = omega (arith, e .count) }
 
   -- those after the edge store nowhere before it
   none-before-edge : (i : ℕ) → (i + 1) * step ≤ at → Each (λ (st : Store). st .0 ≡ pAt at step i → ⊥) (Q i)
@@ -125,20 +133,34 @@ module _ (top at step s by : ℕ) (plus : Bool) (l : List ℕ) (one : 1 ≤ step
       → u ≡ against top (getD (set q (pAt at step i) v) (qAt at step i) 0) plus (by * (s - i)) → b ≡ differ (getD (set q (pAt at step i) v) (qAt at step i) 0) u
       → Pairs (i + 1) (set (set q (pAt at step i) v) (qAt at step i) u) m (n + (a + b))
   pair-more m i v u a b {q} {n} h e g ga f fb =
-      let mid = pair-before i v h (e .0) g in
-      let p = unread-p i h (e .0) ∙ before-unread top at step s by plus l one i h refl in
+      let mid = pair-before i v h (e .list) g in
+      let p = unread-p i h (e .list) ∙ before-unread top at step s by plus l one i h refl in
       let r = unread-q i h mid in
       let x : a ≡ changes (P1 i) l = ga ∙ ap₂ differ p (g ∙ ap (λ (x : ℕ). along top x plus (by * (s - i))) p) ∙ sym (changes-one _ _ l) in
-      let y : b ≡ changes (Q1 i) l = fb ∙ ap₂ differ r (f ∙ ap (λ (x : ℕ). against top x plus (by * (s - i))) r) ∙ sym (changes-one _ _ l) in (
-        puts-more Q1 (puts (P (i + 1)) l) i mid (puts-one (set q (pAt at step i) v) (qAt at step i) u (against top (getD l (qAt at step i) 0) plus (by * (s - i)))
-            (f ∙ ap (λ (x : ℕ). against top x plus (by * (s - i))) r)),
-        omega (arith, e .1, x, y, changes-more P1 l i, changes-more Q1 l i),
-      )
+      let y : b ≡ changes (Q1 i) l = fb ∙ ap₂ differ r (f ∙ ap (λ (x : ℕ). against top x plus (by * (s - i))) r) ∙ sym (changes-one _ _ l) in
+      record {
+        list = puts-more Q1 (puts (P (i + 1)) l) i mid (puts-one (set q (pAt at step i) v) (qAt at step i) u (against top (getD l (qAt at step i) 0) plus (by * (s - i)))
+            (f ∙ ap (λ (x : ℕ). against top x plus (by * (s - i))) r));
+        count = omega (arith, e .count, x, y, changes-more P1 l i, changes-more Q1 l i);
+      }
 
-  pub pair-end : (i : ℕ) {q : List ℕ} {m n : ℕ} → Pairs i q m n → i ≤ s → s ≤ i → Put (bothStores top at step s s plus by by l) l q m n
-  pair-end i {q} {m} {n} e a b =
-      let f : Pairs s q m n = rw (le-antisymm a b) at e in
-      record { list = f .0 ∙ sym (puts-append (P s) (Q s) l); count = f .1 ∙ ap (λ (x : ℕ). m + x) (sym (changes-append (P s) (Q s) l)) }
+  -- both samples read before either is stored; twice d of them changed, and twice k of those before
+  pub pair-plain : (i v u k d : ℕ) {q : List ℕ} → (i + 1) * step ≤ at → Pairs i q 0 (2 * k)
+      → v ≡ along top (getD q (pAt at step i) 0) plus (by * (s - i)) → u ≡ against top (getD q (qAt at step i) 0) plus (by * (s - i))
+      → differ (getD q (pAt at step i) 0) v + differ (getD q (qAt at step i) 0) u ≡ 2 * d
+      → Pairs (i + 1) (set (set q (pAt at step i) v) (qAt at step i) u) 0 (2 * (k + d))
+  pair-plain i v u k d {q} h e g f t =
+      let w : getD (set q (pAt at step i) v) (qAt at step i) 0 ≡ getD q (qAt at step i) 0 =
+      getD-set-other q (pAt at step i) (qAt at step i) v 0 (λ z. p-below at step (i + 1) i i one (omega arith) h (sym z)) in
+      let r = pair-more 0 i v u (differ (getD q (pAt at step i) 0) v) (differ (getD q (qAt at step i) 0) u) h e g refl
+      (f ∙ ap (λ (x : ℕ). against top x plus (by * (s - i))) (sym w)) (ap (λ (x : ℕ). differ x u) (sym w)) in
+      record { list = r .list; count = omega (arith, r .count, t) }
+
+  pub pair-all : (i : ℕ) {q : List ℕ} {m n : ℕ} → Pairs i q m n → i ≤ s → s ≤ i → Pairs s q m n
+  pair-all i {q} {m} {n} e a b = let f : Pairs s q m n = rw (le-antisymm a b) at e in f
+
+  pub pair-put : {q : List ℕ} {m n : ℕ} → Pairs s q m n → Put (bothStores top at step s s plus by by l) l q m n
+  pair-put {q} {m} {n} f = record { list = f .list ∙ sym (puts-append (P s) (Q s) l); count = f .count ∙ ap (λ (x : ℕ). m + x) (sym (changes-append (P s) (Q s) l)) }
 
 -- ---- a side by D
 module _ (top at step s size by : ℕ) (plus : Bool) (e : by ≡ size * weightOf s) (l : List ℕ) where
@@ -169,8 +191,9 @@ module _ (top at step n w bn bw : ℕ) (plus : Bool) (a b : List ℕ) (one : 1 �
       (λ i h. (still i (e .list), tt)))
 
 -- D from the four samples that the code reads
-read-difference : (l : List ℕ) (at step m : ℕ) → within m (difference (getD l (at - 2 * step) 0) (getD l (at - step) 0) (getD l at 0) (getD l (at + step) 0)) ≡ differenceIn l at step m
+read-difference : (l : List ℕ) (at step m : ℕ) → within m (difference (getD l (at - step - step) 0) (getD l (at - step) 0) (getD l at 0) (getD l (at + step) 0)) ≡ differenceIn l at step m
 read-difference l at step m =
+    let o : at - step - step ≡ pAt at step 1 = omega arith in
     let p : at - step ≡ pAt at step 0 = omega arith in
     let q : at ≡ qAt at step 0 = omega arith in
     let r : at + step ≡ qAt at step 1 = omega arith in
@@ -178,7 +201,7 @@ read-difference l at step m =
 
 -- a line's taps: a and c are the plane before and after
 pub line-both : (top at step n w m size wn ww bn bw : ℕ) (plus : Bool) (a c : List ℕ) {i k : ℕ} → Scales n w m wn ww
-    → signed plus size ≡ within m (difference (getD a (at - 2 * step) 0) (getD a (at - step) 0) (getD a at 0) (getD a (at + step) 0)) → bn ≡ size * wn → bw ≡ size * ww
+    → signed plus size ≡ within m (difference (getD a (at - step - step) 0) (getD a (at - step) 0) (getD a at 0) (getD a (at + step) 0)) → bn ≡ size * wn → bw ≡ size * ww
     → Put (bothStores top at step n w plus bn bw a) a c i k → Put (lineTaps top at step n w m a) a c i k
 unfolding lineTaps
 line-both top at step n w m size wn ww bn bw plus a c sc hs hn hw e =
@@ -193,7 +216,7 @@ line-both top at step n w m size wn ww bn bw plus a c sc hs hn hw e =
 
 -- of equal widths
 pub line-equal : (top at step n w m size wn ww by : ℕ) (plus : Bool) (a c : List ℕ) {i k : ℕ} → n ≡ w → Scales n w m wn ww
-    → signed plus size ≡ within m (difference (getD a (at - 2 * step) 0) (getD a (at - step) 0) (getD a at 0) (getD a (at + step) 0)) → by ≡ size * ww
+    → signed plus size ≡ within m (difference (getD a (at - step - step) 0) (getD a (at - step) 0) (getD a at 0) (getD a (at + step) 0)) → by ≡ size * ww
     → Put (bothStores top at step w w plus by by a) a c i k → Put (lineTaps top at step n w m a) a c i k
 line-equal top at step n w m size wn ww by plus a c q sc hs hw e =
     let z : ww ≡ wn = sc .weight-after ∙ ap weightOf (sym q) ∙ sym (sc .weight-before) in

@@ -7,8 +7,8 @@ use Prim.Native.Nat.{ℕ, _+_, _*_, _-_, _≤_, _<_, max}
 use lib.ListN.{length, getD}
 use lib.IntN.{ℤ}
 use Rattle.laws.specs.Loops.{each}
-use Rattle.laws.specs.Stores.{Store}
-use Rattle.laws.specs.Changes.{Put}
+use Rattle.laws.specs.Stores.{Store, puts}
+use Rattle.laws.specs.Changes.{changes, Put}
 use Rattle.laws.specs.Whole.{within}
 use Rattle.rules.specs.declared.counts.Counts.{Counts}
 use Rattle.rules.specs.Taps.{weightOf, difference, before, after}
@@ -26,6 +26,11 @@ againstStores top at step s plus by l k = each k (λ i. (qAt at step i, against 
 -- both sides, n before the edge and w after it, each sample as it was in l
 abbrev pub bothStores : ℕ → ℕ → ℕ → ℕ → ℕ → Bool → ℕ → ℕ → List ℕ → List Store
 bothStores top at step n w plus bn bw l = alongStores top at step n plus bn l n ++ againstStores top at step w plus bw l w
+
+-- the plane q after the first i stores on either side of a line of l, of width s on both; those that changed a sample took the count from m to n
+pub record Paired (top at step s : ℕ) (plus : Bool) (by : ℕ) (l : List ℕ) (i : ℕ) (q : List ℕ) (m n : ℕ) : Type 0 where
+  pub list : q ≡ puts (againstStores top at step s plus by l i) (puts (alongStores top at step s plus by l i) l)
+  pub count : n ≡ m + (changes (alongStores top at step s plus by l i) l + changes (againstStores top at step s plus by l i) l)
 
 -- D of a line of the plane l, limited to ±m
 abbrev pub differenceIn : List ℕ → ℕ → ℕ → ℕ → ℤ

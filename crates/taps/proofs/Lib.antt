@@ -1,3 +1,4 @@
 pub mod Sizes
 pub mod Signs
 pub mod Ramp
+pub mod Pairs

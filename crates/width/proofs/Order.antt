@@ -4,9 +4,7 @@ use mathlib.Core.Path.{_≡_, refl, sym, _∙_}
 use mathlib.Core.Bool.{Bool, true, false}
 use mathlib.Core.List.{List}
 use Prim.Native.Nat.{ℕ, _+_, _*_, _/_, _≤_, _<_, max}
-use native.Mathlib.Omega.{arith}
 use borrow.Author.Needs.{needs}
-use borrow.Author.Tests.{lt-ltb, le-ltb, ltb-true, ltb-false}
 use lib.Dec.{eqb, ltb}
 use lib.ListN.{getD}
 use Rattle.laws.specs.Choose.{pick, either}
@@ -15,17 +13,7 @@ use Rattle.rules.specs.Width.{blank, dm2Of, d1Of, dm1Of, d0Of, steepOf, failsOf
 use Rattle.width.specs.Ends.{ends}
 use Rattle.width.specs.Tests.{offOf, oneOf, twoOf}
 use Rattle.lengths.proofs.Picks.{pick-eq, pick-ne}
-use Rattle.width.proofs.Picks.{pick-lt, pick-ge, said-yes, said-not}
-
--- one of two is over a limit exactly where the larger is
-either-max : (s e f : ℕ) → either (ltb s e) (ltb s f) ≡ ltb s (max e f)
-unfolding either
-either-max s e f = out (ltb s e) (ltb s f) refl refl
-  where
-    out : (x y : Bool) → ltb s e ≡ x → ltb s f ≡ y → either (ltb s e) (ltb s f) ≡ ltb s (max e f)
-    out true y p q = let l : s < max e f = omega (arith, ltb-true s e p) in rw (p, lt-ltb _ _ l)
-    out false true p q = let l : s < max e f = omega (arith, ltb-true s f q) in rw (p, q, lt-ltb _ _ l)
-    out false false p q = let l : max e f ≤ s = omega (arith, ltb-false s e p, ltb-false s f q) in rw (p, q, le-ltb _ _ l)
+use Rattle.width.proofs.Picks.{either-max, pick-lt, pick-ge, said-yes, said-not}
 
 -- two tests with the same outcome, and three tests in one
 two-picks : (a b : Bool) (u v : ℕ) → pick (either a b) u v ≡ pick a u (pick b u v)

@@ -2,7 +2,8 @@
 -- Assumes nothing.
 use mathlib.Core.Path.{_≡_, refl, sym, _∙_}
 use mathlib.Core.Bool.{Bool, true, false}
-use Prim.Native.Nat.{ℕ, _≤_, _<_}
+use Prim.Native.Nat.{ℕ, _≤_, _<_, max}
+use native.Mathlib.Omega.{arith}
 use borrow.Author.Tests.{ltb-true, ltb-false, eq-eqb, ne-eqb, lt-ltb, le-ltb, le-leb, lt-leb}
 use lib.Dec.{eqb, ltb, leb}
 use Rattle.laws.specs.Choose.{pick, either, both}
@@ -61,6 +62,16 @@ module _ (a b : ℕ) (t : Bool) where
   unfolding both
   and-gt h = rw (lt-leb _ _ h)
 
+-- a number that counts only where a test says so
+module _ (a b u : ℕ) where
+  pub count-le : {z : ℕ} → a ≤ b → z ≡ u → z ≡ pick (leb a b) u 0
+  unfolding pick
+  count-le h f = rw (le-leb _ _ h) f
+
+  pub count-gt : b < a → 0 ≡ pick (leb a b) u 0
+  unfolding pick
+  count-gt h = rw (lt-leb _ _ h)
+
 pub ruleset ors = (refl, or-eq, or-ne, or-lt, or-ge)
 
 -- ---- two tests that are one
@@ -70,3 +81,13 @@ same-test a b c d f g = out (ltb a b) refl
     out : (t : Bool) → ltb a b ≡ t → ltb a b ≡ ltb c d
     out true e = e ∙ sym (lt-ltb c d (f (ltb-true a b e)))
     out false e = e ∙ sym (le-ltb c d (g (ltb-false a b e)))
+
+-- one of two is over a limit exactly where the larger is
+pub either-max : (s e f : ℕ) → either (ltb s e) (ltb s f) ≡ ltb s (max e f)
+unfolding either
+either-max s e f = out (ltb s e) (ltb s f) refl refl
+  where
+    out : (x y : Bool) → ltb s e ≡ x → ltb s f ≡ y → either (ltb s e) (ltb s f) ≡ ltb s (max e f)
+    out true y p q = let l : s < max e f = omega (arith, ltb-true s e p) in rw (p, lt-ltb _ _ l)
+    out false true p q = let l : s < max e f = omega (arith, ltb-true s f q) in rw (p, q, lt-ltb _ _ l)
+    out false false p q = let l : max e f ≤ s = omega (arith, ltb-false s e p, ltb-false s f q) in rw (p, q, le-ltb _ _ l)

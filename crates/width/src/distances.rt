@@ -1,6 +1,5 @@
 // The tests at the distances 4, 6 and 8, which stop at the first failure.
-use crate::ramps::steep_after;
-use crate::ramps::steep_before;
+use crate::ramps::steep;
 use rules::edge::Line;
 ghost use mathlib.Core.Path.{_≡_};
 ghost use Prim.Native.Nat.{_*_, _/_, _≤_};
@@ -51,7 +50,7 @@ fn ramp_limit(side: u32, d: usize) -> u32
     side * (d as u32) / 16
 }
 
-// The test at one distance; g is dm1 + d0. Each ramp is a call of its own, small enough to inline.
+// The test at one distance; g is dm1 + d0.
 fn fails(a: Line, b: Line, n: usize, q: u32, side: u32, g: u32, d: usize) -> bool
     requires { ⌜ (q ≤ 2048) × (side ≤ 839) × (g ≤ 262140) × Distance d ⌝ }
     ensures { λ r. ⌜ r ≡ failsOf (ends a b) n q side g d ⌝ }
@@ -59,12 +58,7 @@ fn fails(a: Line, b: Line, n: usize, q: u32, side: u32, g: u32, d: usize) -> boo
     if q_limit(q, d) < 16 * g {
         return true;
     }
-    let k = ramp_at(d);
-    let limit = ramp_limit(side, d);
-    if steep_after(a, b, k, limit) {
-        return true;
-    }
-    steep_before(a, b, n, k, limit)
+    steep(a, b, n, ramp_at(d), ramp_limit(side, d))
 }
 
 // The width by these tests, of at most p samples after the edge.

@@ -1,11 +1,12 @@
 // Ramps: how far the sample k steps out is from the line through the first two, over the two lines that decide.
 use crate::sizes::apart;
+use crate::sizes::larger;
 use rules::edge::Line;
 ghost use mathlib.Core.Path.{_≡_};
 ghost use Prim.Native.Nat.{_+_, _≤_};
-ghost use lib.Dec.{ltb, leb};
-ghost use Rattle.laws.specs.Choose.{both};
-ghost use Rattle.rules.specs.Width.{slopeOf, rampBeforeOf, rampAfterOf, steepOf};
+ghost use lib.Dec.{leb};
+ghost use Rattle.laws.specs.Choose.{pick};
+ghost use Rattle.rules.specs.Width.{slopeOf, steepOf};
 ghost use Rattle.width.specs.Ends.{ends, slopesOf};
 
 // |(a0 - ak) - k(a0 - a1)|
@@ -39,32 +40,20 @@ fn slopes_after(a: Line, b: Line, k: usize) -> u32
     slopes(k as u32, a.q[0], a.q[1], a.q[k], b.q[0], b.q[1], b.q[k])
 }
 
-// Whether the ramp after the edge is over the limit: the sum of two slopes against twice the limit.
-pub fn steep_after(a: Line, b: Line, k: usize, limit: u32) -> bool
-    requires { ⌜ (k ≤ 8) × (limit ≤ 839) ⌝ }
-    ensures { λ r. ⌜ r ≡ ltb limit (rampAfterOf (ends a b) k) ⌝ }
+// The one before the edge, which counts only if n >= k. It is worked out in either case, so that no arms meet before the next test: the
+// compiler then loads the samples further out only where a later test wants them.
+fn slopes_counted(a: Line, b: Line, n: usize, k: usize) -> u32
+    requires { ⌜ k ≤ 8 ⌝ }
+    ensures { λ r. ⌜ r ≡ pick (leb k n) (slopesOf k (a .p) (b .p)) 0 ⌝ }
 {
-    2 * limit < slopes_after(a, b, k)
+    let x = slopes_before(a, b, k);
+    if n < k { 0 } else { x }
 }
 
-// Whether the ramp before the edge is, which is tested only if n >= k.
-pub fn steep_before(a: Line, b: Line, n: usize, k: usize, limit: u32) -> bool
-    requires { ⌜ (k ≤ 8) × (limit ≤ 839) ⌝ }
-    ensures { λ r. ⌜ r ≡ both (leb k n) (ltb limit (rampBeforeOf (ends a b) k)) ⌝ }
-{
-    if n < k {
-        return false;
-    }
-    2 * limit < slopes_before(a, b, k)
-}
-
-// Whether either is.
+// Whether a ramp is over the limit: the larger sum of two slopes against twice the limit.
 pub fn steep(a: Line, b: Line, n: usize, k: usize, limit: u32) -> bool
     requires { ⌜ (k ≤ 8) × (limit ≤ 839) ⌝ }
     ensures { λ r. ⌜ r ≡ steepOf (ends a b) n k limit ⌝ }
 {
-    if steep_after(a, b, k, limit) {
-        return true;
-    }
-    steep_before(a, b, n, k, limit)
+    2 * limit < larger(slopes_after(a, b, k), slopes_counted(a, b, n, k))
 }

@@ -7,29 +7,29 @@ use borrow.Author.Needs.{needs}
 use Rattle.segment.proofs.store.apply_taps.Statement.{statement}
 use Rattle.segment.proofs.store.apply_taps.Tie as tie
 
-mul-limited : tie.Need-mul-limited
-mul-limited c = search needs
-
 sub-limited : tie.Need-sub-limited
 sub-limited c = search needs
-
-mul-limited-2 : tie.Need-mul-limited-2
-mul-limited-2 c = search needs
-
-slice-read-limited : tie.Need-slice-read-limited
-slice-read-limited c = search needs
 
 sub-limited-2 : tie.Need-sub-limited-2
 sub-limited-2 c = search needs
 
-mul-limited-3 : tie.Need-mul-limited-3
-mul-limited-3 c = search needs
+mul-limited : tie.Need-mul-limited
+mul-limited c = search needs
+
+slice-read-limited : tie.Need-slice-read-limited
+slice-read-limited c = search needs
+
+sub-limited-3 : tie.Need-sub-limited-3
+sub-limited-3 c = search needs
+
+mul-limited-2 : tie.Need-mul-limited-2
+mul-limited-2 c = search needs
 
 slice-read-limited-2 : tie.Need-slice-read-limited-2
 slice-read-limited-2 c = search needs
 
-mul-limited-4 : tie.Need-mul-limited-4
-mul-limited-4 c = search needs
+mul-limited-3 : tie.Need-mul-limited-3
+mul-limited-3 c = search needs
 
 slice-read-limited-3 : tie.Need-slice-read-limited-3
 slice-read-limited-3 c = search needs
@@ -37,8 +37,8 @@ slice-read-limited-3 c = search needs
 add-limited : tie.Need-add-limited
 add-limited c = search needs
 
-mul-limited-5 : tie.Need-mul-limited-5
-mul-limited-5 c = search needs
+mul-limited-4 : tie.Need-mul-limited-4
+mul-limited-4 c = search needs
 
 slice-read-limited-4 : tie.Need-slice-read-limited-4
 slice-read-limited-4 c = search needs
@@ -51,9 +51,8 @@ weighted-requires c κs = search needs
 
 both-sides-requires : tie.Need-both-sides-requires
 both-sides-requires c κs =
-    let start = c .before .before .before .before .before .before .before .before .before in
-    let lane = start .pre .1 in
-    (c .weighted .ensures .1, lane .after-most, omega (arith, start .pre .3), lane .step-some, omega (arith, ap (λ (x : ℕ). x * start .args .step) (c .before .before .if1 .taken)), lane .high)
+    let lane = c .before .before .before .before .before .before .before .before .before .pre .1 in
+    (c .weighted .ensures .1, lane .after-most, omega (arith, c .before .before .before .before .before .before .before .before .before .pre .3), lane .step-some, omega (arith, ap (λ (x : ℕ). x * c .before .before .before .before .before .before .before .before .before .args .step) (c .before .before .if1 .taken)), lane .high)
 
 add-t35 : tie.Need-add-t35
 add-t35 c = search needs
@@ -66,12 +65,11 @@ same-length c = search needs
 
 returns : tie.Need-returns
 returns c =
-    let start = c .before .before .before .before .before .before .before .before .before .before .before .before .before in
-    let lane = start .pre .1 in
+    let start = c .before .before .before .before .before .before .before .before .before .before .before .before .before .args in
     let both = c .before .before .before .both-sides .ensures in (
       record {
-        put = line-equal _ _ _ _ _ _ _ _ _ _ _ (start .args .plane .now) _ (c .before .before .before .before .before .before .if1 .taken) (start .pre .0) (c .before .before .before .before .before .before .before .limited .ensures .0) (c .before .before .before .before .weighted .ensures .0) (both .0);
-        stored = ap (λ (x : ℕ). start .args .sofar .stored + x) (line-stored _ _ _ _ _ _ _);
+        put = line-equal _ _ _ _ _ _ _ _ _ _ _ (start .plane .now) _ (c .before .before .before .before .before .before .if1 .taken) (c .before .before .before .before .before .before .before .before .before .before .before .before .before .pre .0) (c .before .before .before .before .before .before .before .limited .ensures .0) (c .before .before .before .before .weighted .ensures .0) (both .0);
+        stored = ap (λ (x : ℕ). start .sofar .stored + x) (line-stored _ _ _ _ _ _ _);
       },
       omega arith,
       omega (arith, both .1),
@@ -100,17 +98,17 @@ same-length-2 c = search needs
 
 returns-2 : tie.Need-returns-2
 returns-2 c =
-    let start = c .before .before .before .before .before .before .before .before .before .before .before .before .before .before .before .before .before .before in
-    let lane = start .pre .1 in
+    let start = c .before .before .before .before .before .before .before .before .before .before .before .before .before .before .before .before .before .before .args in
+    let lane = c .before .before .before .before .before .before .before .before .before .before .before .before .before .before .before .before .before .before .pre .1 in
     let p = c .before .before .before .before .before .before .before .before .side-before .ensures in
     let q = c .before .before .before .side-after .ensures in
     let bn = c .before .before .before .before .before .before .before .before .before .weighted2 in
     let bw = c .before .before .before .before .weighted3 in (
       record {
         put =
-            line-both _ _ _ _ _ _ _ _ _ _ _ _ (start .args .plane .now) _ (start .pre .0) (c .before .before .before .before .before .before .before .before .before .before .before .before .limited .ensures .0) (bn .ensures .0) (bw .ensures .0)
-            (sides-then _ _ _ _ (start .args .w) (bn .result) (bw .result) _ (start .args .plane .now) _ (lane .step-some) (lane .low) _ (p .0) (q .0));
-        stored = ap (λ (x : ℕ). start .args .sofar .stored + x) (line-stored _ _ _ _ _ _ _);
+            line-both _ _ _ _ _ _ _ _ _ _ _ _ (start .plane .now) _ (c .before .before .before .before .before .before .before .before .before .before .before .before .before .before .before .before .before .before .pre .0) (c .before .before .before .before .before .before .before .before .before .before .before .before .limited .ensures .0) (bn .ensures .0) (bw .ensures .0)
+            (sides-then _ _ _ _ (start .w) (bn .result) (bw .result) _ (start .plane .now) _ (lane .step-some) (lane .low) _ (p .0) (q .0));
+        stored = ap (λ (x : ℕ). start .sofar .stored + x) (line-stored _ _ _ _ _ _ _);
       },
       omega arith,
       omega (arith, p .1, q .1),
@@ -120,17 +118,17 @@ pub apply-taps-spec : {M : Type 1} → statement M
 apply-taps-spec =
     tie.close
     (tie.spec
-    mul-limited
     sub-limited
-    mul-limited-2
-    slice-read-limited
     sub-limited-2
-    mul-limited-3
+    mul-limited
+    slice-read-limited
+    sub-limited-3
+    mul-limited-2
     slice-read-limited-2
-    mul-limited-4
+    mul-limited-3
     slice-read-limited-3
     add-limited
-    mul-limited-5
+    mul-limited-4
     slice-read-limited-4
     limited-requires
     weighted-requires
