@@ -18,11 +18,11 @@ use Rattle.rules.specs.declared.refusals.Answer.the-variants.{Accepted, 
 use Rattle.rules.specs.Numbers.{depthOk, inRange, subsamplingOk, deltaOk, down}
 use Rattle.rules.specs.Refusals.{orElse, unless, found, onlyIf, settle}
 use Rattle.rules.specs.Thresholds.{stepsCheck}
-use Rattle.rules.specs.Plane.{Grid, tiled, tilesCheck, runPlane, runStored, runChanged, noRoom, overPlane}
+use Rattle.rules.specs.Plane.{Grid, keeping, tilesCheck, runPlane, runStored, runChanged, noRoom, overPlane}
 use Rattle.rules.specs.TuGrid.{Marks, marks, txGridOf, capOk, foursOk, badLeaf}
 use Rattle.rules.specs.QindexGrid.{qGridOf}
 
--- ---- the lent lists: three planes and two grids are written, but for a grid's tile starts; these and five lists more are only read
+-- ---- the lent lists: three planes and two grids are written, but for a grid's tile starts and keep marks; these and five lists more are only read
 
 pub record Planes : Type 0 where
   pub y : List ℕ
@@ -141,14 +141,14 @@ chromaQ f = record { cols = chromaPlane f .cols; rows = chromaPlane f .rows; ssx
 unfoldable pub chromaOn : Frame → Bool
 chromaOn f = both (f .haschroma) (f .chromadeblock)
 
--- ---- the grids that are built: marks and indices from the leaves, qindex from the superblocks, tile starts as lent
+-- ---- the grids that are built: marks and indices from the leaves, qindex from the superblocks, tile starts and keep marks as lent
 
-abbrev pub withQ : Marks → List ℕ → List ℕ → Grid
-withQ m q ts = tiled (m .vedge) (m .hedge) (m .sqw) (m .sqh) q ts
+abbrev pub withQ : Marks → List ℕ → List ℕ → List ℕ → Grid
+withQ m q ts ks = keeping (m .vedge) (m .hedge) (m .sqw) (m .sqh) q ts ks
 
 unfoldable pub builtGrid : TuGrid → QindexGrid → List ℕ → List ℕ → List ℕ → Grid → Grid
 builtGrid tu q leaves skips sbq g =
-    withQ (txGridOf tu leaves skips (marks (g .vedge) (g .hedge) (g .sqw) (g .sqh))) (qGridOf q sbq (g .qindex)) (g .tiles)
+    withQ (txGridOf tu leaves skips (marks (g .vedge) (g .hedge) (g .sqw) (g .sqh))) (qGridOf q sbq (g .qindex)) (g .tiles) (g .keep)
 
 unfoldable pub builtGrids : Frame → Given → Grids → Grids
 builtGrids f n g =
