@@ -18,7 +18,7 @@ use Rattle.rules.specs.Thresholds.{stepGood, badStep, stepsCheck, deltas
 use Rattle.rules.specs.Lengths.{lengthBefore, lengthAfter, reachOf, reachBefore, reachAfter}
 use Rattle.rules.specs.Segment.{rangesOk, hasRoom}
 use Rattle.rules.specs.Lone.{edgeOf, sizesOk, settingsOk, overEdge, loneCheck}
-use Rattle.rules.specs.TuGrid.{Marks, marks, flagOf, bareOf, isSize, cellsOk, capOk, foursOk, leafGood, leafGoodAt, badLeaf, marksLong, txGridCheck}
+use Rattle.rules.specs.TuGrid.{Marks, marks, flagOf, bareOf, isSize, cellsOk, capOk, foursOk, leafGood, leafGoodAt, badLeaf, listsLong, txGridCheck}
 use Rattle.rules.specs.Plane.{badKeep}
 use Rattle.rules.specs.Record.{header, edgeIn, entryAt, entryCount, edgesIn}
 use Rattle.rules.specs.Replay.{replaySizesOk, headerOk, cutEntry, firstEntry, recordCheck, replayLong, replayCheck}
@@ -82,15 +82,16 @@ pub record Orders : Type 0 where
   pub replay-good : replayCheck (again 8 4) (header ++ entry 8 0 3) unkept (flat 100 108) ≡ Accepted
   pub replay-in-order : edgesIn (header ++ (entry 8 0 3 ++ (entry 8 0 2 ++ entry 9 0 1))) ≡ edge 3 8 ∷ edge 2 8 ∷ record { x = 9; y = 0; dir = 0; pair = 1; q = 8; side = 40 } ∷ []
   pub replay-twice : edgesIn (header ++ (entry 8 0 3 ++ entry 8 0 3)) ≡ edge 3 8 ∷ edge 3 8 ∷ []
-  pub grid-2-3 : txGridCheck (cell 0 8) (0 ∷ []) [] one ≡ Refused Size
-  pub grid-3-5 : txGridCheck (cell 1 3) [] [] none ≡ Refused Length
-  pub grid-5-9 : txGridCheck (cell 1 3) bad [] one ≡ Refused Setting
-  pub grid-9 : txGridCheck (cell 1 8) bad (0 ∷ 0 ∷ 4097 ∷ 1 ∷ []) one ≡ Refused (Leaf 1)
-  pub grid-skip : txGridCheck (cell 1 8) [] (0 ∷ 0 ∷ 4097 ∷ 1 ∷ []) one ≡ Refused (Leaf 0)
+  pub grid-2-3 : txGridCheck (cell 0 8) (0 ∷ []) [] one [] ≡ Refused Size
+  pub grid-3-5 : txGridCheck (cell 1 3) [] [] none (2 ∷ []) ≡ Refused Length
+  pub grid-keep-3-5 : txGridCheck (cell 1 3) [] [] one [] ≡ Refused Length
+  pub grid-5-9 : txGridCheck (cell 1 3) bad [] one (2 ∷ []) ≡ Refused Setting
+  pub grid-9 : txGridCheck (cell 1 8) bad (0 ∷ 0 ∷ 4097 ∷ 1 ∷ []) one (2 ∷ []) ≡ Refused (Leaf 1)
+  pub grid-skip : txGridCheck (cell 1 8) [] (0 ∷ 0 ∷ 4097 ∷ 1 ∷ []) one (2 ∷ []) ≡ Refused (Leaf 0)
 
 pub orders : Orders
 unfolding pick either both all depthOk topOf inRange inRangeZ deltaOk subsamplingOk orElse unless found sooner first foundIf foundUnless over overRow overBox stepGood badStep stepsCheck deltasCheck thresholdsCheck lengthBefore lengthAfter reachOf reachBefore reachAfter rangesOk hasRoom edgeOf
-    sizesOk settingsOk overEdge loneCheck each numberIn edgeIn entryAt entryCount edgesIn replaySizesOk headerOk cutEntry firstEntry recordCheck replayLong badKeep replayCheck flagOf bareOf isSize cellsOk capOk foursOk leafGood leafGoodAt badLeaf marksLong txGridCheck
+    sizesOk settingsOk overEdge loneCheck each numberIn edgeIn entryAt entryCount edgesIn replaySizesOk headerOk cutEntry firstEntry recordCheck replayLong badKeep replayCheck flagOf bareOf isSize cellsOk capOk foursOk leafGood leafGoodAt badLeaf listsLong txGridCheck
 orders = record {
   thresholds-1-4 = refl;
   thresholds-4-5 = refl;
@@ -119,6 +120,7 @@ orders = record {
   replay-twice = refl;
   grid-2-3 = refl;
   grid-3-5 = refl;
+  grid-keep-3-5 = refl;
   grid-5-9 = refl;
   grid-9 = refl;
   grid-skip = refl;
