@@ -1,4 +1,4 @@
--- Document 01, "Order of checks: 1,2,3,4,5,9,6,7,8", and ticket 2's: inputs with two faults at once, each refused by the earlier one. Computed from the rules.
+-- Document 01, "Order of checks: 1,2,3,4,5,9,6,7,8", and the tickets': inputs with two faults at once, each refused by the earlier one. Computed from the rules.
 -- Assumes nothing.
 use mathlib.Core.Path.{_≡_, refl}
 use mathlib.Core.List.{List, [], _∷_, _++_}
@@ -10,6 +10,7 @@ use Rattle.low_first.specs.Bytes.{numberIn}
 use Rattle.rules.specs.declared.settings.Lone.{Lone}
 use Rattle.rules.specs.declared.settings.Replay.{Replay}
 use Rattle.rules.specs.declared.settings.TuGrid.{TuGrid}
+use Rattle.rules.specs.declared.settings.Keep.{Keep}
 use Rattle.rules.specs.declared.refusals.Refusal.the-variants.{Depth, Size, Length, Steps, Setting, Cell, Room, Sample, Leaf, Header, Cut, Entry}
 use Rattle.rules.specs.declared.refusals.Answer.the-variants.{Accepted, Refused}
 use Rattle.rules.specs.Numbers.{depthOk, topOf, inRange, inRangeZ, deltaOk, subsamplingOk}
@@ -20,6 +21,7 @@ use Rattle.rules.specs.Segment.{rangesOk, hasRoom}
 use Rattle.rules.specs.Lone.{edgeOf, sizesOk, settingsOk, overEdge, loneCheck}
 use Rattle.rules.specs.TuGrid.{Marks, marks, flagOf, bareOf, isSize, cellsOk, capOk, foursOk, leafGood, leafGoodAt, badLeaf, listsLong, txGridCheck}
 use Rattle.rules.specs.Plane.{badKeep}
+use Rattle.rules.specs.Keep.{keepCheck}
 use Rattle.rules.specs.Record.{header, edgeIn, entryAt, entryCount, edgesIn}
 use Rattle.rules.specs.Replay.{replaySizesOk, headerOk, cutEntry, firstEntry, recordCheck, replayLong, replayCheck}
 use Rattle.rules.specs.Figures.{flat, edge}
@@ -48,6 +50,10 @@ unkept = 0 ∷ 0 ∷ 0 ∷ 0 ∷ []
 
 abbrev third : List ℕ
 third = 0 ∷ 1 ∷ 2 ∷ 3 ∷ []
+
+-- a rectangle far beyond a plane of one row
+abbrev far : ℕ → Keep
+far cols = record { cols = cols; rows = 1; row = 7; col = 7; h = 7; w = 7 }
 
 -- a record to be run on four rows of sixteen samples, and an entry of it: the figures' edge, with numbers that may be bad
 abbrev pub again : ℕ → ℕ → Replay
@@ -88,10 +94,14 @@ pub record Orders : Type 0 where
   pub grid-5-9 : txGridCheck (cell 1 3) bad [] one (2 ∷ []) ≡ Refused Setting
   pub grid-9 : txGridCheck (cell 1 8) bad (0 ∷ 0 ∷ 4097 ∷ 1 ∷ []) one (2 ∷ []) ≡ Refused (Leaf 1)
   pub grid-skip : txGridCheck (cell 1 8) [] (0 ∷ 0 ∷ 4097 ∷ 1 ∷ []) one (2 ∷ []) ≡ Refused (Leaf 0)
+  pub keep-2-3 : keepCheck (far 0) [] ≡ Refused Size
+  pub keep-3-6 : keepCheck (far 2) (2 ∷ []) ≡ Refused Length
+  pub keep-6 : keepCheck (far 2) (1 ∷ 2 ∷ []) ≡ Refused (Cell 1)
+  pub keep-beyond : keepCheck (far 2) (1 ∷ 0 ∷ 2 ∷ []) ≡ Accepted
 
 pub orders : Orders
 unfolding pick either both all depthOk topOf inRange inRangeZ deltaOk subsamplingOk orElse unless found sooner first foundIf foundUnless over overRow overBox stepGood badStep stepsCheck deltasCheck thresholdsCheck lengthBefore lengthAfter reachOf reachBefore reachAfter rangesOk hasRoom edgeOf
-    sizesOk settingsOk overEdge loneCheck each numberIn edgeIn entryAt entryCount edgesIn replaySizesOk headerOk cutEntry firstEntry recordCheck replayLong badKeep replayCheck flagOf bareOf isSize cellsOk capOk foursOk leafGood leafGoodAt badLeaf listsLong txGridCheck
+    sizesOk settingsOk overEdge loneCheck each numberIn edgeIn entryAt entryCount edgesIn replaySizesOk headerOk cutEntry firstEntry recordCheck replayLong badKeep replayCheck flagOf bareOf isSize cellsOk capOk foursOk leafGood leafGoodAt badLeaf listsLong txGridCheck keepCheck
 orders = record {
   thresholds-1-4 = refl;
   thresholds-4-5 = refl;
@@ -124,4 +134,8 @@ orders = record {
   grid-5-9 = refl;
   grid-9 = refl;
   grid-skip = refl;
+  keep-2-3 = refl;
+  keep-3-6 = refl;
+  keep-6 = refl;
+  keep-beyond = refl;
 }
