@@ -11,7 +11,8 @@ use Rattle.rules.specs.declared.refusals.Answer.the-variants.{Accepted}
 use Rattle.rules.specs.Numbers.{inRange}
 use Rattle.rules.specs.Refusals.{orElse, unless, found, settle, sooner, first, foundIf, over}
 use Rattle.rules.specs.TuGrid.{cellsOk}
-use Rattle.rules.specs.Keep.{inRectangle, keptAt, keptOf, badKeep, keepCheck, keepAfter}
+use Rattle.rules.specs.Plane.{badKeep}
+use Rattle.rules.specs.Keep.{inRectangle, keptAt, keptOf, keepCheck, keepAfter}
 use Rattle.scan.specs.Exactly.{Exactly}
 use Rattle.scan.proofs.Exactly.{exactly}
 use Rattle.keep.specs.Exactly.{keepTests}

@@ -18,7 +18,8 @@ use Rattle.rules.specs.declared.refusals.Refusal.{Refusal}
 use Rattle.rules.specs.declared.refusals.Refusal.the-variants.{Cell}
 use Rattle.rules.specs.declared.refusals.Found.the-variants.{Nothing}
 use Rattle.rules.specs.Refusals.{settle, over}
-use Rattle.rules.specs.Keep.{inRectangle, keptAt, keptOf, badKeep, keepCheck, keepAfter}
+use Rattle.rules.specs.Plane.{badKeep}
+use Rattle.rules.specs.Keep.{inRectangle, keptAt, keptOf, keepCheck, keepAfter}
 use Rattle.scan.proofs.First.{nothing-all, all-nothing, over-good, over-nothing}
 use Rattle.scan.proofs.Checks.{else-parts, found-nothing}
 use Rattle.tiles.proofs.Places.{place-below}

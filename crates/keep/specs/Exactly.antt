@@ -6,7 +6,7 @@ use lib.Dec.{leb}
 use lib.ListN.{length}
 use Rattle.rules.specs.declared.settings.Keep.{Keep}
 use Rattle.rules.specs.TuGrid.{cellsOk}
-use Rattle.rules.specs.Keep.{badKeep}
+use Rattle.rules.specs.Plane.{badKeep}
 use Rattle.scan.specs.Exactly.{ask, seek, Check, check}
 
 abbrev pub keepTests : Keep → List ℕ → List Check

@@ -2,7 +2,7 @@
 ghost use mathlib.Core.Path.{_≡_};
 ghost use Prim.Native.Nat.{_≤_};
 ghost use lib.ListN.{length};
-ghost use Rattle.rules.specs.Keep.{badKeep};
+ghost use Rattle.rules.specs.Plane.{badKeep};
 use rules::refusals::Found;
 
 // The first of n cells whose mark is neither 0 nor 1.

@@ -3,7 +3,7 @@ use mathlib.Core.Path.{_≡_}
 use Prim.Native.Nat.{_-_, _≤_}
 use Rattle.rules.specs.declared.refusals.Found.the-variants.{Nothing}
 use Rattle.rules.specs.Refusals.{first, over}
-use Rattle.rules.specs.Keep.{badKeep}
+use Rattle.rules.specs.Plane.{badKeep}
 use Rattle.scan.proofs.First.{firsts}
 use Rattle.keep.proofs.marks.bad_keep.Statement.{statement}
 use Rattle.keep.proofs.marks.bad_keep.Tie as tie
