@@ -36,11 +36,10 @@ same-length : tie.Need-same-length
 same-length c = search needs
 
 returns : tie.Need-returns
-returns c =
-    (
-      line-swept _ _ _ _ _ _ _ _ _ _ _ _ (c .before .before .before .before .before .before .before .before .before .before .before .before .before .before .before .args .l) (c .before .before .before .before .before .before .before .before .before .before .before .before .before .before .before .pre .2) (c .before .before .before .before .before .before .before .before .before .before .limited .ensures .0) (c .before .before .before .before .before .before .before .before .before .weighted .ensures .0) (c .before .before .before .before .before .before .before .before .weighted2 .ensures .0) (c .before .before .before .before .before .before .before-open .ensures .0) (c .before .before .after-open .ensures .0),
-      few-then (c .before .before .before .before .before .before .before-open .ensures .1) (c .before .before .after-open .ensures .1) (omega (arith, c .before .before .before .before .before .before .before .before .before .before .before .before .before .before .before .pre .3 .before-most, c .before .before .before .before .before .before .before .before .before .before .before .before .before .before .before .pre .3 .after-most)),
-    )
+returns c = (
+  line-swept _ _ _ _ _ _ _ _ _ _ _ _ (c .before .before .before .before .before .before .before .before .before .before .before .before .before .before .before .args .l) (c .before .before .before .before .before .before .before .before .before .before .before .before .before .before .before .pre .2) (c .before .before .before .before .before .before .before .before .before .before .limited .ensures .0) (c .before .before .before .before .before .before .before .before .before .weighted .ensures .0) (c .before .before .before .before .before .before .before .before .weighted2 .ensures .0) (c .before .before .before .before .before .before .before-open .ensures .0) (c .before .before .after-open .ensures .0),
+  few-then (c .before .before .before .before .before .before .before-open .ensures .1) (c .before .before .after-open .ensures .1) (omega (arith, c .before .before .before .before .before .before .before .before .before .before .before .before .before .before .before .pre .3 .before-most, c .before .before .before .before .before .before .before .before .before .before .before .before .before .before .before .pre .3 .after-most)),
+)
 
 pub line-open-spec : {M : Type 1} → statement M
 line-open-spec =

@@ -46,13 +46,12 @@ weight-requires-2 c κs =
     (omega arith, omega arith)
 
 lines-open-requires : tie.Need-lines-open-requires
-lines-open-requires c κs =
-    (
-      c .before .before .before .before .before .before .before .before .before .before .before .before .before .before .before .pre .0,
-      c .before .before .before .before .before .before .before .before .before .before .before .before .before .before .before .pre .1,
-      record { limit-most = c .before .before .limit-of .ensures .1; weight-before = c .before .weight .ensures .0; weight-after = c .weight2 .ensures .0; small-before = c .before .weight .ensures .1; small-after = c .weight2 .ensures .1 },
-      lanes-fit (c .before .before .before .before .before .before .before .before .before .before .before .before .before .before .before .args .e) _ (c .before .before .before .before .before .before .before .before .before .before .before .before .before .before .before .pre .2) (c .before .before .before .before .before .before .before .before .before .before .before .chosen-width .ensures) (c .before .before .before .before .before .before .before .before .before .before .if1 .left) (c .before .before .before .before .before .before .before .before .before .most-before .ensures) (c .before .before .before .before .before .before .before .before .least .ensures),
-    )
+lines-open-requires c κs = (
+  c .before .before .before .before .before .before .before .before .before .before .before .before .before .before .before .pre .0,
+  c .before .before .before .before .before .before .before .before .before .before .before .before .before .before .before .pre .1,
+  record { limit-most = c .before .before .limit-of .ensures .1; weight-before = c .before .weight .ensures .0; weight-after = c .weight2 .ensures .0; small-before = c .before .weight .ensures .1; small-after = c .weight2 .ensures .1 },
+  lanes-fit (c .before .before .before .before .before .before .before .before .before .before .before .before .before .before .before .args .e) _ (c .before .before .before .before .before .before .before .before .before .before .before .before .before .before .before .pre .2) (c .before .before .before .before .before .before .before .before .before .before .before .chosen-width .ensures) (c .before .before .before .before .before .before .before .before .before .before .if1 .left) (c .before .before .before .before .before .before .before .before .before .most-before .ensures) (c .before .before .before .before .before .before .before .before .least .ensures),
+)
 
 same-length-2 : tie.Need-same-length-2
 same-length-2 c = search needs
