@@ -49,7 +49,9 @@ fn visit(
     c: usize,
 ) -> Visited
     requires { ⌜ Field s (now marks) (now sizes) (now qindex) (now table) (length (now plane)) dir × Cell s r c × (dir ≤ 1) × Most 70368744177664 done ⌝ }
-    ensures { λ a. ⌜ RanFew s (now (table .entry)) (now (keep .entry)) 1 (λ steps ts. visitOf s steps (oneWay (now (marks .entry)) (now (sizes .entry)) (now (qindex .entry)) ts) dir r c) (state (now (plane .entry)) (now (buffer .entry)) done) (state (now (plane .exit)) (now (buffer .exit)) a) ⌝ }
+    ensures { λ a. ⌜ RanFew s (now (table .entry)) (now (keep .entry)) 1
+        (λ steps ts. visitOf s steps (oneWay (now (marks .entry)) (now (sizes .entry)) (now (qindex .entry)) ts) dir r c)
+        (state (now (plane .entry)) (now (buffer .entry)) done) (state (now (plane .exit)) (now (buffer .exit)) a) ⌝ }
 {
     if !is_edge(marks, s, dir, r, c) {
         return done;
@@ -91,7 +93,9 @@ fn in_row(
     j: usize,
 ) -> Visited
     requires { ⌜ Field s (now marks) (now sizes) (now qindex) (now table) (length (now plane)) 0 × PartOf s p × (k < p .rows) × (j < p .cols) × Most 70368744177664 done ⌝ }
-    ensures { λ a. ⌜ RanFew s (now (table .entry)) (now (keep .entry)) 1 (λ steps ts. visitOf s steps (oneWay (now (marks .entry)) (now (sizes .entry)) (now (qindex .entry)) ts) 0 (p .row + k) (p .col + j)) (state (now (plane .entry)) (now (buffer .entry)) done) (state (now (plane .exit)) (now (buffer .exit)) a) ⌝ }
+    ensures { λ a. ⌜ RanFew s (now (table .entry)) (now (keep .entry)) 1
+        (λ steps ts. visitOf s steps (oneWay (now (marks .entry)) (now (sizes .entry)) (now (qindex .entry)) ts) 0 (p .row + k) (p .col + j))
+        (state (now (plane .entry)) (now (buffer .entry)) done) (state (now (plane .exit)) (now (buffer .exit)) a) ⌝ }
 {
     visit(
         plane,
@@ -125,7 +129,9 @@ fn in_column(
     j: usize,
 ) -> Visited
     requires { ⌜ Field s (now marks) (now sizes) (now qindex) (now table) (length (now plane)) 1 × PartOf s p × (k < p .cols) × (j < p .rows) × Most 70368744177664 done ⌝ }
-    ensures { λ a. ⌜ RanFew s (now (table .entry)) (now (keep .entry)) 1 (λ steps ts. visitOf s steps (oneWay (now (marks .entry)) (now (sizes .entry)) (now (qindex .entry)) ts) 1 (p .row + j) (p .col + k)) (state (now (plane .entry)) (now (buffer .entry)) done) (state (now (plane .exit)) (now (buffer .exit)) a) ⌝ }
+    ensures { λ a. ⌜ RanFew s (now (table .entry)) (now (keep .entry)) 1
+        (λ steps ts. visitOf s steps (oneWay (now (marks .entry)) (now (sizes .entry)) (now (qindex .entry)) ts) 1 (p .row + j) (p .col + k))
+        (state (now (plane .entry)) (now (buffer .entry)) done) (state (now (plane .exit)) (now (buffer .exit)) a) ⌝ }
 {
     visit(
         plane,
@@ -160,7 +166,9 @@ fn cell(
     j: usize,
 ) -> Visited
     requires { ⌜ Field s (now marks) (now sizes) (now qindex) (now table) (length (now plane)) dir × PartOf s p × InPart dir p k j × Most 70368744177664 done ⌝ }
-    ensures { λ a. ⌜ RanFew s (now (table .entry)) (now (keep .entry)) 1 (λ steps ts. inLine s steps (oneWay (now (marks .entry)) (now (sizes .entry)) (now (qindex .entry)) ts) dir p k j) (state (now (plane .entry)) (now (buffer .entry)) done) (state (now (plane .exit)) (now (buffer .exit)) a) ⌝ }
+    ensures { λ a. ⌜ RanFew s (now (table .entry)) (now (keep .entry)) 1
+        (λ steps ts. inLine s steps (oneWay (now (marks .entry)) (now (sizes .entry)) (now (qindex .entry)) ts) dir p k j)
+        (state (now (plane .entry)) (now (buffer .entry)) done) (state (now (plane .exit)) (now (buffer .exit)) a) ⌝ }
 {
     if dir == 0 {
         return in_row(
@@ -210,7 +218,9 @@ fn line(
     k: usize,
 ) -> Visited
     requires { ⌜ Field s (now marks) (now sizes) (now qindex) (now table) (length (now plane)) dir × PartOf s p × (dir ≤ 1) × (k < pick (eqb dir 0) (p .rows) (p .cols)) × Most 35184372088832 sofar ⌝ }
-    ensures { λ a. ⌜ RanFew s (now (table .entry)) (now (keep .entry)) 1024 (λ steps ts. lineOf s steps (oneWay (now (marks .entry)) (now (sizes .entry)) (now (qindex .entry)) ts) dir p k) (state (now (plane .entry)) (now (buffer .entry)) sofar) (state (now (plane .exit)) (now (buffer .exit)) a) ⌝ }
+    ensures { λ a. ⌜ RanFew s (now (table .entry)) (now (keep .entry)) 1024
+        (λ steps ts. lineOf s steps (oneWay (now (marks .entry)) (now (sizes .entry)) (now (qindex .entry)) ts) dir p k)
+        (state (now (plane .entry)) (now (buffer .entry)) sofar) (state (now (plane .exit)) (now (buffer .exit)) a) ⌝ }
 {
     let n = by_dir(dir, p.cols, p.rows);
     let mut done = sofar;
@@ -249,7 +259,9 @@ pub fn sweep(
     p: Part,
 ) -> Visited
     requires { ⌜ Field s (now marks) (now sizes) (now qindex) (now table) (length (now plane)) dir × PartOf s p × (dir ≤ 1) × Most 17592186044416 sofar ⌝ }
-    ensures { λ a. ⌜ RanFew s (now (table .entry)) (now (keep .entry)) 1048576 (λ steps ts. inSweep s steps (oneWay (now (marks .entry)) (now (sizes .entry)) (now (qindex .entry)) ts) dir p) (state (now (plane .entry)) (now (buffer .entry)) sofar) (state (now (plane .exit)) (now (buffer .exit)) a) ⌝ }
+    ensures { λ a. ⌜ RanFew s (now (table .entry)) (now (keep .entry)) 1048576
+        (λ steps ts. inSweep s steps (oneWay (now (marks .entry)) (now (sizes .entry)) (now (qindex .entry)) ts) dir p)
+        (state (now (plane .entry)) (now (buffer .entry)) sofar) (state (now (plane .exit)) (now (buffer .exit)) a) ⌝ }
 {
     let n = by_dir(dir, p.rows, p.cols);
     let mut done = sofar;

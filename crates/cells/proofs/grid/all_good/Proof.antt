@@ -1,7 +1,7 @@
 -- `all_good` tests the largest of each list. Assumes nothing.
-use Rattle.cells.specs.Fit.{small}
 use borrow.Author.Needs.{needs}
 use Rattle.laws.specs.Choose.{all-bad, all-ok, all-last}
+use Rattle.cells.specs.Fit.{small}
 use Rattle.cells.proofs.Marks.{over-most, under-most, last-most}
 use Rattle.cells.proofs.grid.all_good.Statement.{statement}
 use Rattle.cells.proofs.grid.all_good.Tie as tie
@@ -32,14 +32,30 @@ highest-requires-4 c κs = search needs
 
 returns-4 : tie.Need-returns-4
 unfolding small
-returns-4 c = all-ok _ _ _ (under-most _ _ _ (c .before .before .before .before .before .before .before .highest .ensures) (c .before .before .before .before .before .before .if1 .left)) (all-ok _ _ _ (under-most _ _ _ (c .before .before .before .before .before .highest2 .ensures) (c .before .before .before .before .if2 .left)) (all-ok _ _ _ (under-most _ _ _ (c .before .before .before .highest3 .ensures) (c .before .before .if3 .left)) (all-bad _ _ (over-most _ _ _ (c .before .highest4 .ensures) (c .if4 .taken)))))
+returns-4 c =
+    let its-highest = c .before .before .before .before .before .before .before .highest in
+    let its-if1 = c .before .before .before .before .before .before .if1 in
+    let its-highest2 = c .before .before .before .before .before .highest2 in
+    let its-if2 = c .before .before .before .before .if2 in
+    let its-highest3 = c .before .before .before .highest3 in
+    let its-if3 = c .before .before .if3 in
+    let its-highest4 = c .before .highest4 in
+    all-ok _ _ _ (under-most _ _ _ (its-highest .ensures) (its-if1 .left)) (all-ok _ _ _ (under-most _ _ _ (its-highest2 .ensures) (its-if2 .left)) (all-ok _ _ _ (under-most _ _ _ (its-highest3 .ensures) (its-if3 .left)) (all-bad _ _ (over-most _ _ _ (its-highest4 .ensures) (c .if4 .taken)))))
 
 highest-requires-5 : tie.Need-highest-requires-5
 highest-requires-5 c κs = search needs
 
 returns-5 : tie.Need-returns-5
 unfolding small
-returns-5 c = all-ok _ _ _ (under-most _ _ _ (c .before .before .before .before .before .before .before .before .highest .ensures) (c .before .before .before .before .before .before .before .if1 .left)) (all-ok _ _ _ (under-most _ _ _ (c .before .before .before .before .before .before .highest2 .ensures) (c .before .before .before .before .before .if2 .left)) (all-ok _ _ _ (under-most _ _ _ (c .before .before .before .before .highest3 .ensures) (c .before .before .before .if3 .left)) (all-ok _ _ _ (under-most _ _ _ (c .before .before .highest4 .ensures) (c .before .if4 .left)) (all-last _ _ (last-most _ _ _ (c .highest5 .ensures))))))
+returns-5 c =
+    let its-highest = c .before .before .before .before .before .before .before .before .highest in
+    let its-if1 = c .before .before .before .before .before .before .before .if1 in
+    let its-highest2 = c .before .before .before .before .before .before .highest2 in
+    let its-if2 = c .before .before .before .before .before .if2 in
+    let its-highest3 = c .before .before .before .before .highest3 in
+    let its-if3 = c .before .before .before .if3 in
+    let its-highest4 = c .before .before .highest4 in
+    all-ok _ _ _ (under-most _ _ _ (its-highest .ensures) (its-if1 .left)) (all-ok _ _ _ (under-most _ _ _ (its-highest2 .ensures) (its-if2 .left)) (all-ok _ _ _ (under-most _ _ _ (its-highest3 .ensures) (its-if3 .left)) (all-ok _ _ _ (under-most _ _ _ (its-highest4 .ensures) (c .before .if4 .left)) (all-last _ _ (last-most _ _ _ (c .highest5 .ensures))))))
 
 pub all-good-spec : {M : Type 1} → statement M
 all-good-spec =

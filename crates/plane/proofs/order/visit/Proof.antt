@@ -30,7 +30,10 @@ edge-at-requires : tie.Need-edge-at-requires
 edge-at-requires c κs = search asked
 
 note-requires : tie.Need-note-requires
-note-requires c κs = (in-bytes (c .before .before .before .before .before .before .before .before .before .before .before .before .pre .0 .ready .sizes-ok) (c .before .before .before .before .before .before .before .before .before .before .before .before .pre .1) (c .before .before .before .before .before .before .before .before .before .before .before .before .pre .2) (c .before .edge-at .ensures), c .before .before .before .before .before .before .before .before .before .before .before .before .pre .3 .bytes-most)
+note-requires c κs =
+    let given = c .before .before .before .before .before .before .before .before .before .before .before .before .pre in
+    let its-edge-at = c .before .edge-at in
+    (in-bytes (given .0 .ready .sizes-ok) (given .1) (given .2) (its-edge-at .ensures), given .3 .bytes-most)
 
 mul-filter-marked : tie.Need-mul-filter-marked
 mul-filter-marked c = record { fits = omega (arith, c .before .before .before .before .before .before .before .before .before .before .before .before .before .before .before .before .before .pre .0 .ready .sizes-ok .cols-most) }
@@ -42,20 +45,35 @@ top-requires : tie.Need-top-requires
 top-requires c κs = c .before .before .before .before .before .before .before .before .before .before .before .before .before .before .before .before .before .before .pre .0 .depth
 
 filter-marked-requires : tie.Need-filter-marked-requires
-filter-marked-requires c κs = (in-plane _ _ _ _ _ _ (c .before .before .before .before .before .before .before .before .before .before .before .before .before .before .before .before .before .before .before .pre .0) (c .before .before .before .before .before .before .before .before .before .before .before .before .before .before .before .before .before .before .before .pre .1) (c .before .before .before .before .before .before .before .before .edge-at .ensures) (c .before .before .before .before .before .before .before .before .before .before .before .before .is-edge .ensures) (c .before .before .before .before .before .before .before .before .before .before .before .if1 .left), omega (arith, c .before .before .before .before .before .before .before .before .before .before .before .before .before .before .before .before .before .before .before .pre .0 .ready .sizes-ok .wide))
+filter-marked-requires c κs =
+    let given = c .before .before .before .before .before .before .before .before .before .before .before .before .before .before .before .before .before .before .before .pre in
+    let its-edge-at = c .before .before .before .before .before .before .before .before .edge-at in
+    let its-is-edge = c .before .before .before .before .before .before .before .before .before .before .before .before .is-edge in
+    let its-if1 = c .before .before .before .before .before .before .before .before .before .before .before .if1 in
+    (in-plane _ _ _ _ _ _ (given .0) (given .1) (its-edge-at .ensures) (its-is-edge .ensures) (its-if1 .left), omega (arith, given .0 .ready .sizes-ok .wide))
 
 add-t20 : tie.Need-add-t20
 add-t20 c = record { fits = omega (arith, c .before .before .before .before .before .before .before .before .before .before .before .before .before .before .before .before .before .before .before .before .before .before .before .pre .3 .bytes-most) }
 
 add-t21 : tie.Need-add-t21
 add-t21 c =
-    let k = in-plane _ _ _ _ _ _ (c .before .before .before .before .before .before .before .before .before .before .before .before .before .before .before .before .before .before .before .before .before .before .before .before .before .pre .0) (c .before .before .before .before .before .before .before .before .before .before .before .before .before .before .before .before .before .before .before .before .before .before .before .before .before .pre .1) (c .before .before .before .before .before .before .before .before .before .before .before .before .before .before .edge-at .ensures) (c .before .before .before .before .before .before .before .before .before .before .before .before .before .before .before .before .before .before .is-edge .ensures) (c .before .before .before .before .before .before .before .before .before .before .before .before .before .before .before .before .before .if1 .left) in
-    record { fits = omega (arith, c .before .before .before .before .before .before .before .before .before .before .before .before .before .before .before .before .before .before .before .before .before .before .before .before .before .pre .3 .stored-most, edge-stored k (c .before .before .before .before .before .filter-marked .ensures)) }
+    let given = c .before .before .before .before .before .before .before .before .before .before .before .before .before .before .before .before .before .before .before .before .before .before .before .before .before .pre in
+    let its-edge-at = c .before .before .before .before .before .before .before .before .before .before .before .before .before .before .edge-at in
+    let its-is-edge = c .before .before .before .before .before .before .before .before .before .before .before .before .before .before .before .before .before .before .is-edge in
+    let its-if1 = c .before .before .before .before .before .before .before .before .before .before .before .before .before .before .before .before .before .if1 in
+    let its-filter-marked = c .before .before .before .before .before .filter-marked in
+    let k = in-plane _ _ _ _ _ _ (given .0) (given .1) (its-edge-at .ensures) (its-is-edge .ensures) (its-if1 .left) in
+    record { fits = omega (arith, given .3 .stored-most, edge-stored k (its-filter-marked .ensures)) }
 
 add-t31 : tie.Need-add-t31
 add-t31 c =
-    let k = in-plane _ _ _ _ _ _ (c .before .before .before .before .before .before .before .before .before .before .before .before .before .before .before .before .before .before .before .before .before .before .before .before .before .before .before .pre .0) (c .before .before .before .before .before .before .before .before .before .before .before .before .before .before .before .before .before .before .before .before .before .before .before .before .before .before .before .pre .1) (c .before .before .before .before .before .before .before .before .before .before .before .before .before .before .before .before .edge-at .ensures) (c .before .before .before .before .before .before .before .before .before .before .before .before .before .before .before .before .before .before .before .before .is-edge .ensures) (c .before .before .before .before .before .before .before .before .before .before .before .before .before .before .before .before .before .before .before .if1 .left) in
-    record { fits = omega (arith, c .before .before .before .before .before .before .before .before .before .before .before .before .before .before .before .before .before .before .before .before .before .before .before .before .before .before .before .pre .3 .changed-most, edge-changed k (c .before .before .before .before .before .before .before .filter-marked .ensures)) }
+    let given = c .before .before .before .before .before .before .before .before .before .before .before .before .before .before .before .before .before .before .before .before .before .before .before .before .before .before .before .pre in
+    let its-edge-at = c .before .before .before .before .before .before .before .before .before .before .before .before .before .before .before .before .edge-at in
+    let its-is-edge = c .before .before .before .before .before .before .before .before .before .before .before .before .before .before .before .before .before .before .before .before .is-edge in
+    let its-if1 = c .before .before .before .before .before .before .before .before .before .before .before .before .before .before .before .before .before .before .before .if1 in
+    let its-filter-marked = c .before .before .before .before .before .before .before .filter-marked in
+    let k = in-plane _ _ _ _ _ _ (given .0) (given .1) (its-edge-at .ensures) (its-is-edge .ensures) (its-if1 .left) in
+    record { fits = omega (arith, given .3 .changed-most, edge-changed k (its-filter-marked .ensures)) }
 
 same-length : tie.Need-same-length
 same-length c = search visits
@@ -65,10 +83,17 @@ same-length-2 c = search visits
 
 returns-2 : tie.Need-returns-2
 returns-2 c =
-    let k = in-plane _ _ _ _ _ _ (c .before .before .before .before .before .before .before .before .before .before .before .before .before .before .before .before .before .before .before .before .before .before .before .before .before .before .before .pre .0) (c .before .before .before .before .before .before .before .before .before .before .before .before .before .before .before .before .before .before .before .before .before .before .before .before .before .before .before .pre .1) (c .before .before .before .before .before .before .before .before .before .before .before .before .before .before .before .before .edge-at .ensures) (c .before .before .before .before .before .before .before .before .before .before .before .before .before .before .before .before .before .before .before .before .is-edge .ensures) (c .before .before .before .before .before .before .before .before .before .before .before .before .before .before .before .before .before .before .before .if1 .left) in
-    let done = c .before .before .before .before .before .before .before .filter-marked .ensures in
+    let given = c .before .before .before .before .before .before .before .before .before .before .before .before .before .before .before .before .before .before .before .before .before .before .before .before .before .before .before .pre in
+    let its-edge-at = c .before .before .before .before .before .before .before .before .before .before .before .before .before .before .before .before .edge-at in
+    let its-is-edge = c .before .before .before .before .before .before .before .before .before .before .before .before .before .before .before .before .before .before .before .before .is-edge in
+    let its-if1 = c .before .before .before .before .before .before .before .before .before .before .before .before .before .before .before .before .before .before .before .if1 in
+    let its-filter-marked = c .before .before .before .before .before .before .before .filter-marked in
+    let its-top = c .before .before .before .before .before .before .before .before .top in
+    let its-note = c .before .before .before .before .before .before .before .before .before .before .before .before .before .before .note in
+    let k = in-plane _ _ _ _ _ _ (given .0) (given .1) (its-edge-at .ensures) (its-is-edge .ensures) (its-if1 .left) in
+    let done = its-filter-marked .ensures in
     record {
-      ran = visit-edge _ _ _ _ _ _ _ (c .before .before .before .before .before .before .before .before .before .before .before .before .before .before .before .before .before .before .before .before .is-edge .ensures) (c .before .before .before .before .before .before .before .before .before .before .before .before .before .before .before .before .before .before .before .if1 .left) (c .before .before .before .before .before .before .before .before .before .before .before .before .before .before .before .before .edge-at .ensures) (c .before .before .before .before .before .before .before .before .top .ensures) (c .before .before .before .before .before .before .before .before .before .before .before .before .before .before .note .ensures) done refl;
+      ran = visit-edge _ _ _ _ _ _ _ (its-is-edge .ensures) (its-if1 .left) (its-edge-at .ensures) (its-top .ensures) (its-note .ensures) done refl;
       few = few-edge (edge-stored k done) (edge-changed k done);
     }
 

@@ -27,7 +27,13 @@ lengths-ok-requires c κs = sized-of _ (told-yes-not _ _ (c .before .sizes-ok .e
 
 returns-3 : tie.Need-returns-3
 unfolding replayCheck
-returns-3 c = go-on _ _ _ (unless-good _ _ (told-yes-not _ _ (c .before .before .before .before .before .is .ensures) (c .before .before .before .before .if1 .left))) (go-on _ _ _ (unless-good _ _ (told-yes-not _ _ (c .before .before .before .sizes-ok .ensures) (c .before .before .if2 .left))) (stop _ _ (unless-bad _ _ (told-no-not _ _ (c .before .lengths-ok .ensures) (c .if3 .taken)))))
+returns-3 c =
+    let its-is = c .before .before .before .before .before .is in
+    let its-if1 = c .before .before .before .before .if1 in
+    let its-sizes-ok = c .before .before .before .sizes-ok in
+    let its-if2 = c .before .before .if2 in
+    let its-lengths-ok = c .before .lengths-ok in
+    go-on _ _ _ (unless-good _ _ (told-yes-not _ _ (its-is .ensures) (its-if1 .left))) (go-on _ _ _ (unless-good _ _ (told-yes-not _ _ (its-sizes-ok .ensures) (its-if2 .left))) (stop _ _ (unless-bad _ _ (told-no-not _ _ (its-lengths-ok .ensures) (c .if3 .taken)))))
 
 record-check-requires : tie.Need-record-check-requires
 record-check-requires c κs = search needs

@@ -53,7 +53,12 @@ enum-known-over : tie.Need-enum-known-over
 enum-known-over c = search needs
 
 returns-3 : tie.Need-returns-3
-returns-3 c = sample-refused _ _ _ _ (c .before .before .before .before .before .before .before .before .before .before .before .before .before .bad-keep .ensures) (search needs) (c .before .before .before .before .before .before .before .before .before .no-room .ensures) (search needs) (c .before .before .before .before .top .ensures) (c .before .before .before .samples .ensures) (search needs)
+returns-3 c =
+    let its-bad-keep = c .before .before .before .before .before .before .before .before .before .before .before .before .before .bad-keep in
+    let its-no-room = c .before .before .before .before .before .before .before .before .before .no-room in
+    let its-top = c .before .before .before .before .top in
+    let its-samples = c .before .before .before .samples in
+    sample-refused _ _ _ _ (its-bad-keep .ensures) (search needs) (its-no-room .ensures) (search needs) (its-top .ensures) (its-samples .ensures) (search needs)
 
 enum-told-3 : tie.Need-enum-told-3
 enum-told-3 c = search needs

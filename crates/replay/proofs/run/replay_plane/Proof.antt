@@ -43,7 +43,11 @@ same-length-2 : tie.Need-same-length-2
 same-length-2 c = search needs
 
 returns-2 : tie.Need-returns-2
-returns-2 c = replayed-run _ _ _ _ (c .before .before .before .before .before .before .before .before .before .before .replay-check .ensures) (search needs) (ran-asked _ _ _ _ (c .before .before .before .before .before .before .before .before .before .before .replay-check .ensures) (search needs) (c .before .before .before .before .before .before .asked .ensures) (c .before .before .run-record .ensures))
+returns-2 c =
+    let its-replay-check = c .before .before .before .before .before .before .before .before .before .before .replay-check in
+    let its-asked = c .before .before .before .before .before .before .asked in
+    let its-run-record = c .before .before .run-record in
+    replayed-run _ _ _ _ (its-replay-check .ensures) (search needs) (ran-asked _ _ _ _ (its-replay-check .ensures) (search needs) (its-asked .ensures) (its-run-record .ensures))
 
 pub replay-plane-spec : {M : Type 1} → statement M
 replay-plane-spec =

@@ -48,7 +48,15 @@ loop-less : tie.Need-loop-less Inv-loop μ-loop
 loop-less c = omega arith
 
 loop-again : tie.Need-loop-again Inv-loop μ-loop
-loop-again c = (omega arith, replayed-more (c .before .before .before .before .before .before .before .before .before .before .before .before .before .before .before .args .s) _ _ _ _ (c .before .before .before .before .before .before .before .before .before .before .loop .inv .1) (c .before .before .before .before .before .entry .ensures .0) (c .before .before .before .before .before .before .before .before .before .before .before .before .before .before .before .pre .top-is) (c .before .before .before .before .filter-marked .ensures) (c .before .wrapping-add-usize .ensures) (c .wrapping-add-usize2 .ensures), search needs)
+loop-again c =
+    let start = c .before .before .before .before .before .before .before .before .before .before .before .before .before .before .before .args in
+    let turns = c .before .before .before .before .before .before .before .before .before .before .loop in
+    let its-entry = c .before .before .before .before .before .entry in
+    let given = c .before .before .before .before .before .before .before .before .before .before .before .before .before .before .before .pre in
+    let its-filter-marked = c .before .before .before .before .filter-marked in
+    let its-wrapping-add-usize = c .before .wrapping-add-usize in
+    let its-wrapping-add-usize2 = c .wrapping-add-usize2 in
+    (omega arith, replayed-more (start .s) _ _ _ _ (turns .inv .1) (its-entry .ensures .0) (given .top-is) (its-filter-marked .ensures) (its-wrapping-add-usize .ensures) (its-wrapping-add-usize2 .ensures), search needs)
 
 same-length : tie.Need-same-length Inv-loop μ-loop
 same-length c = search needs

@@ -43,7 +43,13 @@ add-k : tie.Need-add-k Inv-loop μ-loop
 add-k c = omega (arith, after-in (c .before .before .loop .i) (c .before .before .before .before .before .args .s) (c .before .before .before .before .before .args .step) (c .before .loop-test .taken))
 
 put-open-requires : tie.Need-put-open-requires Inv-loop μ-loop
-put-open-requires c κs = (c .before .before .before .before .before .before .pre .0, c .before .before .before .before .before .before .pre .1, omega (arith, after-in (c .before .before .before .loop .i) (c .before .before .before .before .before .before .args .s) (c .before .before .before .before .before .before .args .step) (c .before .before .loop-test .taken), c .before .before .before .loop .inv .1), c .before .move-after .ensures .2, omega (arith, c .before .before .before .loop .inv .3 .stored-few, c .before .before .before .before .before .before .pre .5), omega (arith, c .before .before .before .loop .inv .3 .changed-few, c .before .before .before .before .before .before .pre .6))
+put-open-requires c κs =
+    let given = c .before .before .before .before .before .before .pre in
+    let turns = c .before .before .before .loop in
+    let start = c .before .before .before .before .before .before .args in
+    let its-loop-test = c .before .before .loop-test in
+    let its-move-after = c .before .move-after in
+    (given .0, given .1, omega (arith, after-in (turns .i) (start .s) (start .step) (its-loop-test .taken), turns .inv .1), its-move-after .ensures .2, omega (arith, turns .inv .3 .stored-few, given .5), omega (arith, turns .inv .3 .changed-few, given .6))
 
 add-i : tie.Need-add-i Inv-loop μ-loop
 add-i c = search needs

@@ -46,7 +46,13 @@ sub-k : tie.Need-sub-k Inv-loop μ-loop
 sub-k c = before-in (c .before .before .loop .i) (c .before .before .before .before .before .args .s) (c .before .before .before .before .before .args .step) (c .before .before .before .before .before .args .at) (c .before .loop-test .taken) (c .before .before .before .before .before .pre .4)
 
 put-open-requires : tie.Need-put-open-requires Inv-loop μ-loop
-put-open-requires c κs = (c .before .before .before .before .before .before .pre .0, c .before .before .before .before .before .before .pre .1, omega (arith, before-in (c .before .before .before .loop .i) (c .before .before .before .before .before .before .args .s) (c .before .before .before .before .before .before .args .step) (c .before .before .before .before .before .before .args .at) (c .before .before .loop-test .taken) (c .before .before .before .before .before .before .pre .4), c .before .before .before .loop .inv .1), c .before .move-before .ensures .2, omega (arith, c .before .before .before .loop .inv .3 .stored-few, c .before .before .before .before .before .before .pre .6), omega (arith, c .before .before .before .loop .inv .3 .changed-few, c .before .before .before .before .before .before .pre .7))
+put-open-requires c κs =
+    let given = c .before .before .before .before .before .before .pre in
+    let turns = c .before .before .before .loop in
+    let start = c .before .before .before .before .before .before .args in
+    let its-loop-test = c .before .before .loop-test in
+    let its-move-before = c .before .move-before in
+    (given .0, given .1, omega (arith, before-in (turns .i) (start .s) (start .step) (start .at) (its-loop-test .taken) (given .4), turns .inv .1), its-move-before .ensures .2, omega (arith, turns .inv .3 .stored-few, given .6), omega (arith, turns .inv .3 .changed-few, given .7))
 
 add-i : tie.Need-add-i Inv-loop μ-loop
 add-i c = search needs

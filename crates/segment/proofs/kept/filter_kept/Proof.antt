@@ -32,8 +32,12 @@ upright-requires c κs = omega (arith, at-below (c .before .before .before .befo
 
 segment-open-requires : tie.Need-segment-open-requires
 segment-open-requires c κs =
-    let here = c .upright .ensures ∙ place-vertical _ _ (c .before .before .if3 .taken) in
-    (stride-some (c .before .before .before .before .before .before .before .before .before .before .pre .0), c .before .before .before .before .before .before .before .before .before .before .pre .1, fit-of (c .before .before .before .before .before .before .before .before .before .before .pre .0) here, edge-lit _ _ (c .before .before .before .before .before .before .before .off .ensures) here (c .before .before .before .before .before .before .if1 .left))
+    let its-if3 = c .before .before .if3 in
+    let given = c .before .before .before .before .before .before .before .before .before .before .pre in
+    let its-off = c .before .before .before .before .before .before .before .off in
+    let its-if1 = c .before .before .before .before .before .before .if1 in
+    let here = c .upright .ensures ∙ place-vertical _ _ (its-if3 .taken) in
+    (stride-some (given .0), given .1, fit-of (given .0) here, edge-lit _ _ (its-off .ensures) here (its-if1 .left))
 
 same-length-2 : tie.Need-same-length-2
 same-length-2 c = search needs
@@ -46,8 +50,12 @@ level-requires c κs = omega (arith, at-below (c .before .before .before .before
 
 segment-open-requires-2 : tie.Need-segment-open-requires-2
 segment-open-requires-2 c κs =
-    let here = c .level .ensures ∙ place-horizontal _ _ (c .before .before .if3 .left) in
-    (stride-some (c .before .before .before .before .before .before .before .before .before .before .pre .0), c .before .before .before .before .before .before .before .before .before .before .pre .1, fit-of (c .before .before .before .before .before .before .before .before .before .before .pre .0) here, edge-lit _ _ (c .before .before .before .before .before .before .before .off .ensures) here (c .before .before .before .before .before .before .if1 .left))
+    let its-if3 = c .before .before .if3 in
+    let given = c .before .before .before .before .before .before .before .before .before .before .pre in
+    let its-off = c .before .before .before .before .before .before .before .off in
+    let its-if1 = c .before .before .before .before .before .before .if1 in
+    let here = c .level .ensures ∙ place-horizontal _ _ (its-if3 .left) in
+    (stride-some (given .0), given .1, fit-of (given .0) here, edge-lit _ _ (its-off .ensures) here (its-if1 .left))
 
 same-length-3 : tie.Need-same-length-3
 same-length-3 c = search needs

@@ -39,7 +39,11 @@ add-line-open : tie.Need-add-line-open Inv-loop μ-loop
 add-line-open c = omega (arith, line-in (c .before .before .before .loop .j) (c .before .before .before .before .before .before .args .line) (c .before .before .loop-test .taken), c .before .before .before .before .before .before .pre .3 .high)
 
 line-open-requires : tie.Need-line-open-requires Inv-loop μ-loop
-line-open-requires c κs = (c .before .before .before .before .before .before .pre .0, c .before .before .before .before .before .before .pre .1, c .before .before .before .before .before .before .pre .2, lane-line (c .before .before .before .before .before .before .pre .3) (c .before .before .before .loop .j) _ _ (c .before .before .loop-test .taken) refl (c .before .before .before .loop .inv .1), omega (arith, c .before .before .before .loop .inv .3 .stored-few), omega (arith, c .before .before .before .loop .inv .3 .changed-few))
+line-open-requires c κs =
+    let given = c .before .before .before .before .before .before .pre in
+    let turns = c .before .before .before .loop in
+    let its-loop-test = c .before .before .loop-test in
+    (given .0, given .1, given .2, lane-line (given .3) (turns .j) _ _ (its-loop-test .taken) refl (turns .inv .1), omega (arith, turns .inv .3 .stored-few), omega (arith, turns .inv .3 .changed-few))
 
 add-j : tie.Need-add-j Inv-loop μ-loop
 add-j c = search needs

@@ -39,7 +39,16 @@ marked-requires-4 : tie.Need-marked-requires-4
 marked-requires-4 c κs = search needs
 
 returns-4 : tie.Need-returns-4
-returns-4 c = λ e. four-of _ _ _ (c .before .before .before .before .before .before .before .before .marked .ensures) (c .before .before .before .before .before .before .before .if1 .left) (c .before .before .before .before .before .before .marked2 .ensures) (c .before .before .before .before .before .if2 .left) (c .before .before .before .before .less .ensures) (c .before .before .before .marked3 .ensures) (c .before .before .if3 .left) (c .before .less2 .ensures) (c .marked4 .ensures) e
+returns-4 c =
+    let its-marked = c .before .before .before .before .before .before .before .before .marked in
+    let its-if1 = c .before .before .before .before .before .before .before .if1 in
+    let its-marked2 = c .before .before .before .before .before .before .marked2 in
+    let its-if2 = c .before .before .before .before .before .if2 in
+    let its-less = c .before .before .before .before .less in
+    let its-marked3 = c .before .before .before .marked3 in
+    let its-if3 = c .before .before .if3 in
+    let its-less2 = c .before .less2 in
+    λ e. four-of _ _ _ (its-marked .ensures) (its-if1 .left) (its-marked2 .ensures) (its-if2 .left) (its-less .ensures) (its-marked3 .ensures) (its-if3 .left) (its-less2 .ensures) (c .marked4 .ensures) e
 
 pub four-open-spec : {M : Type 1} → statement M
 four-open-spec =
