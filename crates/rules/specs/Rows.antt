@@ -9,6 +9,7 @@ use Rattle.laws.specs.Choose.{pick, both, all}
 use Rattle.rules.specs.declared.edge.Edge.{Edge}
 use Rattle.rules.specs.declared.settings.Plane.{Plane}
 use Rattle.rules.specs.declared.rows.RowState.{RowState}
+use Rattle.rules.specs.declared.refusals.Refusal.{Refusal}
 use Rattle.rules.specs.declared.refusals.Refusal.the-variants.{Depth, Size, Length, Cell, Room, Sample, Filled, Spent}
 use Rattle.rules.specs.declared.refusals.Answer.{Answer}
 use Rattle.rules.specs.declared.refusals.Answer.the-variants.{Accepted, Refused}
@@ -43,8 +44,8 @@ unfoldable pub callEdges : Plane → List ℕ → Grid → RowState → ℕ → 
 callEdges s steps g st filled = bandOf s steps g (st .held / 4) (filled / 4)
 
 -- "all rows but the last twelve are final (none while A is under 12). At full height everything is done and final."
-unfoldable pub finalOf : Plane → ℕ → ℕ
-finalOf s filled = pick (leb (4 * s .rows) filled) (4 * s .rows) (filled - 12)
+unfoldable pub finalOf : ℕ → ℕ → ℕ
+finalOf rows filled = pick (leb (4 * rows) filled) (4 * rows) (filled - 12)
 
 -- ---- the checks
 
@@ -82,7 +83,7 @@ rowsCheck s steps g st filled l =
 
 -- ---- what a call leaves of a plane l and a state
 
--- "then the plane stays as that call found it"; "all but 8 leave state and plane unchanged"
+-- after 8 too "the plane stays as that call found it"
 unfoldable pub rowsAfter : Plane → List ℕ → Grid → RowState → ℕ → List ℕ → List ℕ
 rowsAfter s steps g st filled l = settle (rowsCheck s steps g st filled l) l (runEdges (topOf (s .depth)) (s .stride) (callEdges s steps g st filled) l)
 
@@ -93,14 +94,18 @@ rowsStored s steps g st filled l = settle (rowsCheck s steps g st filled l) 0 (s
 unfoldable pub rowsChanged : Plane → List ℕ → Grid → RowState → ℕ → List ℕ → ℕ
 rowsChanged s steps g st filled l = settle (rowsCheck s steps g st filled l) 0 (changedBy (topOf (s .depth)) (s .stride) (callEdges s steps g st filled) l)
 
--- an accepted call holds the new count; after 8 "the state is spent", its held count kept, "and each further call is refused"
+-- after 8 "the state is spent", its held count kept, "and each further call is refused"; "all but 8 leave state and plane unchanged"
+unfoldable pub spentBy : Refusal → RowState → RowState
+spentBy r st = pick (eqb (numberOf r) 8) (record { held = st .held; spent = true }) st
+
+-- an accepted call holds the new count
 unfoldable pub stateAfter : Answer → RowState → ℕ → RowState
 stateAfter Accepted st filled = record { held = filled; spent = false }
-stateAfter (Refused r) st filled = pick (eqb (numberOf r) 8) (record { held = st .held; spent = true }) st
+stateAfter (Refused r) st filled = spentBy r st
 
 unfoldable pub rowsState : Plane → List ℕ → Grid → RowState → ℕ → List ℕ → RowState
 rowsState s steps g st filled l = stateAfter (rowsCheck s steps g st filled l) st filled
 
 -- how many rows from the top the answer calls final; a refusal calls none so
 unfoldable pub rowsFinal : Plane → List ℕ → Grid → RowState → ℕ → List ℕ → ℕ
-rowsFinal s steps g st filled l = settle (rowsCheck s steps g st filled l) 0 (finalOf s filled)
+rowsFinal s steps g st filled l = settle (rowsCheck s steps g st filled l) 0 (finalOf (s .rows) filled)
