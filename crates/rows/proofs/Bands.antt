@@ -1,13 +1,12 @@
 -- The edges of a call: what its two sweeps ask and leave.
 -- Assumes nothing.
-use mathlib.Core.Path.{_≡_, refl, sym, ap, _∙_}
-use mathlib.Core.List.{List, _++_}
+use mathlib.Core.Path.{_≡_, refl}
+use mathlib.Core.List.{List}
 use Prim.Native.Nat.{ℕ, _+_, _*_, _-_, _≤_, _<_}
-use native.Mathlib.Decide.{decLe}
+use native.Mathlib.Nat.{le-refl}
 use native.Mathlib.Omega.{arith}
 use lib.Dec.{leb}
-use lib.ListN.{length}
-use Rattle.laws.specs.Choose.{pick, is-le, not-le, pick-yes, pick-no}
+use Rattle.laws.specs.Choose.{pick, not-le, pick-no}
 use Rattle.laws.specs.Trace.{run-then}
 use Rattle.rules.specs.declared.settings.Plane.{Plane}
 use Rattle.rules.specs.Numbers.{topOf}
@@ -18,9 +17,9 @@ use Rattle.rules.specs.Rows.{ready, bandOf, finalOf}
 use Rattle.segment.proofs.Counts.{stored-then, changed-then}
 use Rattle.cells.specs.Fit.{oneWay}
 use Rattle.plane.specs.declared.visited.Visited.{Visited}
-use Rattle.plane.specs.declared.part.Part.{Part}
 use Rattle.plane.specs.Run.{Table, PartOf, none, state, Ran}
 use Rattle.plane.proofs.Runs.{stepOf}
+use Rattle.orders.proofs.Bands.{ready-full, ready-part, ready-up}
 use Rattle.rows.specs.Ran.{RanBand}
 
 -- ---- the parts, and the counts
@@ -30,16 +29,8 @@ pub part-in : (s : Plane) (row rows : ℕ) → row + rows ≤ s .rows → PartOf
 part-in s row rows h = record { rows-in = h; cols-in = omega arith }
 
 module _ (rows a : ℕ) where
-  full : rows ≤ a → ready rows a ≡ rows
-  unfolding ready
-  full h = sym (pick-yes (leb rows a) rows (a - 1) rows (is-le rows a h) refl)
-
-  part : a < rows → ready rows a ≡ a - 1
-  unfolding ready
-  part h = sym (pick-no (leb rows a) rows (a - 1) (a - 1) (not-le rows a h) refl)
-
   pub ready-none : a < rows → a ≡ 0 → 0 ≡ ready rows a
-  ready-none h e = omega (arith, part h)
+  ready-none h e = omega (arith, ready-part rows a h)
 
   pub final-none : a < 4 * rows → a < 12 → 0 ≡ finalOf rows a
   unfolding finalOf
@@ -47,13 +38,10 @@ module _ (rows a : ℕ) where
 
 -- the horizontal edges that are done grow with the rows that are filled, and are never more than the plane has
 pub ready-goes : {rows h a from upto : ℕ} → h ≤ a → a ≤ rows → from ≡ ready rows h → upto ≡ ready rows a → (from ≤ upto) × (upto ≤ rows)
-ready-goes {rows} {h} {a} up most f u = elim (decLe rows a) [
-  | yes l ↦ elim (decLe rows h) [
-    | yes m ↦ (omega (arith, f, u, full rows h m, full rows a l), omega (arith, u, full rows a l))
-    | no m ↦ (omega (arith, f, u, part rows h (omega arith), full rows a l), omega (arith, u, full rows a l))
-  ]
-  | no l ↦ (omega (arith, f, u, part rows h (omega arith), part rows a (omega arith)), omega (arith, u, part rows a (omega arith)))
-]
+ready-goes {rows} {h} {a} up most f u = (
+  omega (arith, f, u, ready-up rows h a up most),
+  omega (arith, u, ready-up rows a rows most (le-refl rows), ready-full rows rows (le-refl rows)),
+)
 
 -- ---- each direction reads its own lists of the whole grid
 

@@ -10,7 +10,7 @@ use borrow.Author.Tests.{leb-true, eqb-true}
 use lib.ListN.{length}
 use mir.Val.{Fits}
 use mir.Syntax.{w64}
-use Rattle.laws.specs.Choose.{both, all, is-eq, not-eq, pick-yes, pick-no, all-parts, both-parts, told-yes-not, told-no-not}
+use Rattle.laws.specs.Choose.{is-eq, not-eq, pick-yes, pick-no, all-parts, both-parts, told-yes-not, told-no-not}
 use Rattle.rules.specs.declared.settings.Plane.{Plane}
 use Rattle.rules.specs.declared.rows.RowState.{RowState}
 use Rattle.rules.specs.declared.refusals.Refusal.{Refusal}
