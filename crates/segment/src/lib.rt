@@ -12,5 +12,12 @@ mod store;
 // One edge by its offsets, and by its place in a plane.
 mod segment;
 
+// Which samples lie in kept cells.
+mod marks;
+
+// One edge of a plane with kept cells.
+mod kept;
+
+pub use kept::filter_marked;
 pub use outcome::Outcome;
 pub use segment::filter_edge;

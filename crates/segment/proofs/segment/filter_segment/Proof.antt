@@ -12,7 +12,7 @@ same-length : tie.Need-same-length
 same-length c = search needs
 
 returns : tie.Need-returns
-returns c = filtered-none _ (c .before .before .before .before .args .e) _ (c .before .chosen-width .ensures) (c .if1 .taken)
+returns c = filtered-none _ _ (c .before .before .before .before .args .e) _ (c .before .chosen-width .ensures) (c .if1 .taken)
 
 most-before-requires : tie.Need-most-before-requires
 most-before-requires c κs = search needs
