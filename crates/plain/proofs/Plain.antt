@@ -5,7 +5,6 @@ use Prim.Native.Nat.{ℕ, _+_, _*_}
 use native.Mathlib.Omega.{arith}
 use lib.ListN.{length, take}
 use Rattle.laws.specs.Choose.{pick}
-use Rattle.laws.specs.Changes.{changes, changes-same}
 use Rattle.laws.specs.Trace.{run-then, each-same}
 use Rattle.rules.specs.declared.edge.Edge.{Edge}
 use Rattle.rules.specs.declared.settings.Plane.{Plane}
@@ -13,7 +12,7 @@ use Rattle.rules.specs.declared.refusals.Answer.{Answer}
 use Rattle.rules.specs.declared.refusals.Answer.the-variants.{Accepted}
 use Rattle.rules.specs.Numbers.{topOf}
 use Rattle.rules.specs.Segment.{keptIn, runEdges}
-use Rattle.rules.specs.Counts.{storedAt, changedAt, storedBy, changedBy}
+use Rattle.rules.specs.Counts.{storedBy, changedBy}
 use Rattle.rules.specs.Plane.{Grid, keeping, keptBy, marksOf, indicesOf, indexAt, shortenedAt, edgeAt, isEdge, visitOf, sweepOf, runStored, runChanged, planeCheck, planeAfter, planeStored, planeChanged}
 use Rattle.scan.specs.Asked.{Asked}
 use Rattle.scan.proofs.Checks.{settle-accepted}
@@ -29,7 +28,7 @@ use Rattle.plane.proofs.Accepting.{checked}
 use Rattle.plane.proofs.Everywhere.{edges-inside}
 use Rattle.plane.proofs.Runs.{stepOf}
 use Rattle.orders.specs.Walks.{plainOf}
-use Rattle.orders.proofs.Plain.{edges-plain, same-total, run-plain}
+use Rattle.orders.proofs.Plain.{edges-plain, same-stored, same-changed, run-plain}
 use Rattle.plain.specs.Ran.{RanPlain}
 
 -- ---- the sweeps
@@ -93,12 +92,10 @@ plain-asked {s} {steps} v h w t q ts ks {n} l k asked run =
 module _ (s : Plane) (steps : List ℕ) (g : Grid) (l : List ℕ) where
   module _ (ok : planeCheck s steps g l ≡ Accepted) where
     pub stored-plain : runStored s steps g l ≡ storedBy (topOf (s .depth)) (s .stride) (keptBy s g) (plainOf s steps g) l
-    unfolding runStored storedBy storedAt
-    stored-plain = same-total s steps g l ok (edges-plain s steps g (checked s steps g l ok .sizes-ok)) (λ ss p. length ss) (λ ss p q h. refl)
+    stored-plain = same-stored s steps g l ok (edges-plain s steps g (checked s steps g l ok .sizes-ok))
 
     pub changed-plain : runChanged s steps g l ≡ changedBy (topOf (s .depth)) (s .stride) (keptBy s g) (plainOf s steps g) l
-    unfolding runChanged changedBy changedAt
-    changed-plain = same-total s steps g l ok (edges-plain s steps g (checked s steps g l ok .sizes-ok)) changes changes-same
+    changed-plain = same-changed s steps g l ok (edges-plain s steps g (checked s steps g l ok .sizes-ok))
 
   -- an accepted plane in the plain order is as document 01's order leaves it
   pub stated-plain : {a : Answer} → a ≡ planeCheck s steps g l → {x : Visited} {m : List ℕ} → a ≡ Accepted → RanPlain s steps g l x m
