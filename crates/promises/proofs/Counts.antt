@@ -33,7 +33,7 @@ use Rattle.promises.specs.Counts.{byWidths, sumByWidths, mostEdges}
 
 -- ---- one edge, and a run
 
-module _ (top stride : ℕ) (kept : ℕ → Bool) (e : Edge) (l : List ℕ) where
+module _ (stride : ℕ) (e : Edge) (l : List ℕ) where
   widths-are : 4 * (narrowAt stride e l + widthAt stride e l) ≡ byWidths stride e l
   unfolding byWidths
   widths-are = elim (decLe 1 (widthAt stride e l)) [
@@ -41,8 +41,8 @@ module _ (top stride : ℕ) (kept : ℕ → Bool) (e : Edge) (l : List ℕ) wher
     | no h ↦ pick-no _ (4 * (narrowAt stride e l + widthAt stride e l)) 0 _ (not-le 1 (widthAt stride e l) (omega arith)) (omega arith)
   ]
 
-  stored-widths : storedAt top stride kept e l ≤ byWidths stride e l
-  stored-widths = omega (arith, stored-within top stride kept e l, widths-are)
+  stored-widths : (top : ℕ) (kept : ℕ → Bool) → storedAt top stride kept e l ≤ byWidths stride e l
+  stored-widths top kept = omega (arith, stored-within top stride kept e l, widths-are)
 
 -- an edge's stores are at most 4(n+w), and just as many where nothing is kept
 module _ (s : Plane) (es : List Edge) (l : List ℕ) where
@@ -50,15 +50,15 @@ module _ (s : Plane) (es : List Edge) (l : List ℕ) where
   unfolding storedBy
   sum-most kept =
       let top = topOf (s .depth) in
-      total-le (segmentOf top (s .stride) kept) (storedAt top (s .stride) kept) (byWidths (s .stride)) (λ e m. stored-widths top (s .stride) kept e m) es l
+      total-le (segmentOf top (s .stride) kept) (storedAt top (s .stride) kept) (byWidths (s .stride)) (λ e m. stored-widths (s .stride) e m top kept) es l
 
   pub sum-widths : storedBy (topOf (s .depth)) (s .stride) noneKept es l ≡ sumByWidths s noneKept es l
   unfolding storedBy
   sum-widths =
       let top = topOf (s .depth) in
       le-antisymm
-      (total-le (segmentOf top (s .stride) noneKept) (storedAt top (s .stride) noneKept) (byWidths (s .stride)) (λ e m. stored-widths top (s .stride) noneKept e m) es l)
-      (total-le (segmentOf top (s .stride) noneKept) (byWidths (s .stride)) (storedAt top (s .stride) noneKept) (λ e m. omega (arith, stored-is top (s .stride) noneKept e m (λ k. refl), widths-are top (s .stride) noneKept e m)) es l)
+      (total-le (segmentOf top (s .stride) noneKept) (storedAt top (s .stride) noneKept) (byWidths (s .stride)) (λ e m. stored-widths (s .stride) e m top noneKept) es l)
+      (total-le (segmentOf top (s .stride) noneKept) (byWidths (s .stride)) (storedAt top (s .stride) noneKept) (λ e m. omega (arith, stored-is top (s .stride) noneKept e m (λ k. refl), widths-are (s .stride) e m)) es l)
 
 -- ---- an accepted plane
 

@@ -3,16 +3,18 @@
 use mathlib.Core.Path.{_≡_, refl, subst}
 use mathlib.Core.Bool.{false}
 use mathlib.Core.List.{List, []}
-use Prim.Native.Nat.{ℕ}
-use lib.ListN.{length}
+use Prim.Native.Nat.{ℕ, _*_, _%_}
+use lib.Dec.{eqb}
+use lib.ListN.{length, getD}
 use Rattle.laws.specs.Choose.{pick}
 use Rattle.rules.specs.declared.settings.Plane.{Plane}
 use Rattle.rules.specs.declared.refusals.Refusal.the-variants.{Depth, Size, Length, Cell, Room, Sample}
 use Rattle.rules.specs.declared.refusals.PlaneAnswer.{PlaneAnswer}
 use Rattle.rules.specs.Numbers.{depthOk}
 use Rattle.rules.specs.Refusals.{orElse, unless, found, first}
-use Rattle.rules.specs.Thresholds.{stepsCheck, deltasCheck}
-use Rattle.rules.specs.Plane.{keeping, startsTile, shortenedAt, planeSizesOk, planeLengthsOk, badStart, tilesCheck, badCell, noRoom, overPlane, planeCheck}
+use Rattle.rules.specs.Lengths.{pairOf}
+use Rattle.rules.specs.Thresholds.{qThreshold, sideThreshold, stepsCheck, deltasCheck}
+use Rattle.rules.specs.Plane.{keeping, cellOf, cellBefore, indexAt, startsTile, shortenedAt, edgeAt, planeSizesOk, planeLengthsOk, badStart, tilesCheck, badCell, noRoom, overPlane, planeCheck}
 use Rattle.plane.specs.Checked.{Stated}
 
 module _ (s : Plane) (steps v h w t q ks l : List ℕ) where
@@ -20,6 +22,19 @@ module _ (s : Plane) (steps v h w t q ks l : List ℕ) where
   pub never-shortened : (r c : ℕ) → shortenedAt s (keeping v h w t q [] ks) 0 r c ≡ false
   unfolding shortenedAt startsTile pick
   never-shortened r c = refl
+
+  -- so every edge is document 01's, and with it the list of edges, its record, its plane and its counts
+  pub edge-alone : (dir r c : ℕ) → edgeAt s steps (keeping v h w t q [] ks) dir r c
+      ≡ record {
+        x = c * 4;
+        y = r * 4;
+        dir = dir;
+        pair = pairOf (indexAt s (keeping v h w t q [] ks) dir r c) (s .chroma) (pick (eqb dir 0) false (eqb (r % s .sbh) 0));
+        q = qThreshold (s .depth) steps (getD q (cellOf s r c) 0) (getD q (cellBefore s dir r c) 0) (s .deltaq);
+        side = sideThreshold (s .depth) (getD q (cellOf s r c) 0) (getD q (cellBefore s dir r c) 0) (s .deltaside);
+      }
+  unfolding edgeAt shortenedAt startsTile
+  edge-alone dir r c = refl
 
   -- the checks are document 01's alone
   pub checks-alone : planeCheck s steps (keeping v h w t q [] ks) l

@@ -1,4 +1,4 @@
--- A plane's checks as they were before cells could be kept.
+-- A plane's checks, run and counts as they were before cells could be kept.
 -- Assumes nothing.
 use mathlib.Core.Bool.{Bool}
 use mathlib.Core.List.{List, [], _∷_}
@@ -6,13 +6,24 @@ use Prim.Native.Nat.{ℕ, _*_}
 use lib.Dec.{leb}
 use lib.ListN.{length, getD}
 use Rattle.laws.specs.Choose.{all}
+use Rattle.laws.specs.Stores.{Store, puts}
+use Rattle.laws.specs.Changes.{changes}
+use Rattle.laws.specs.Trace.{run, total}
+use Rattle.rules.specs.declared.edge.Edge.{Edge}
 use Rattle.rules.specs.declared.settings.Plane.{Plane}
 use Rattle.rules.specs.declared.refusals.Refusal.the-variants.{Depth, Size, Length, Cell, Room, Sample}
 use Rattle.rules.specs.declared.refusals.Answer.{Answer}
 use Rattle.rules.specs.Numbers.{depthOk}
 use Rattle.rules.specs.Refusals.{orElse, unless, found, first, foundUnless}
 use Rattle.rules.specs.Thresholds.{stepsCheck, deltasCheck}
-use Rattle.rules.specs.Plane.{Grid, planeSizesOk, tilesCheck, noRoom, overPlane}
+use Rattle.rules.specs.Segment.{placeOf, windowOf, storesOf}
+use Rattle.rules.specs.Plane.{Grid, tiled, planeSizesOk, tilesCheck, noRoom, overPlane}
+
+-- the cells without their keep marks
+abbrev pub unmarked : Grid → Grid
+unmarked g = tiled (g .vedge) (g .hedge) (g .sqw) (g .sqh) (g .qindex) (g .tiles)
+
+-- ---- the checks
 
 -- "a plane's lent length at least stride·4·mi_rows"; "Each list has at least mi_cols·mi_rows entries."
 unfoldable pub lengthsBefore : Plane → Grid → ℕ → Bool
@@ -41,3 +52,20 @@ checkBefore s steps g l =
     (orElse (found (first (s .rows * s .cols) (λ k. foundUnless (goodBefore g k) k)) Cell)
     (orElse (found (noRoom s g) Room)
     (found (overPlane s l) Sample))))))))
+
+-- ---- the run: every store of every edge
+
+abbrev pub storesBefore : ℕ → ℕ → Edge → List ℕ → List Store
+storesBefore top stride e l = storesOf top (placeOf stride e) (windowOf (placeOf stride e) l)
+
+abbrev pub segmentBefore : ℕ → ℕ → Edge → List ℕ → List ℕ
+segmentBefore top stride e l = puts (storesBefore top stride e l) l
+
+unfoldable pub runBefore : ℕ → ℕ → List Edge → List ℕ → List ℕ
+runBefore top stride es l = run (segmentBefore top stride) es l
+
+unfoldable pub storedBefore : ℕ → ℕ → List Edge → List ℕ → ℕ
+storedBefore top stride es l = total (segmentBefore top stride) (λ e m. length (storesBefore top stride e m)) es l
+
+unfoldable pub changedBefore : ℕ → ℕ → List Edge → List ℕ → ℕ
+changedBefore top stride es l = total (segmentBefore top stride) (λ e m. changes (storesBefore top stride e m) m) es l
