@@ -56,7 +56,8 @@ loop-again c =
     let its-filter-marked = c .before .before .before .before .filter-marked in
     let its-wrapping-add-usize = c .before .wrapping-add-usize in
     let its-wrapping-add-usize2 = c .wrapping-add-usize2 in
-    (omega arith, replayed-more (start .s) _ _ _ _ (turns .inv .1) (its-entry .ensures .0) (given .top-is) (its-filter-marked .ensures) (its-wrapping-add-usize .ensures) (its-wrapping-add-usize2 .ensures), search needs)
+    let test = c .before .before .before .before .before .before .before .before .before .loop-test in
+    (omega (arith, test .taken), replayed-more (start .s) _ _ _ _ (turns .inv .1) (its-entry .ensures .0) (given .top-is) (its-filter-marked .ensures) (its-wrapping-add-usize .ensures) (its-wrapping-add-usize2 .ensures), search needs)
 
 same-length : tie.Need-same-length Inv-loop μ-loop
 same-length c = search needs
