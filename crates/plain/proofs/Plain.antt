@@ -18,7 +18,7 @@ use Rattle.scan.specs.Asked.{Asked}
 use Rattle.scan.proofs.Checks.{settle-accepted}
 use Rattle.segment.specs.Fit.{InPlane}
 use Rattle.segment.proofs.Counts.{stored-then, changed-then}
-use Rattle.segment.proofs.Same.{marks-agree, run-same, stored-same, changed-same}
+use Rattle.kept.proofs.Same.{marks-agree, run-same, stored-same, changed-same}
 use Rattle.cells.specs.Fit.{oneWay}
 use Rattle.plane.specs.declared.part.Part.{Part}
 use Rattle.plane.specs.declared.visited.Visited.{Visited}

@@ -17,7 +17,7 @@ use Rattle.scan.specs.Asked.{Asked}
 use Rattle.segment.specs.Fit.{InPlane}
 use Rattle.cells.specs.Fit.{badOf}
 use Rattle.cells.proofs.Marks.{none-bad}
-use Rattle.segment.proofs.Same.{marks-agree, run-same, stored-same, changed-same, run-holds}
+use Rattle.kept.proofs.Same.{marks-agree, run-same, stored-same, changed-same, run-holds}
 use Rattle.plane.specs.Checked.{Checked, Noted}
 use Rattle.plane.specs.declared.visited.Visited.{Visited}
 use Rattle.plane.proofs.Everywhere.{edges-inside}

@@ -27,7 +27,7 @@ use Rattle.rules.specs.Segment.{noneKept, openStores, segmentOf, runEdges}
 use Rattle.rules.specs.Counts.{storedAt, changedAt, storedBy, changedBy}
 use Rattle.rules.specs.Plane.{Grid, isEdge, indexAt, shortenedAt, marksOf, indicesOf, edgeAt, visitOf, sweepOf, columnOf, turnOf, edgesOf, edgeRoom, lacksRoom, lacksRow, lacksDir}
 use Rattle.rules.specs.Plane.{runPlane, runStored, runChanged, planeSizesOk, planeLengthsOk, tilesCheck, cellGood, badCell, noRoom, overPlane, planeCheck, planeAfter, planeStored, planeChanged}
-use Rattle.segment.proofs.Same.{marks-none}
+use Rattle.kept.proofs.Same.{marks-none}
 use Rattle.plane.specs.Checked.{Stated}
 use Rattle.plane.proofs.Accepting.{checked}
 use Rattle.plane.proofs.Marked.{plane-run, plane-stored, plane-changed}

@@ -30,7 +30,7 @@ use Rattle.records.specs.Fit.{InBytes}
 use Rattle.records.proofs.RoundTrip.{record-length, read-record, write-record}
 use Rattle.segment.specs.Fit.{InPlane}
 use Rattle.segment.proofs.Counts.{run-stored, run-changed}
-use Rattle.segment.proofs.Same.{run-holds}
+use Rattle.kept.proofs.Same.{run-holds}
 use Rattle.replay.specs.Fit.{inWord, held, Replayed}
 use Rattle.replay.proofs.Entries.{entry-runs}
 use Rattle.replay.proofs.Checking.{own, passed}

@@ -12,12 +12,11 @@ mod store;
 // One edge by its offsets, and by its place in a plane.
 mod segment;
 
-// Which samples lie in kept cells.
-mod marks;
-
-// One edge of a plane with kept cells.
-mod kept;
-
-pub use kept::filter_marked;
 pub use outcome::Outcome;
 pub use segment::filter_edge;
+
+// The parts of an edge that one next to kept cells is made of too.
+pub use read::read_lines;
+pub use segment::chosen_width;
+pub use segment::level;
+pub use segment::upright;

@@ -1,0 +1,9 @@
+// Document 02, ticket 7: one edge of a plane with kept cells. The rules stand in rules' Segment.
+
+// Which samples lie in kept cells.
+mod marks;
+
+// One edge, of which kept samples are read and not stored.
+mod kept;
+
+pub use kept::filter_marked;
