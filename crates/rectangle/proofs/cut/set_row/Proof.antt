@@ -4,9 +4,9 @@ use Prim.Native.Nat.{_+_, _-_, _≤_}
 use lib.ListN.{length, set}
 use Rattle.laws.specs.Loops.{turns}
 use Rattle.tiles.proofs.Turns.{loops}
-use Rattle.keep.specs.Cut.{rowSet}
-use Rattle.keep.proofs.rectangle.set_row.Statement.{statement}
-use Rattle.keep.proofs.rectangle.set_row.Tie as tie
+use Rattle.rectangle.specs.Cut.{rowSet}
+use Rattle.rectangle.proofs.cut.set_row.Statement.{statement}
+use Rattle.rectangle.proofs.cut.set_row.Tie as tie
 
 abbrev Inv-loop : tie.InvT-loop
 Inv-loop keep₀ at n j₀ keep j = (j ≤ n) × (keep ≡ turns j (λ k m. set m (at + k) 1) keep₀) × (length keep ≡ length keep₀)

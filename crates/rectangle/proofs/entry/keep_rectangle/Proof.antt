@@ -1,8 +1,8 @@
 -- `keep_rectangle` answers by its checks, and sets marks only where they accept. Assumes nothing.
 use borrow.Author.Needs.{needs}
-use Rattle.keep.proofs.Checked.{keep-refused, keep-fit, keep-stated}
-use Rattle.keep.proofs.entry.keep_rectangle.Statement.{statement}
-use Rattle.keep.proofs.entry.keep_rectangle.Tie as tie
+use Rattle.rectangle.proofs.Checked.{keep-refused, keep-fit, keep-stated}
+use Rattle.rectangle.proofs.entry.keep_rectangle.Statement.{statement}
+use Rattle.rectangle.proofs.entry.keep_rectangle.Tie as tie
 
 keep-check-requires : tie.Need-keep-check-requires
 keep-check-requires c κs = search needs

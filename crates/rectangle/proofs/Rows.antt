@@ -19,7 +19,7 @@ use Rattle.rules.specs.declared.settings.Keep.{Keep}
 use Rattle.rules.specs.Keep.{inRectangle, keptAt, keptOf}
 use Rattle.tiles.proofs.Turns.{turns-hit, set-keeps}
 use Rattle.tiles.proofs.Places.{place-below, same-row, same-col, row-fits, cell-fits}
-use Rattle.keep.specs.Cut.{Fit, partOf, rowSet, rowsSet, Inside}
+use Rattle.rectangle.specs.Cut.{Fit, partOf, rowSet, rowsSet, Inside}
 
 -- ---- the row and the column of a cell
 

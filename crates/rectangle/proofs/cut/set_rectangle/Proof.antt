@@ -3,10 +3,10 @@ use mathlib.Core.Path.{_≡_}
 use Prim.Native.Nat.{_+_, _-_, _*_, _≤_}
 use lib.ListN.{length}
 use Rattle.laws.specs.Loops.{turns}
-use Rattle.keep.specs.Cut.{rowSet}
-use Rattle.keep.proofs.Rows.{rectangles}
-use Rattle.keep.proofs.rectangle.set_rectangle.Statement.{statement}
-use Rattle.keep.proofs.rectangle.set_rectangle.Tie as tie
+use Rattle.rectangle.specs.Cut.{rowSet}
+use Rattle.rectangle.proofs.Rows.{rectangles}
+use Rattle.rectangle.proofs.cut.set_rectangle.Statement.{statement}
+use Rattle.rectangle.proofs.cut.set_rectangle.Tie as tie
 
 abbrev Inv-loop : tie.InvT-loop
 Inv-loop keep₀ s wide high i₀ keep i = (i ≤ high) × (keep ≡ turns i (λ k. rowSet ((s .row + k) * s .cols + s .col) wide) keep₀) × (length keep ≡ length keep₀)

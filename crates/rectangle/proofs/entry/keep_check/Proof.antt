@@ -3,9 +3,9 @@ use borrow.Author.Needs.{needs}
 use Rattle.laws.specs.Choose.{told}
 use Rattle.rules.specs.Keep.{keepCheck}
 use Rattle.scan.proofs.Checks.{checks}
-use Rattle.keep.proofs.Checked.{keep-cells}
-use Rattle.keep.proofs.entry.keep_check.Statement.{statement}
-use Rattle.keep.proofs.entry.keep_check.Tie as tie
+use Rattle.rectangle.proofs.Checked.{keep-cells}
+use Rattle.rectangle.proofs.entry.keep_check.Statement.{statement}
+use Rattle.rectangle.proofs.entry.keep_check.Tie as tie
 
 cells-ok-requires : tie.Need-cells-ok-requires
 cells-ok-requires c κs = search needs

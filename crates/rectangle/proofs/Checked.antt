@@ -19,8 +19,8 @@ use Rattle.scan.proofs.Ranges.{in-range}
 use Rattle.scan.proofs.Checks.{else-parts, unless-true, refused-by, accepted-by, settle-refused-by, settle-accepted-by}
 use Rattle.tiles.proofs.Places.{cells-fit}
 use Rattle.tiles.proofs.Checked.{cols-most, rows-most}
-use Rattle.keep.specs.Cut.{Fit}
-use Rattle.keep.specs.Stated.{Stated}
+use Rattle.rectangle.specs.Cut.{Fit}
+use Rattle.rectangle.specs.Stated.{Stated}
 
 -- the number of cells fits a word once the sizes are accepted
 pub keep-cells : (s : Keep) → true ≡ cellsOk (s .cols) (s .rows) → Fits w64 (s .rows * s .cols)

@@ -1,13 +1,13 @@
 // The entry: the checks in their order 2, 3, 6, then the marks of the rectangle.
 ghost use mathlib.Core.Path.{_≡_};
 ghost use Rattle.rules.specs.Keep.{keepCheck};
-ghost use Rattle.keep.specs.Stated.{Stated};
-use crate::marks::bad_keep;
-use crate::rectangle::set_rectangle;
+ghost use Rattle.rectangle.specs.Stated.{Stated};
+use crate::cut::set_rectangle;
 use rules::refusals::Answer;
 use rules::refusals::Found;
 use rules::refusals::Refusal;
 use rules::settings::Keep;
+use scan::bad_keep;
 use tiles::checks::cells_ok;
 
 // The first refusal, or none.

@@ -3,7 +3,7 @@ ghost use mathlib.Core.Path.{_≡_};
 ghost use Prim.Native.Nat.{_+_, _≤_};
 ghost use lib.ListN.{length};
 ghost use Rattle.rules.specs.Keep.{keptOf};
-ghost use Rattle.keep.specs.Cut.{Fit, partOf, rowSet};
+ghost use Rattle.rectangle.specs.Cut.{Fit, partOf, rowSet};
 use laws::least;
 use rules::settings::Keep;
 

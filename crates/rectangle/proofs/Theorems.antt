@@ -23,10 +23,10 @@ use Rattle.rules.specs.Keep.{inRectangle, keptAt, keptOf, keepCheck, keepAfter}
 use Rattle.scan.proofs.First.{nothing-all, all-nothing, over-good, over-nothing}
 use Rattle.scan.proofs.Checks.{else-parts, found-nothing}
 use Rattle.tiles.proofs.Places.{place-below}
-use Rattle.keep.specs.Cut.{Fit, Inside}
-use Rattle.keep.specs.Stated.{Stated}
-use Rattle.keep.proofs.Rows.{inside-true, true-inside, quotient, remainder}
-use Rattle.keep.proofs.Checked.{keep-accepted}
+use Rattle.rectangle.specs.Cut.{Fit, Inside}
+use Rattle.rectangle.specs.Stated.{Stated}
+use Rattle.rectangle.proofs.Rows.{inside-true, true-inside, quotient, remainder}
+use Rattle.rectangle.proofs.Checked.{keep-accepted}
 
 pub one-result : {s : Keep} {k m n : List ℕ} {a b : Answer} → Stated s k a m → Stated s k b n → (a ≡ b) × (m ≡ n)
 one-result p q = (p .answer ∙ sym (q .answer), p .marks ∙ sym (q .marks))

@@ -1,10 +1,7 @@
-// Ticket 7: the keep marks of a rectangle of cells.
-
-// The first bad mark.
-mod marks;
+// Ticket 7: keep marks set over a rectangle of cells. The rules stand in rules' Keep.
 
 // The rectangle, cut to the plane.
-mod rectangle;
+mod cut;
 
 // The checks, and the entry.
 mod entry;

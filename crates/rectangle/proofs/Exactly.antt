@@ -15,7 +15,7 @@ use Rattle.rules.specs.Plane.{badKeep}
 use Rattle.rules.specs.Keep.{inRectangle, keptAt, keptOf, keepCheck, keepAfter}
 use Rattle.scan.specs.Exactly.{Exactly}
 use Rattle.scan.proofs.Exactly.{exactly}
-use Rattle.keep.specs.Exactly.{keepTests}
+use Rattle.rectangle.specs.Exactly.{keepTests}
 
 pub keep-exactly : (s : Keep) (keep : List ℕ) {r : Answer} → r ≡ keepCheck s keep → Exactly r (keepTests s keep)
 unfolding keepCheck
