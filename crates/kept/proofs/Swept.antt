@@ -34,11 +34,9 @@ use Rattle.segment.specs.declared.outcome.Outcome.{Outcome}
 use Rattle.segment.specs.Boxes.{writeBox}
 use Rattle.segment.specs.Fit.{Fit, Filtered, InPlane, EdgeFiltered}
 use Rattle.kept.specs.Kept.{alongLine, againstLine, limitedIn, lineOpen, linesOpen, Holds, HoldsLine, HoldsLines, Swept, Few}
-use Rattle.segment.specs.Near.{nearLines}
 use Rattle.segment.specs.Sides.{Scales, none}
-use Rattle.segment.proofs.Edges.{after-most}
+use Rattle.segment.proofs.Edges.{after-most, filtered-none}
 use Rattle.segment.proofs.Local.{stores-in}
-use Rattle.segment.proofs.Near.{near-p, near-q}
 use Rattle.segment.proofs.Window.{window-p, window-q}
 
 -- ---- stores that follow each other
@@ -142,51 +140,36 @@ line-next top at step line n w m ls j h f g =
 -- ---- an edge by offsets: the window that was read first
 
 module _ (top : ℕ) (e : Place) (l : List ℕ) (f : PairFacts (e .pair)) (n w : ℕ) (hn : n ≤ reachBefore (e .pair)) (hw : w ≤ reachAfter (e .pair)) where
-  -- what was read, within the reach
   abbrev Ls : List Line
-  Ls = nearLines l (e .at) (e .step) (e .line) (reachBefore (e .pair)) (reachAfter (e .pair))
-
-  read-p : (j i : ℕ) → j < 4 → i < reachBefore (e .pair) → pOf Ls j i ≡ getD l (pAt (e .at + j * e .line) (e .step) i) 0
-  read-p j i h b = near-p l (e .at) (e .step) (e .line) (reachBefore (e .pair)) (reachAfter (e .pair)) j i h b (f .before .reach-8)
-
-  read-q : (j i : ℕ) → j < 4 → i < reachAfter (e .pair) → qOf Ls j i ≡ getD l (qAt (e .at + j * e .line) (e .step) i) 0
-  read-q j i h b = near-q l (e .at) (e .step) (e .line) (reachBefore (e .pair)) (reachAfter (e .pair)) j i h b (f .after .reach-8)
+  Ls = windowOf e l
 
   holds-read : HoldsLines (e .at) (e .step) (e .line) n w Ls l
   holds-read = record {
     each-line = λ j h. record {
-      before = record { at = λ i b. sym (read-p j i h (omega arith)) };
-      after = record { at = λ i b. sym (read-q j i h (omega arith)) };
+      before = record { at = λ i b. sym (window-p e l f j i h (omega arith)) };
+      after = record { at = λ i b. sym (window-q e l f j i h (omega arith)) };
     };
   }
 
-  same-p : (j i : ℕ) → j < 4 → i < reachBefore (e .pair) → pOf Ls j i ≡ pOf (windowOf e l) j i
-  same-p j i h b = read-p j i h b ∙ sym (window-p e l f j i h b)
-
-  same-q : (j i : ℕ) → j < 4 → i < reachAfter (e .pair) → qOf Ls j i ≡ qOf (windowOf e l) j i
-  same-q j i h b = read-q j i h b ∙ sym (window-q e l f j i h b)
-
-  line-same : (j : ℕ) → j < 4 → lineOpen top (e .at + j * e .line) (e .step) n w (e .q * mostOf w) (getD Ls j blank) ≡ lineStores top (e .at + j * e .line) (e .step) n w (e .q) (getD (windowOf e l) j blank)
-  unfolding lineOpen lineStores
-  line-same j h =
-      let fb = f .before in
-      let fa = f .after in
-      let d : limitedIn (getD Ls j blank) (e .q * mostOf w) ≡ differenceOf (getD (windowOf e l) j blank) (e .q) w =
-      rw (same-p j 1 h (omega arith), same-p j 0 h (omega arith), same-q j 0 h (omega arith), same-q j 1 h (omega arith)) in
-      ap₂ (λ (x y : List Store). x ++ y)
-      (each-same _ _ n (λ i b. ap₂ (λ (x : ℕ) (z : ℤ). (pAt (e .at + j * e .line) (e .step) i, before top x z n i) ∷ []) (same-p j i h (omega arith)) d))
-      (each-same _ _ w (λ i b. ap₂ (λ (x : ℕ) (z : ℤ). (qAt (e .at + j * e .line) (e .step) i, after top x z w i) ∷ []) (same-q j i h (omega arith)) d))
-
   lines-same : linesOpen top (e .at) (e .step) (e .line) n w (e .q * mostOf w) Ls ≡ fourStores top (e .at) (e .step) (e .line) n w (e .q) (windowOf e l)
-  unfolding linesOpen fourStores
-  lines-same = each-same _ _ 4 line-same
+  unfolding linesOpen fourStores lineOpen lineStores
+  lines-same = refl
 
-pub filtered-open : (top : ℕ) (kept : ℕ → Bool) (e : Place) (l m : List ℕ) {r : Counts} {ls : List Line} {size n w k b a lim : ℕ} → Fit e size → w ≡ chosenOf e (windowOf e l) → (w ≡ 0 → ⊥) → n ≡ mostBefore (e .pair) → k ≡ min w n
-    → b ≡ reachBefore (e .pair) → a ≡ reachAfter (e .pair) → ls ≡ nearLines l (e .at) (e .step) (e .line) b a → lim ≡ e .q * mostOf w
-    → Swept kept (linesOpen top (e .at) (e .step) (e .line) k w lim ls) (HoldsLines (e .at) (e .step) (e .line) k w ls) l none r m
+-- an edge that filters nothing, of a plane that stayed as it was
+pub filtered-off : (top : ℕ) (kept : ℕ → Bool) (e : Place) (l : List ℕ) {w : ℕ} {m : List ℕ} → w ≡ chosenOf e (windowOf e l) → w ≡ 0 → m ≡ l → Filtered top kept e l record { width = 0; stored = 0; changed = 0 } m
+filtered-off top kept e l hw hz same = rw same (filtered-none top kept e l hw hz)
+
+pub fit-as : {e : Place} {a b : ℕ} → a ≡ b → Fit e b → Fit e a
+fit-as h f = rw h f
+
+-- an edge that filters: its window was read, and then its open samples stored, into a plane that was as it is
+pub filtered-open : (top : ℕ) (kept : ℕ → Bool) (e : Place) (l o m : List ℕ) {r : Counts} {ls : List Line} {size n w k lim : ℕ} → Fit e size → w ≡ chosenOf e (windowOf e l) → (w ≡ 0 → ⊥) → n ≡ mostBefore (e .pair) → k ≡ min w n
+    → o ≡ l → ls ≡ windowOf e o → lim ≡ e .q * mostOf w
+    → Swept kept (linesOpen top (e .at) (e .step) (e .line) k w lim ls) (HoldsLines (e .at) (e .step) (e .line) k w ls) o none r m
     → Filtered top kept e l record { width = w; stored = r .stored; changed = r .changed } m
 unfolding storesOf
-filtered-open top kept e l m {r} {ls} {size} {n} {w} {k} {b} {a} {lim} fit hw some hn hk hb ha hl hm s =
+filtered-open top kept e l o m {r} {ls} {size} {n} {w} {k} {lim} fit hw some hn hk same read hm s =
+    let hl : ls ≡ windowOf e l = read ∙ ap (λ (x : List ℕ). windowOf e x) same in
     let f = pair-facts (e .pair) (fit .pair-is) in
     let fb = f .before in
     let fa = f .after in
@@ -194,12 +177,11 @@ filtered-open top kept e l m {r} {ls} {size} {n} {w} {k} {b} {a} {lim} fit hw so
     let x : k ≤ reachBefore (e .pair) = omega arith in
     let y : w ≤ reachAfter (e .pair) = omega arith in
     let t = lines-same top e l f k w x y in
-    let near : ls ≡ nearLines l (e .at) (e .step) (e .line) (reachBefore (e .pair)) (reachAfter (e .pair)) = cc in
     let z : min w n ≡ min (chosenOf e (windowOf e l)) (mostBefore (e .pair)) = cc in
     let ss : linesOpen top (e .at) (e .step) (e .line) k w lim ls ≡ storesOf top e (windowOf e l) = cc in
-    let held : HoldsLines (e .at) (e .step) (e .line) k w ls l = rw near (holds-read top e l f k w x y) in
+    let held : HoldsLines (e .at) (e .step) (e .line) k w ls l = rw hl (holds-read top e l f k w x y) in
     let u = swept-as ss s in
-    record { width = hw; plane = u .list; stored = omega (arith, u .stored); changed = omega (arith, u .changed l held) }
+    record { width = hw; plane = u .list ∙ ap (λ (x : List ℕ). puts (outside kept (storesOf top e (windowOf e l))) x) same; stored = omega (arith, u .stored); changed = omega (arith, u .changed l held) }
 
 -- ---- an edge of a plane, none of whose samples is kept
 

@@ -21,6 +21,7 @@ use Rattle.rules.specs.Width.{blank}
 use Rattle.rules.specs.Segment.{pAt, qAt, storesBefore, storesAfter, keptIn}
 use Rattle.taps.specs.Signed.{along, against}
 use Rattle.segment.specs.Boxes.{writeBox}
+use Rattle.segment.specs.Fit.{InPlane}
 
 -- ---- one side of a line, one line, and four
 
@@ -66,6 +67,12 @@ pub record Swept (kept : ℕ → Bool) (ss : List Store) (Of : List ℕ → Type
 pub record Few (k : ℕ) (n r : Counts) : Type 0 where
   pub stored-few : r .stored ≤ n .stored + k
   pub changed-few : r .changed ≤ n .changed + k
+
+-- ---- an edge of some plane of samples that lie in rows of stride samples, size of them in all
+pub record Somewhere (stride : ℕ) (e : Edge) (size : ℕ) : Type 0 where
+  pub columns : ℕ
+  pub rows : ℕ
+  pub in-plane : InPlane stride columns rows e size
 
 -- ---- an edge none of whose samples is kept
 

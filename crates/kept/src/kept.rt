@@ -2,19 +2,17 @@
 // stored unless its cell is kept; where none is, it is filtered as any edge.
 use super::marks::all_open;
 use super::marks::kept_at;
+use super::window::window;
 use laws::least;
 use lengths::pairs::most_before;
-use lengths::pairs::reach_after;
-use lengths::pairs::reach_before;
 use rules::counts::Counts;
 use rules::edge::Edge;
 use rules::edge::Line;
 use rules::edge::Place;
 use segment::Outcome;
-use segment::chosen_width;
 use segment::filter_edge;
+use segment::filter_segment;
 use segment::level;
-use segment::read_lines;
 use segment::upright;
 use taps::difference::limited;
 use taps::moves::Moved;
@@ -30,11 +28,11 @@ ghost use mathlib.Core.List.{[], _∷_};
 ghost use Prim.Native.Nat.{_+_, _-_, _*_, _≤_, _<_};
 ghost use lib.ListN.{length, getD};
 ghost use Rattle.laws.specs.Changes.{differ};
-ghost use Rattle.rules.specs.Segment.{pAt, qAt, keptIn};
+ghost use Rattle.rules.specs.Segment.{pAt, qAt, placed, placeOf, keptIn};
 ghost use Rattle.width.specs.Tests.{offOf};
 ghost use Rattle.segment.specs.Sides.{Scales, Lane, Lanes, none};
 ghost use Rattle.segment.specs.Fit.{Fit, Filtered, InPlane, EdgeFiltered};
-ghost use Rattle.kept.specs.Kept.{alongLine, againstLine, lineOpen, linesOpen, Holds, HoldsLine, HoldsLines, Swept, Few};
+ghost use Rattle.kept.specs.Kept.{alongLine, againstLine, lineOpen, linesOpen, Holds, HoldsLine, HoldsLines, Swept, Few, Somewhere};
 
 // Stores a sample that was moved, unless its cell is kept; the counts, with those so far.
 fn put_open(
@@ -226,7 +224,8 @@ fn segment_open(
     requires { ⌜ (1 ≤ stride) × (cols ≤ stride) × Fit e (length (now plane)) × (offOf (e .q) (e .side) ≡ false) ⌝ }
     ensures { λ r. ⌜ Filtered top (keptIn cols stride (now (keep .entry))) e (now (plane .entry)) r (now (plane .exit)) ⌝ }
 {
-    let w = chosen_width(plane, e);
+    let o = filter_segment(plane, e, top, false);
+    let w = o.width;
     if w == 0 {
         return Outcome {
             width: 0,
@@ -235,20 +234,12 @@ fn segment_open(
         };
     }
     let n = least(w, most_before(e.pair));
-    let lines = read_lines(
-        plane,
-        e.at,
-        e.step,
-        e.line,
-        reach_before(e.pair),
-        reach_after(e.pair),
-    );
     let t = lines_open(
         plane,
         keep,
         cols,
         stride,
-        lines,
+        window(plane, e),
         e.at,
         e.step,
         e.line,
@@ -266,18 +257,28 @@ fn segment_open(
     }
 }
 
-// Filters an edge of a plane of which some cells are kept.
+// Where an edge stands in rows of stride samples, an upright one or a level one.
+fn place(e: Edge, stride: usize, stands: bool) -> Place
+    requires { ⌜ e .y * stride + e .x < 18446744073709551616 ⌝ }
+    ensures { λ r. ⌜ r ≡ placed stands stride e ⌝ }
+{
+    if stands {
+        return upright(e, stride);
+    }
+    level(e, stride)
+}
+
+// Filters an edge of a plane of which some cells are kept; `stands` says whether it is a vertical one.
 fn filter_kept(
     plane: &mut [u16],
     keep: &[u8],
     cols: usize,
     stride: usize,
-    columns: usize,
-    rows: usize,
     e: Edge,
+    stands: bool,
     top: u16,
 ) -> Outcome
-    requires { ⌜ InPlane stride columns rows e (length (now plane)) × (cols ≤ stride) ⌝ }
+    requires { ⌜ Somewhere stride e (length (now plane)) × (cols ≤ stride) × (placed stands stride e ≡ placeOf stride e) ⌝ }
     ensures { λ r. ⌜ EdgeFiltered top stride (keptIn cols stride (now (keep .entry))) e (now (plane .entry)) r (now (plane .exit)) ⌝ }
 {
     if off(e.q, e.side) {
@@ -287,17 +288,15 @@ fn filter_kept(
             changed: 0,
         };
     }
+    let p = place(e, stride, stands);
     if all_open(keep, cols, e) {
-        return filter_edge(plane, stride, columns, rows, e, top);
+        return filter_segment(plane, p, top, true);
     }
-    if e.dir == 0 {
-        return segment_open(plane, keep, cols, stride, upright(e, stride), top);
-    }
-    segment_open(plane, keep, cols, stride, level(e, stride), top)
+    segment_open(plane, keep, cols, stride, p, top)
 }
 
 // Filters an edge of columns by rows samples that lie in rows of stride samples, cols cells in a row; a keep mark for each cell, or an empty list
-// where none is kept, which costs one test.
+// where none is kept, which costs one test. Each direction has a call of its own, so that the compiler leaves what kept cells ask for out of the walk.
 pub fn filter_marked(
     plane: &mut [u16],
     keep: &[u8],
@@ -314,5 +313,8 @@ pub fn filter_marked(
     if keep.len() == 0 {
         return filter_edge(plane, stride, columns, rows, e, top);
     }
-    filter_kept(plane, keep, cols, stride, columns, rows, e, top)
+    if e.dir == 0 {
+        return filter_kept(plane, keep, cols, stride, e, true, top);
+    }
+    filter_kept(plane, keep, cols, stride, e, false, top)
 }

@@ -3,6 +3,9 @@
 // Which samples lie in kept cells.
 mod marks;
 
+// The window of an edge, as the rules write it.
+mod window;
+
 // One edge, of which kept samples are read and not stored.
 mod kept;
 

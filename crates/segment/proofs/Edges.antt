@@ -28,7 +28,7 @@ use Rattle.lengths.proofs.Lengths.{PairFacts, pair-facts}
 use Rattle.width.specs.Tests.{offOf}
 use Rattle.width.proofs.Most.{width-most}
 use Rattle.segment.specs.declared.outcome.Outcome.{Outcome}
-use Rattle.segment.specs.Fit.{Room, Spread, Fit, Filtered, InPlane, EdgeFiltered}
+use Rattle.segment.specs.Fit.{Room, Spread, Fit, Filtered, Chosen, InPlane, EdgeFiltered}
 use Rattle.segment.specs.Sides.{differenceIn, lineTaps, fourTaps, Lanes, none, Tapped}
 use Rattle.segment.proofs.Window.{window-p, window-q}
 use Rattle.segment.proofs.Cells.{Along, along-of, spread-of}
@@ -128,6 +128,10 @@ filtered-none top kept e l {w} hw hz =
     let z : chosenOf e (windowOf e l) ≡ 0 = cc in
     let f = no-stores top (e .at) (e .step) (e .line) (min 0 (mostBefore (e .pair))) (e .q) (windowOf e l) (omega arith) in
     record { width = sym z; plane = rw (z, ← f); stored = rw (z, ← f); changed = rw (z, ← f) }
+
+-- its width alone
+pub chosen-alone : (e : Place) (l : List ℕ) {w : ℕ} → w ≡ chosenOf e (windowOf e l) → Chosen e l record { width = w; stored = 0; changed = 0 } l
+chosen-alone e l h = record { width = h; plane = refl }
 
 pub filtered-some : (top : ℕ) (e : Place) (l m : List ℕ) {r : Counts} {size n w k lim : ℕ} → Fit e size → w ≡ chosenOf e (windowOf e l) → (w ≡ 0 → ⊥) → n ≡ mostBefore (e .pair) → k ≡ min w n
     → Tapped (fourTaps top (e .at) (e .step) (e .line) k w lim l) l none r m → lim ≡ e .q * mostOf w → Filtered top noneKept e l record { width = w; stored = r .stored; changed = r .changed } m

@@ -44,6 +44,11 @@ pub record Filtered (top : ℕ) (kept : ℕ → Bool) (e : Place) (l : List ℕ)
   pub stored : r .stored ≡ length (outside kept (storesOf top e (windowOf e l)))
   pub changed : r .changed ≡ changes (outside kept (storesOf top e (windowOf e l))) l
 
+-- its width alone, and the plane as it was
+pub record Chosen (e : Place) (l : List ℕ) (r : Outcome) (m : List ℕ) : Type 0 where
+  pub width : r .width ≡ chosenOf e (windowOf e l)
+  pub plane : m ≡ l
+
 -- an edge of a plane of columns by rows samples, of accepted numbers, that has room there
 pub record InPlane (stride columns rows : ℕ) (e : Edge) (size : ℕ) : Type 0 where
   pub pair-is : e .pair < 8

@@ -16,7 +16,6 @@ pub use outcome::Outcome;
 pub use segment::filter_edge;
 
 // The parts of an edge that one next to kept cells is made of too.
-pub use read::read_lines;
-pub use segment::chosen_width;
+pub use segment::filter_segment;
 pub use segment::level;
 pub use segment::upright;

@@ -1,8 +1,8 @@
--- Nothing by a threshold of 0; as any edge where none of its cells is kept; else by its offsets, in either direction. Assumes nothing.
-use mathlib.Core.Path.{_∙_}
+-- Nothing by a threshold of 0; as any edge where none of its cells is kept; else sample by sample. Assumes nothing.
+use mathlib.Core.Path.{refl, _∙_}
 use native.Mathlib.Omega.{arith}
 use borrow.Author.Needs.{needs}
-use Rattle.segment.proofs.Edges.{fit-of, at-below, place-vertical, place-horizontal, edge-filtered}
+use Rattle.segment.proofs.Edges.{fit-of, at-below, edge-filtered}
 use Rattle.segment.proofs.Zero.{edge-none, edge-lit}
 use Rattle.kept.proofs.Marked.{edge-fits, stride-some}
 use Rattle.kept.proofs.Swept.{edge-open}
@@ -15,53 +15,39 @@ off-requires c κs = search needs
 returns : tie.Need-returns
 returns c = edge-none _ _ (c .before .off .ensures) _ _ _ (c .if1 .taken)
 
-all-open-requires : tie.Need-all-open-requires
-all-open-requires c κs = edge-fits (c .before .before .before .before .pre .0) (c .before .before .before .before .pre .1) (omega arith)
+place-requires : tie.Need-place-requires
+place-requires c κs = omega (arith, at-below (c .before .before .before .before .pre .0 .in-plane))
 
-filter-edge-requires : tie.Need-filter-edge-requires
-filter-edge-requires c κs = c .before .before .before .before .before .before .before .pre .0
+all-open-requires : tie.Need-all-open-requires
+all-open-requires c κs = edge-fits (c .before .before .before .before .before .pre .0 .in-plane) (c .before .before .before .before .before .pre .1) (omega arith)
+
+filter-segment-requires : tie.Need-filter-segment-requires
+filter-segment-requires c κs =
+    let given = c .before .before .before .before .before .before .before .before .pre in
+    let here = c .before .before .before .place .ensures ∙ given .2 in
+    (fit-of (given .0 .in-plane) here, edge-lit _ _ (c .before .before .before .before .before .off .ensures) here (c .before .before .before .before .if1 .left))
 
 same-length : tie.Need-same-length
 same-length c = search needs
 
 returns-2 : tie.Need-returns-2
-returns-2 c = edge-open _ (c .before .before .before .before .before .before .before .before .before .before .pre .0) (c .before .before .before .before .before .all-open .ensures _ _ _ _ (c .before .before .before .before .before .before .before .before .before .before .pre .0) (c .before .before .before .before .if2 .taken) .none) (c .before .before .filter-edge .ensures)
-
-upright-requires : tie.Need-upright-requires
-upright-requires c κs = omega (arith, at-below (c .before .before .before .before .before .before .before .before .before .pre .0))
+returns-2 c =
+    let given = c .before .before .before .before .before .before .before .before .before .before .before .pre in
+    let here = c .before .before .before .before .before .before .place .ensures ∙ given .2 in
+    let free = c .before .before .before .before .before .all-open .ensures _ _ _ _ (given .0 .in-plane) (c .before .before .before .before .if2 .taken) in
+    edge-open _ (given .0 .in-plane) (free .none) (edge-filtered _ _ _ _ here (c .before .before .filter-segment .ensures .0 refl))
 
 segment-open-requires : tie.Need-segment-open-requires
 segment-open-requires c κs =
-    let its-if3 = c .before .before .if3 in
-    let given = c .before .before .before .before .before .before .before .before .before .before .pre in
-    let its-off = c .before .before .before .before .before .before .before .off in
-    let its-if1 = c .before .before .before .before .before .before .if1 in
-    let here = c .upright .ensures ∙ place-vertical _ _ (its-if3 .taken) in
-    (stride-some (given .0), given .1, fit-of (given .0) here, edge-lit _ _ (its-off .ensures) here (its-if1 .left))
+    let given = c .before .before .before .before .before .before .before .before .pre in
+    let here = c .before .before .before .place .ensures ∙ given .2 in
+    (stride-some (given .0 .in-plane), given .1, fit-of (given .0 .in-plane) here, edge-lit _ _ (c .before .before .before .before .before .off .ensures) here (c .before .before .before .before .if1 .left))
 
 same-length-2 : tie.Need-same-length-2
 same-length-2 c = search needs
 
 returns-3 : tie.Need-returns-3
-returns-3 c = edge-filtered _ _ _ _ (c .before .before .before .upright .ensures ∙ place-vertical _ _ (c .before .before .before .before .before .if3 .taken)) (c .before .before .segment-open .ensures)
-
-level-requires : tie.Need-level-requires
-level-requires c κs = omega (arith, at-below (c .before .before .before .before .before .before .before .before .before .pre .0))
-
-segment-open-requires-2 : tie.Need-segment-open-requires-2
-segment-open-requires-2 c κs =
-    let its-if3 = c .before .before .if3 in
-    let given = c .before .before .before .before .before .before .before .before .before .before .pre in
-    let its-off = c .before .before .before .before .before .before .before .off in
-    let its-if1 = c .before .before .before .before .before .before .if1 in
-    let here = c .level .ensures ∙ place-horizontal _ _ (its-if3 .left) in
-    (stride-some (given .0), given .1, fit-of (given .0) here, edge-lit _ _ (its-off .ensures) here (its-if1 .left))
-
-same-length-3 : tie.Need-same-length-3
-same-length-3 c = search needs
-
-returns-4 : tie.Need-returns-4
-returns-4 c = edge-filtered _ _ _ _ (c .before .before .before .level .ensures ∙ place-horizontal _ _ (c .before .before .before .before .before .if3 .left)) (c .before .before .segment-open2 .ensures)
+returns-3 c = edge-filtered _ _ _ _ (c .before .before .before .before .before .before .place .ensures ∙ c .before .before .before .before .before .before .before .before .before .before .before .pre .2) (c .before .before .segment-open .ensures)
 
 pub filter-kept-spec : {M : Type 1} → statement M
 filter-kept-spec =
@@ -69,15 +55,11 @@ filter-kept-spec =
     (tie.spec
     off-requires
     returns
+    place-requires
     all-open-requires
-    filter-edge-requires
+    filter-segment-requires
     same-length
     returns-2
-    upright-requires
     segment-open-requires
     same-length-2
-    returns-3
-    level-requires
-    segment-open-requires-2
-    same-length-3
-    returns-4)
+    returns-3)
