@@ -148,6 +148,7 @@ fn never_shortens() -> bool {
         marks: Marks { vertical: vec![0, 0, 0, 0, 0, 0, 0, 0, 1], horizontal: vec![0; 9], width: vec![1; 9], height: vec![1; 9] },
         qindex: vec![200; 9],
         starts: Vec::new(),
+        keep: vec![0; 9],
         plane: (0..144).map(|i| if i % 36 < 32 { 100 } else { 108 }).collect(),
         steps: quant::steps(),
     };
