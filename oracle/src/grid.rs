@@ -257,7 +257,7 @@ fn good_keep(random: &Random) -> KeepCase {
 fn damaged_keep(random: &Random, c: &mut KeepCase) {
     let n = c.cells.0 * c.cells.1;
     for _ in 0..random.one_of(&[1, 1, 2, 3]) {
-        match random.below(5) {
+        match random.below(7) {
             0 => c.cells.0 = damage::count(random, 1024),
             1 => c.cells.1 = damage::count(random, 1024),
             2 => damage::shorten(random, &mut c.keep, n),
