@@ -31,7 +31,7 @@ use Rattle.scan.proofs.Checks.{stop, stop-by, go-on, go-on-by, unless-bad, unle
 use Rattle.plane.specs.Checked.{Stated as «PlaneStated»}
 use Rattle.replay.specs.Fit.{inWord, Replayed}
 use Rattle.grid.specs.Stated.{Stated as «GridStated»}
-use Rattle.keep.specs.Stated.{Stated as «RectangleStated»}
+use Rattle.rectangle.specs.Stated.{Stated as «RectangleStated»}
 use Rattle.ccso.specs.Stated.{Stated as «OffsetsStated»}
 use Rattle.answers.specs.Told.{listed, Handed}
 use Rattle.numbers.specs.Settings.{countAt, planeOf, replaySettings, tuGridOf, qindexGridOf, rectangleOf, offsetsOf}

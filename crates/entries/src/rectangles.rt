@@ -1,7 +1,7 @@
 // Keep marks over a rectangle of cells, by its settings as a list of numbers.
-use keep::keep_rectangle;
 use numbers::is_count;
 use numbers::rectangle_of;
+use rectangle::keep_rectangle;
 use rules::refusals::Answer;
 use rules::refusals::Refusal;
 ghost use mathlib.Core.Path.{_≡_};

@@ -1,7 +1,7 @@
 // Keep marks over a rectangle: what the entry is asked, and what the stream says that it answers.
 use cases::Cursor;
 use cases::Told;
-use keep::keep_rectangle;
+use rectangle::keep_rectangle;
 use rules::settings::Keep;
 use tally::Tally;
 
