@@ -36,7 +36,7 @@ use Rattle.promises.specs.NoneKept.{unmarked, lengthsBefore, goodBefore,
 use Rattle.promises.proofs.Counts.{sum-widths}
 
 -- a last test that holds
-all-but : (bs : List Bool) → all (bs ++ (true ∷ [])) ≡ all bs
+pub all-but : (bs : List Bool) → all (bs ++ (true ∷ [])) ≡ all bs
 unfolding all
 all-but [] = refl
 all-but (true ∷ bs) = all-but bs
@@ -54,7 +54,7 @@ module _ (s : Plane) (steps : List ℕ) (g : Grid) where
   unfolding edgesOf turnOf columnOf sweepOf visitOf isEdge edgeAt indexAt shortenedAt marksOf indicesOf
   edges-unmarked = refl
 
-  room-unmarked : noRoom s g ≡ noRoom s (unmarked g)
+  pub room-unmarked : noRoom s g ≡ noRoom s (unmarked g)
   unfolding noRoom lacksDir lacksRow lacksRoom edgeRoom isEdge indexAt shortenedAt marksOf indicesOf
   room-unmarked = refl
 
