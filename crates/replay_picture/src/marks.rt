@@ -13,6 +13,27 @@ use streams::take::read_on;
 use streams::take::take;
 use y4m::header::Header;
 
+// Marks what short numbers keep, by the places after the last of each kind.
+fn placed(
+    keep: &mut [u8],
+    chromakeep: &mut [u8],
+    shorts: &[u16],
+    places: &[usize; 24],
+    h: Header,
+)
+    requires { ⌜ 22526 ≤ length (now shorts) ⌝ }
+{
+    mark(
+        keep,
+        chromakeep,
+        shorts,
+        places,
+        h,
+        luma_of(h),
+        chroma_of(h),
+    );
+}
+
 // Marks what a text keeps; false after the answer that says what is wrong with it.
 fn told(
     name: &[u8],
@@ -41,15 +62,7 @@ fn told(
     ) {
         return false;
     }
-    mark(
-        keep,
-        chromakeep,
-        shorts,
-        &places,
-        h,
-        luma_of(h),
-        chroma_of(h),
-    );
+    placed(keep, chromakeep, shorts, &places, h);
     true
 }
 
