@@ -13,9 +13,8 @@ use lib.IntN.{ℤ}
 use Rattle.laws.specs.Boxes.{inBox}
 use Rattle.laws.specs.Changes.{differ, changes, changes-append}
 use Rattle.laws.specs.Choose.{pick}
-use Rattle.laws.specs.Lists.{each-map}
 use Rattle.laws.specs.Loops.{each, each-same}
-use Rattle.laws.specs.Outside.{outside, outside-append, outside-all, outside-nothing}
+use Rattle.laws.specs.Outside.{outside, outside-append}
 use Rattle.laws.specs.Stores.{Store, puts, puts-then}
 use Rattle.laws.specs.Whole.{within}
 use Rattle.rules.specs.declared.counts.Counts.{Counts}
@@ -36,8 +35,8 @@ use Rattle.segment.specs.Fit.{Fit, Filtered, InPlane, EdgeFiltered}
 use Rattle.kept.specs.Kept.{alongLine, againstLine, limitedIn, lineOpen, linesOpen, Holds, HoldsLine, HoldsLines, Swept, Few}
 use Rattle.segment.specs.Sides.{Scales, none}
 use Rattle.segment.proofs.Edges.{after-most, filtered-none}
-use Rattle.segment.proofs.Local.{stores-in}
 use Rattle.segment.proofs.Window.{window-p, window-q}
+use Rattle.kept.proofs.Same.{open-same}
 
 -- ---- stores that follow each other
 
@@ -189,10 +188,7 @@ pub edge-open : {top stride columns rows : ℕ} {e : Edge} {l m : List ℕ} {r :
     → EdgeFiltered top stride noneKept e l r m → EdgeFiltered top stride kept e l r m
 unfolding segmentOf storedAt changedAt
 edge-open {top} {stride} {e = e} {l = l} kept h free f =
-    let ss = storesOf top (placeOf stride e) (windowOf (placeOf stride e) l) in
-    let same : openStores top stride noneKept e l ≡ openStores top stride kept e l =
-    outside-nothing noneKept (λ i. refl) ss
-    ∙ sym (outside-all kept ss (each-map (λ st. T (inBox stride (writeBox e) (st .0))) (λ st. kept (st .0) ≡ false) (λ st t. free (st .0) t) ss (stores-in stride e h top (windowOf (placeOf stride e) l)))) in
+    let same : openStores top stride noneKept e l ≡ openStores top stride kept e l = open-same top stride noneKept kept e h (λ k t. sym (free k t)) l in
     record {
       width = f .width;
       plane = f .plane ∙ ap (λ (x : List Store). puts x l) same;
