@@ -14,13 +14,7 @@ use streams::take::take;
 use y4m::header::Header;
 
 // Marks what short numbers keep, by the places after the last of each kind.
-fn placed(
-    keep: &mut [u8],
-    chromakeep: &mut [u8],
-    shorts: &[u16],
-    places: &[usize; 24],
-    h: Header,
-)
+fn placed(keep: &mut [u8], chromakeep: &mut [u8], shorts: &[u16], places: &[usize; 24], h: Header)
     requires { ⌜ 22526 ≤ length (now shorts) ⌝ }
 {
     mark(
