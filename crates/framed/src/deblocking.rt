@@ -37,7 +37,13 @@ pub fn deblock(
     f: Frame,
     plain: bool,
 ) -> PlaneAnswer
-    ensures { λ a. ⌜ Deblocked f (given (now (steps .entry)) (now (sbq .entry)) (now (leaves .entry)) (now (chromaleaves .entry)) (now (skips .entry))) (starts (now (tiles .entry)) (now (chromatiles .entry))) (keeps (now (keep .entry)) (now (chromakeep .entry))) (planes (now (y .entry)) (now (u .entry)) (now (v .entry))) a (planes (now (y .exit)) (now (u .exit)) (now (v .exit))) ⌝ }
+    ensures { λ a. ⌜ Deblocked f
+        (given (now (steps .entry)) (now (sbq .entry)) (now (leaves .entry)) (now (chromaleaves .entry)) (now (skips .entry)))
+        (starts (now (tiles .entry)) (now (chromatiles .entry)))
+        (keeps (now (keep .entry)) (now (chromakeep .entry)))
+        (planes (now (y .entry)) (now (u .entry)) (now (v .entry)))
+        a
+        (planes (now (y .exit)) (now (u .exit)) (now (v .exit))) ⌝ }
 {
     let mut lv = marks();
     let mut lh = marks();

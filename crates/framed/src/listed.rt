@@ -37,7 +37,13 @@ fn deblock_given(
     f: Frame,
     plain: bool,
 ) -> Outcome
-    ensures { λ o. ⌜ Told f (given (now (steps .entry)) (now (sbq .entry)) (now (leaves .entry)) (now (chromaleaves .entry)) (now (skips .entry))) (starts (now (tiles .entry)) (now (chromatiles .entry))) (keeps (now (keep .entry)) (now (chromakeep .entry))) (planes (now (y .entry)) (now (u .entry)) (now (v .entry))) o (planes (now (y .exit)) (now (u .exit)) (now (v .exit))) ⌝ }
+    ensures { λ o. ⌜ Told f
+        (given (now (steps .entry)) (now (sbq .entry)) (now (leaves .entry)) (now (chromaleaves .entry)) (now (skips .entry)))
+        (starts (now (tiles .entry)) (now (chromatiles .entry)))
+        (keeps (now (keep .entry)) (now (chromakeep .entry)))
+        (planes (now (y .entry)) (now (u .entry)) (now (v .entry)))
+        o
+        (planes (now (y .exit)) (now (u .exit)) (now (v .exit))) ⌝ }
 {
     let a = deblock(
         y,
@@ -86,7 +92,13 @@ pub fn deblock_asked(
     plain: bool,
 ) -> Outcome
     requires { ⌜ Listed (length (now shorts)) (length (now steps)) (length (now places)) ⌝ }
-    ensures { λ o. ⌜ Told f (givenAsked (now (shorts .entry)) (now (steps .entry)) (now (places .entry))) (startsAsked (now (shorts .entry)) (now (places .entry))) (keeps (now (keep .entry)) (now (chromakeep .entry))) (planes (now (y .entry)) (now (u .entry)) (now (v .entry))) o (planes (now (y .exit)) (now (u .exit)) (now (v .exit))) ⌝ }
+    ensures { λ o. ⌜ Told f
+        (givenAsked (now (shorts .entry)) (now (steps .entry)) (now (places .entry)))
+        (startsAsked (now (shorts .entry)) (now (places .entry)))
+        (keeps (now (keep .entry)) (now (chromakeep .entry)))
+        (planes (now (y .entry)) (now (u .entry)) (now (v .entry)))
+        o
+        (planes (now (y .exit)) (now (u .exit)) (now (v .exit))) ⌝ }
 {
     let at = lists_of(places, shorts.len());
     let n = steps_of(places[3]);

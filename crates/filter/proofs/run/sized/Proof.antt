@@ -17,19 +17,29 @@ inside-requires : tie.Need-inside-requires
 inside-requires c κs = search needs
 
 mark-requires : tie.Need-mark-requires
-mark-requires c κs = (search needs, omega (arith, c .before .before .before .before .before .before .before .before .before .before .before .before .complete .kept .0, c .before .before .before .before .before .before .before .before .before .before .before .before .before .before .before .before .before .before .before .before .before .before .before .before .before .before .before .before .before .before .before .before .pre .0))
+mark-requires c κs = (
+  search needs,
+  omega (
+    arith,
+    c .before .before .before .before .before .before .before .before .before .before .before .before .complete .kept .0,
+    c .before .before .before .before .before .before .before .before .before .before .before .before .before .before .before .before .before .before .before .before .before .before .before .before .before .before .before .before .before .before .before .before .pre .0,
+  ),
+)
 
 open-out-requires : tie.Need-open-out-requires
 open-out-requires c κs = tt
 
 frames-requires : tie.Need-frames-requires
-frames-requires c κs = let p = c .before .before .before .before .before .before .before .before .before .before .before .before .before .before .before .before .before .before .before .before .before .before .before .before .before .before .before .before .before .before .before .before .before .before .before .before .before .before .before .before .before .before .before .before .before .before .before .before .pre .1 in (
-  record {
-    luma = c .before .before .before .before .before .before .before .before .before .before .before .before .before .before .before .before .before .before .before .before .before .before .before .before .before .before .before .before .before .before .before .before .luma-of .ensures;
-    chroma = c .before .before .before .before .before .before .before .before .before .before .before .before .before .before .before .before .before .before .before .before .before .before .before .before .before .before .before .before .before .before .before .chroma-of .ensures;
-  },
-  record { numbers = p .numbers; shorts = omega (arith, c .before .before .before .before .before .before .before .before .before .before .before .before .before .before .before .before .before .before .before .before .before .before .before .before .before .before .before .before .complete .kept .0, p .shorts); steps = p .steps; flags = p .flags; offsets = p .offsets; places = search needs },
-)
+frames-requires c κs =
+    let p =
+    c .before .before .before .before .before .before .before .before .before .before .before .before .before .before .before .before .before .before .before .before .before .before .before .before .before .before .before .before .before .before .before .before .before .before .before .before .before .before .before .before .before .before .before .before .before .before .before .before .pre .1
+    in (
+      record {
+        luma = c .before .before .before .before .before .before .before .before .before .before .before .before .before .before .before .before .before .before .before .before .before .before .before .before .before .before .before .before .before .before .before .before .luma-of .ensures;
+        chroma = c .before .before .before .before .before .before .before .before .before .before .before .before .before .before .before .before .before .before .before .before .before .before .before .before .before .before .before .before .before .before .before .chroma-of .ensures;
+      },
+      record { numbers = p .numbers; shorts = omega (arith, c .before .before .before .before .before .before .before .before .before .before .before .before .before .before .before .before .before .before .before .before .before .before .before .before .before .before .before .before .complete .kept .0, p .shorts); steps = p .steps; flags = p .flags; offsets = p .offsets; places = search needs },
+    )
 
 same-length : tie.Need-same-length
 same-length c = c .before .before .before .before .before .before .before .before .before .before .frames .kept .0
