@@ -10,7 +10,9 @@
  * entry of a record or sample, counted from 0, and 0 for a refusal that has no place. `place` is left as lent where the answer is no refusal.
  * The functions with a list `counts`, those that deblock, put into its first entry how many samples they stored and into its second how many of
  * these stores gave a place another sample than it had, as many of the two as it has entries: 0 and 0 for a refusal. A sample that several edges
- * store counts at each. Of n edges stored is at most 64 n, and changed at most stored.
+ * store counts at each, and one of a kept cell at none. Of n edges stored is at most 64 n, and changed at most stored.
+ * The functions with a list `keep` take a mark for each cell of a plane, row by row: 1 keeps the cell, so that its samples are read as all others and
+ * never stored, and 0 does not. The list is always asked for (3 where it has fewer than cols*rows entries); cols*rows zeros keep no cell.
  * The functions with a list `settings` take their settings as numbers in a fixed order, named by an enum with each; numbers beyond those
  * are not looked at, and a list with fewer is refused by 3 before all else, since nothing else can be read. A number below 0 where a count
  * stands is out of its range.
@@ -25,16 +27,16 @@
 extern "C" {
 #endif
 
-#define BIHARGESH_VERSION "3.0.0"
+#define BIHARGESH_VERSION "4.0.0"
 
 /* Why a call is refused; the answer is minus this. */
 enum bihargesh_refusal {
   BIHARGESH_BAD_DEPTH = 1,   /* the depth is not 8, 10 or 12 */
   BIHARGESH_BAD_SIZE = 2,    /* a size, stride, subsampling or count is out of range */
-  BIHARGESH_BAD_LENGTH = 3,  /* a list other than the step table is shorter than needed, or a list of leaves is cut */
+  BIHARGESH_BAD_LENGTH = 3,  /* a list other than the step table, keep marks too, is shorter than needed, or a list of leaves is cut */
   BIHARGESH_BAD_STEPS = 4,   /* the step table is not 352 entries from 64 on, each at most 1048576 */
   BIHARGESH_BAD_SETTING = 5, /* a delta, cap, threshold, length pair, tile start or CCSO setting is out of range */
-  BIHARGESH_BAD_CELL = 6,    /* a grid cell has a bad mark or size index */
+  BIHARGESH_BAD_CELL = 6,    /* a grid cell has a mark or keep mark other than 0 and 1, or a bad size index */
   BIHARGESH_NO_ROOM = 7,     /* an edge lacks room */
   BIHARGESH_BAD_SAMPLE = 8,  /* a used sample exceeds 2^depth - 1 */
   BIHARGESH_BAD_LEAF = 9,    /* a leaf is bad */
@@ -56,7 +58,7 @@ int32_t bihargesh_thresholds(uint16_t curr, uint16_t prev, int32_t delta_q, int3
 
 /* Filters one segment in place and answers how many samples after the edge were filtered: 0, 1, 2, 3, 4, 6 or 8.
  * window is four lines of eighteen samples, each p8..p0 then q0..q8, two bytes a sample, low first (144 bytes; 3 if not);
- * pair is 0..7, q 0..2048, side 0..839. Only samples within the widths change. Refusals 1, 3, 5, 8, in this order. */
+ * pair is 0..7, q 0..2048, side 0..839. Only samples within the widths change; a window has no keep marks. Refusals 1, 3, 5, 8, in this order. */
 int32_t bihargesh_segment(uint8_t *window, size_t window_len, uint32_t depth, uint32_t pair, uint32_t q, uint32_t side,
                           size_t *counts, size_t counts_len);
 
@@ -82,34 +84,37 @@ enum bihargesh_plane_setting {
  * tiles has the column of cells in which each tile but the first begins, strictly rising, each above 0 and below cols (5 if not). The vertical edges
  * in these columns have the shortened pair of lengths, as the horizontal ones in the first row of a superblock have; an empty list is one tile.
  * An edge's room is that of the pair which it has: in chroma a shortened one has room at column 1 where the other has none.
- * steps is the table of 352 AC steps. Only samples of 4*cols by 4*rows change.
+ * keep marks (0 or 1) the cells whose samples are never stored. An edge reads them as all others: how far it filters and by how much is what it would be
+ * if no cell were kept, and only the stores into kept cells are left out. So a kept cell does not keep its neighbours.
+ * steps is the table of 352 AC steps. Only samples of 4*cols by 4*rows change, and of those none of a kept cell.
  * settings, eleven numbers: cols and rows (cells each way, 1..1024), stride (4*cols..8192), width (1..4*cols) and height (1..4*rows)
  * of the border test, superblock width and height in cells (8 or 16), chroma (0 or 1; 2 if not), depth, delta_q and delta_side
  * (-128..127). Refusals 1, 2, 3, 4, 5, 6, 7, 8, in this order. */
 int32_t bihargesh_plane(uint16_t *plane, size_t plane_len, const uint8_t *vedge, size_t vedge_len, const uint8_t *hedge, size_t hedge_len,
                         const uint8_t *sqw, size_t sqw_len, const uint8_t *sqh, size_t sqh_len, const uint16_t *qindex, size_t qindex_len,
-                        const uint16_t *tiles, size_t tiles_len, const uint32_t *steps, size_t steps_len, const int32_t *settings, size_t settings_len,
-                        size_t *place, size_t place_len, size_t *counts, size_t counts_len);
+                        const uint16_t *tiles, size_t tiles_len, const uint8_t *keep, size_t keep_len, const uint32_t *steps, size_t steps_len,
+                        const int32_t *settings, size_t settings_len, size_t *place, size_t place_len, size_t *counts, size_t counts_len);
 
 /* Filters a plane as bihargesh_plane does, in an order that can be audited by eye: all vertical edges, rows in order, and then all horizontal edges,
  * columns in order, where bihargesh_plane goes by columns of superblocks. It takes what bihargesh_plane takes and always answers as that does, refusals
  * included: the same number, place, counts and plane. (That rests on superblocks of 8 or 16 cells across; with one cell samples would differ.) */
 int32_t bihargesh_plane_plain(uint16_t *plane, size_t plane_len, const uint8_t *vedge, size_t vedge_len, const uint8_t *hedge, size_t hedge_len,
                               const uint8_t *sqw, size_t sqw_len, const uint8_t *sqh, size_t sqh_len, const uint16_t *qindex, size_t qindex_len,
-                              const uint16_t *tiles, size_t tiles_len, const uint32_t *steps, size_t steps_len, const int32_t *settings, size_t settings_len,
-                              size_t *place, size_t place_len, size_t *counts, size_t counts_len);
+                              const uint16_t *tiles, size_t tiles_len, const uint8_t *keep, size_t keep_len, const uint32_t *steps, size_t steps_len,
+                              const int32_t *settings, size_t settings_len, size_t *place, size_t place_len, size_t *counts, size_t counts_len);
 
 /* Filters a plane as bihargesh_plane does, writes a record of every edge into the beginning of `record`, and answers the record's length in bytes.
  * The record: the three bytes `EDG`, the version 1 in two bytes, and ten bytes for each marked edge in the order in which they are filtered: x and y
  * (two bytes each, of the first sample after the edge), direction (one byte, 0 for vedge and 1 for hedge), number of the length pair (one byte, 0..7),
  * q and side (two bytes each), low byte first. An edge that filters nothing is in it too; column 0 has no vertical edge and row 0 no horizontal one.
- * Bytes after the record are kept. 5 + 20 * cols * rows bytes are always enough. The grid, tiles, steps and settings are bihargesh_plane's.
+ * An edge at kept cells is in it as any other: the record says nothing of keep marks, and is run again with the same ones.
+ * Bytes after the record stay. 5 + 20 * cols * rows bytes are always enough. The grid, tiles, keep, steps and settings are bihargesh_plane's.
  * Refusals 1, 2, 3, 4, 5, 6, 7, 8, 10, in this order; each leaves the plane and `record` as lent. A short `record` is refused by 10 and never by 3. */
 int32_t bihargesh_record_plane(uint16_t *plane, size_t plane_len, uint8_t *record, size_t record_len,
                                const uint8_t *vedge, size_t vedge_len, const uint8_t *hedge, size_t hedge_len,
                                const uint8_t *sqw, size_t sqw_len, const uint8_t *sqh, size_t sqh_len, const uint16_t *qindex, size_t qindex_len,
-                               const uint16_t *tiles, size_t tiles_len, const uint32_t *steps, size_t steps_len, const int32_t *settings, size_t settings_len,
-                               size_t *place, size_t place_len, size_t *counts, size_t counts_len);
+                               const uint16_t *tiles, size_t tiles_len, const uint8_t *keep, size_t keep_len, const uint32_t *steps, size_t steps_len,
+                               const int32_t *settings, size_t settings_len, size_t *place, size_t place_len, size_t *counts, size_t counts_len);
 
 /* Where the settings of a plane stand on which a record is run. */
 enum bihargesh_replay_setting {
@@ -120,13 +125,15 @@ enum bihargesh_replay_setting {
   BIHARGESH_REPLAY_SETTINGS
 };
 
-/* Runs the edges of a record on a plane, one after the other as they stand, and answers 0. The record of bihargesh_record_plane and the plane that was
- * lent to it give the plane that it left. Any whole record is run: an edge may stand in it twice, and x and y need not be multiples of 4.
+/* Runs the edges of a record on a plane, one after the other as they stand, and answers 0. The record of bihargesh_record_plane with the plane and the keep
+ * marks that were lent to it give the plane that it left. Any whole record is run: an edge may stand in it twice, and x and y need not be multiples of 4.
+ * keep is as in bihargesh_plane: no sample of a kept cell is stored, wherever an edge stands.
  * plane has rows of stride samples; direction is 0 or 1, the length pair 0..7, q 0..2048, side 0..839, and x and y are anything with room in the plane.
- * settings, four numbers: cols and rows (cells each way, 1..1024), stride (4*cols..8192), depth. Refusals 1, 2, 3, 11, 12, 13, 7, 8, in this order: 12 with
- * the number of the cut entry, 13 and 7 with that of the first bad one; 8 over 4*cols by 4*rows samples. A short record is refused by 11 or 12, never by 3.
+ * settings, four numbers: cols and rows (cells each way, 1..1024), stride (4*cols..8192), depth. Refusals 1, 2, 3, 11, 12, 13, 6, 7, 8, in this order: 12 with
+ * the number of the cut entry, 13 and 7 with that of the first bad one; 6 with the first cell that has a bad keep mark; 8 over 4*cols by 4*rows samples.
+ * A short record is refused by 11 or 12, never by 3.
  * The counts are sums modulo 2^64, which a record of 2^58 edges may reach. */
-int32_t bihargesh_replay(uint16_t *plane, size_t plane_len, const uint8_t *record, size_t record_len,
+int32_t bihargesh_replay(uint16_t *plane, size_t plane_len, const uint8_t *record, size_t record_len, const uint8_t *keep, size_t keep_len,
                          const int32_t *settings, size_t settings_len, size_t *place, size_t place_len,
                          size_t *counts, size_t counts_len);
 
@@ -141,14 +148,15 @@ enum bihargesh_tx_grid_setting {
   BIHARGESH_TX_GRID_SETTINGS
 };
 
-/* Builds the marks and size indices of a plane's cells from its leaves, and answers 0.
+/* Builds the marks and size indices of a plane's cells from its leaves, keeps no cell, and answers 0: keep is 0 over cols*rows afterwards, whatever
+ * it held before; bihargesh_keep_rectangle then marks those that are to be kept.
  * leaves and skips have four numbers a leaf: row, column (0..1023), width and height (1, 2, 4, .. 64, all in luma cells); 4096 added to
  * a leaf's width keeps the leaf whole. A skip leaf is whole, carries no 4096, and comes after every other leaf.
  * settings, six numbers: cols and rows (cells each way, 1..1024), subsampling across and down (0 0, 1 0 or 1 1), largest TU width and
- * height in cells (1, 2, 4, 8 or 16). Entries from cols*rows on are kept. Refusals 2, 3, 5, 9, in this order. */
+ * height in cells (1, 2, 4, 8 or 16). Entries from cols*rows on stay. Refusals 2, 3, 5, 9, in this order. */
 int32_t bihargesh_tx_grid(const uint16_t *leaves, size_t leaves_len, const uint16_t *skips, size_t skips_len, uint8_t *vedge, size_t vedge_len,
                           uint8_t *hedge, size_t hedge_len, uint8_t *sqw, size_t sqw_len, uint8_t *sqh, size_t sqh_len,
-                          const int32_t *settings, size_t settings_len, size_t *place, size_t place_len);
+                          uint8_t *keep, size_t keep_len, const int32_t *settings, size_t settings_len, size_t *place, size_t place_len);
 
 /* A leaf: row, column, width and height, in luma cells, as bihargesh_tx_grid has them one after the other. */
 struct bihargesh_leaf {
@@ -156,10 +164,29 @@ struct bihargesh_leaf {
 };
 
 /* The same from leaves that are records, each list with its number of leaves: the same answer, place and lists as bihargesh_tx_grid gives for
- * their numbers. A list of records is never cut, so 3 speaks of the four lists and of the settings alone. */
+ * their numbers. A list of records is never cut, so 3 speaks of the four lists, keep and the settings alone. */
 int32_t bihargesh_tx_grid_leaves(const struct bihargesh_leaf *leaves, size_t leaves_len, const struct bihargesh_leaf *skips, size_t skips_len,
                                  uint8_t *vedge, size_t vedge_len, uint8_t *hedge, size_t hedge_len, uint8_t *sqw, size_t sqw_len,
-                                 uint8_t *sqh, size_t sqh_len, const int32_t *settings, size_t settings_len, size_t *place, size_t place_len);
+                                 uint8_t *sqh, size_t sqh_len, uint8_t *keep, size_t keep_len, const int32_t *settings, size_t settings_len,
+                                 size_t *place, size_t place_len);
+
+/* Where the settings of a kept rectangle stand. */
+enum bihargesh_keep_rectangle_setting {
+  BIHARGESH_KEEP_RECTANGLE_COLS,
+  BIHARGESH_KEEP_RECTANGLE_ROWS,
+  BIHARGESH_KEEP_RECTANGLE_ROW,
+  BIHARGESH_KEEP_RECTANGLE_COL,
+  BIHARGESH_KEEP_RECTANGLE_HEIGHT,
+  BIHARGESH_KEEP_RECTANGLE_WIDTH,
+  BIHARGESH_KEEP_RECTANGLE_SETTINGS
+};
+
+/* Marks every cell of a rectangle as kept, and answers 0: its marks in keep are 1 afterwards, and all others stay, so that several rectangles are marked
+ * by one call after the other.
+ * settings, six numbers: cols and rows (cells each way of the plane, 1..1024), and of the rectangle its first row, its first column, its rows and its
+ * columns, all in cells and from 0 on. What lies beyond the plane is cut off, however much that is; a rectangle without rows or columns marks none.
+ * A negative number is refused by 2. Entries from cols*rows on stay. Refusals 2, 3, 6, in this order: 6 with the first lent mark other than 0 and 1. */
+int32_t bihargesh_keep_rectangle(uint8_t *keep, size_t keep_len, const int32_t *settings, size_t settings_len, size_t *place, size_t place_len);
 
 /* Where a qindex grid's settings stand. */
 enum bihargesh_qindex_grid_setting {
@@ -174,7 +201,7 @@ enum bihargesh_qindex_grid_setting {
 /* Gives each cell of a plane the qindex of its superblock, and answers 0.
  * superblocks has the qindex of each superblock of 64x64 luma samples, row by row; a cell beyond the last takes the last.
  * settings, five numbers: cols and rows (cells each way, 1..1024), subsampling across and down (0 0, 1 0 or 1 1), superblocks across
- * (1..128). Entries from cols*rows on are kept. Refusals 2, 3, in this order. */
+ * (1..128). Entries from cols*rows on stay. Refusals 2, 3, in this order. */
 int32_t bihargesh_qindex_grid(const uint16_t *superblocks, size_t superblocks_len, uint16_t *qindex, size_t qindex_len,
                               const int32_t *settings, size_t settings_len, size_t *place, size_t place_len);
 
@@ -202,7 +229,9 @@ enum bihargesh_frame_setting {
  * Each grid is five lists as in bihargesh_plane, which hold afterwards what was built; a refusal by 7 or 8 also leaves them built, and every
  * other refusal leaves them as lent. leaves, chroma_leaves and skips are as in bihargesh_tx_grid, in luma cells; superblocks is as in
  * bihargesh_qindex_grid, in rows of ceil(width/64). tiles and chroma_tiles are as in bihargesh_plane, in cells of luma and of chroma.
- * Without chroma, or with chroma_deblock 0, the planes u and v, their stride, chroma's grid and chroma_tiles are neither tested nor touched.
+ * keep and chroma_keep are bihargesh_plane's, for luma and for both chroma planes, each in cells of its own: a frame tests them before it builds its
+ * grids (6, which leaves the grids as lent) and never writes them.
+ * Without chroma, or with chroma_deblock 0, the planes u and v, their stride, chroma's grid, chroma_tiles and chroma_keep are neither tested nor touched.
  * settings, fifteen numbers: luma width and height (1..4096), subsampling across and down (0 0, 1 0 or 1 1), has_chroma and chroma_deblock
  * (0 or 1; 2 if not), depth, luma's delta and chroma's (-128..127), luma's stride and chroma's, largest TU width and height in cells of luma,
  * then of chroma (1, 2, 4, 8 or 16). Refusals 1, 2, 3, 4, 5, 9, 6, 7, 8, in this order, luma before chroma in each. */
@@ -216,7 +245,8 @@ int32_t bihargesh_frame(uint16_t *y, size_t y_len, uint16_t *u, size_t u_len, ui
                         const uint32_t *steps, size_t steps_len, const uint16_t *superblocks, size_t superblocks_len,
                         const uint16_t *leaves, size_t leaves_len, const uint16_t *chroma_leaves, size_t chroma_leaves_len,
                         const uint16_t *skips, size_t skips_len, const uint16_t *tiles, size_t tiles_len,
-                        const uint16_t *chroma_tiles, size_t chroma_tiles_len, const int32_t *settings, size_t settings_len,
+                        const uint16_t *chroma_tiles, size_t chroma_tiles_len, const uint8_t *keep, size_t keep_len,
+                        const uint8_t *chroma_keep, size_t chroma_keep_len, const int32_t *settings, size_t settings_len,
                         size_t *place, size_t place_len, size_t *counts, size_t counts_len);
 
 /* Where CCSO's settings stand. */
@@ -241,8 +271,8 @@ enum bihargesh_ccso_setting {
 };
 
 /* Adds the gated CCSO offsets to a plane, and answers 0.
- * luma and target have no row padding; flags has a number for each block of 64x64 luma samples, row by row, and 0 keeps the block as it
- * is; offsets has 16 numbers a band, each -10..7.
+ * luma and target have no row padding; flags has a number for each block of 64x64 luma samples, row by row, and 0 leaves the block as it
+ * is; offsets has 16 numbers a band, each -10..7. Keep marks don't count here.
  * settings, sixteen numbers: luma width and height (1..4096), subsampling across and down (0 0, 1 0 or 1 1), depth, scale (1..16), cuts
  * lo <= hi (-4095..4095), class numbers below lo, from lo to hi and above hi (0..3), taps dx0, dy0, dx1, dy1 (-16..16), band log2 (0..3).
  * Refusals 1, 2, 3, 5, 8, in this order; the place of 8 is in luma, or else in the target. */

@@ -5,7 +5,7 @@
 //! The cases are the oracle's, with its answers: the Rust's where a case is accepted, document 01's refusals where not. Here they are lent as C
 //! lends them, with a settings list that is sometimes too short or longer than needed, flags that are none, and bytes too few or too many.
 //! Every lent list is compared whole afterwards, those for reading too; the counts of stored and changed samples are those of the Rust, watched store by store.
-//! With tile starts, which the Rust has no word for, planes are those of the oracle's plain reading, held to the Rust where that has an answer (src/tiles.rs).
+//! With tile starts or kept cells, which the Rust has no word for, planes are those of the oracle's plain readings, held to the Rust where that has an answer (src/tiles.rs, src/keep.rs).
 
 #[path = "src/ccso.rs"]
 mod ccso;
@@ -15,6 +15,8 @@ mod damage;
 mod frame;
 #[path = "src/grid.rs"]
 mod grid;
+#[path = "src/keep.rs"]
+mod keep;
 #[path = "src/line.rs"]
 mod line;
 #[path = "src/made.rs"]
@@ -255,6 +257,7 @@ struct PlaneCase {
     grid: [Vec<u8>; 4],
     qindex: Vec<u16>,
     tiles: Vec<u16>,
+    keep: Vec<u8>,
     plane: Vec<u16>,
     steps: Vec<u32>,
 }
@@ -266,6 +269,7 @@ impl PlaneCase {
             grid: [n.list(), n.list(), n.list(), n.list()],
             qindex: n.list(),
             tiles: n.list(),
+            keep: n.list(),
             plane: n.list(),
             steps: made.steps.clone().unwrap_or_default(),
         }
@@ -275,26 +279,26 @@ impl PlaneCase {
 /// A plane by one of the two engines.
 fn of_engine(engine: raw::Engine, random: &Random, made: &Made) -> Compared {
     let mut n = Numbers::of(made);
-    let PlaneCase { all, grid, qindex, tiles, mut plane, steps } = PlaneCase::of(made, &mut n);
+    let PlaneCase { all, grid, qindex, tiles, keep, mut plane, steps } = PlaneCase::of(made, &mut n);
     let due = n.counted();
     let (settings, due) = settings(random, all, due, &[7]);
     let after = if due.no == 0 { n.some(plane.len()) } else { plane.clone() };
     let (mut place, place_after) = places(random, due);
     let (mut counts, counts_after) = tallies(random, due);
-    let lent = (grid.clone(), qindex.clone(), tiles.clone(), steps.clone(), settings.clone());
+    let lent = (grid.clone(), qindex.clone(), tiles.clone(), keep.clone(), steps.clone(), settings.clone());
     let [v, h, w, t] = &grid;
     let answer = unsafe {
         engine(
             plane.as_mut_ptr(), plane.len(), v.as_ptr(), v.len(), h.as_ptr(), h.len(), w.as_ptr(), w.len(), t.as_ptr(), t.len(),
-            qindex.as_ptr(), qindex.len(), tiles.as_ptr(), tiles.len(), steps.as_ptr(), steps.len(), settings.as_ptr(), settings.len(),
-            place.as_mut_ptr(), place.len(), counts.as_mut_ptr(), counts.len(),
+            qindex.as_ptr(), qindex.len(), tiles.as_ptr(), tiles.len(), keep.as_ptr(), keep.len(), steps.as_ptr(), steps.len(),
+            settings.as_ptr(), settings.len(), place.as_mut_ptr(), place.len(), counts.as_mut_ptr(), counts.len(),
         )
     };
     same("the answer", answer, -due.no)?;
     same("the place", place, place_after)?;
     same("the counts", counts, counts_after)?;
     same("the plane", plane, after)?;
-    same("a list for reading", (grid, qindex, tiles, steps, settings), lent)?;
+    same("a list for reading", (grid, qindex, tiles, keep, steps, settings), lent)?;
     Ok(due.no)
 }
 
@@ -309,20 +313,20 @@ fn of_plane_plain(random: &Random, made: &Made) -> Compared {
 /// A plane with a record of the edges, whose length stands as the place of an accepted case.
 fn of_record_plane(random: &Random, made: &Made) -> Compared {
     let mut n = Numbers::of(made);
-    let PlaneCase { all, grid, qindex, tiles, mut plane, steps } = PlaneCase::of(made, &mut n);
+    let PlaneCase { all, grid, qindex, tiles, keep, mut plane, steps } = PlaneCase::of(made, &mut n);
     let mut record: Vec<u8> = n.list();
     let due = n.counted();
     let (settings, due) = settings(random, all, due, &[7]);
     let after = if due.no == 0 { (n.some(plane.len()), n.some(record.len())) } else { (plane.clone(), record.clone()) };
     let (mut place, place_after) = places(random, due);
     let (mut counts, counts_after) = tallies(random, due);
-    let lent = (grid.clone(), qindex.clone(), tiles.clone(), steps.clone(), settings.clone());
+    let lent = (grid.clone(), qindex.clone(), tiles.clone(), keep.clone(), steps.clone(), settings.clone());
     let [v, h, w, t] = &grid;
     let answer = unsafe {
         raw::bihargesh_record_plane(
             plane.as_mut_ptr(), plane.len(), record.as_mut_ptr(), record.len(), v.as_ptr(), v.len(), h.as_ptr(), h.len(),
-            w.as_ptr(), w.len(), t.as_ptr(), t.len(), qindex.as_ptr(), qindex.len(), tiles.as_ptr(), tiles.len(), steps.as_ptr(), steps.len(),
-            settings.as_ptr(), settings.len(), place.as_mut_ptr(), place.len(),
+            w.as_ptr(), w.len(), t.as_ptr(), t.len(), qindex.as_ptr(), qindex.len(), tiles.as_ptr(), tiles.len(), keep.as_ptr(), keep.len(),
+            steps.as_ptr(), steps.len(), settings.as_ptr(), settings.len(), place.as_mut_ptr(), place.len(),
             counts.as_mut_ptr(), counts.len(),
         )
     };
@@ -331,7 +335,7 @@ fn of_record_plane(random: &Random, made: &Made) -> Compared {
     same("the counts", counts, counts_after)?;
     same("the plane", plane, after.0)?;
     same("the record", record, after.1)?;
-    same("a list for reading", (grid, qindex, tiles, steps, settings), lent)?;
+    same("a list for reading", (grid, qindex, tiles, keep, steps, settings), lent)?;
     Ok(due.no)
 }
 
@@ -339,27 +343,27 @@ fn of_record_plane(random: &Random, made: &Made) -> Compared {
 fn of_replay(random: &Random, made: &Made) -> Compared {
     let mut n = Numbers::of(made);
     let all = n.some(4);
-    let (record, mut plane): (Vec<u8>, Vec<u16>) = (n.list(), n.list());
+    let (record, keep, mut plane): (Vec<u8>, Vec<u8>, Vec<u16>) = (n.list(), n.list(), n.list());
     let due = n.counted();
     let (settings, due) = settings(random, all, due, &[]);
     let after = if due.no == 0 { n.some(plane.len()) } else { plane.clone() };
     let (mut place, place_after) = places(random, due);
     let (mut counts, counts_after) = tallies(random, due);
-    let lent = (record.clone(), settings.clone());
-    let answer = replay(&mut plane, &record, &settings, &mut place, &mut counts);
+    let lent = (record.clone(), keep.clone(), settings.clone());
+    let answer = replay(&mut plane, &record, &keep, &settings, &mut place, &mut counts);
     same("the answer", answer, -due.no)?;
     same("the place", place, place_after)?;
     same("the counts", counts, counts_after)?;
     same("the plane", plane, after)?;
-    same("a list for reading", (record, settings), lent)?;
+    same("a list for reading", (record, keep, settings), lent)?;
     Ok(due.no)
 }
 
-fn replay(plane: &mut [u16], record: &[u8], settings: &[i32], place: &mut [usize], counts: &mut [usize]) -> i32 {
+fn replay(plane: &mut [u16], record: &[u8], keep: &[u8], settings: &[i32], place: &mut [usize], counts: &mut [usize]) -> i32 {
     unsafe {
         raw::bihargesh_replay(
-            plane.as_mut_ptr(), plane.len(), record.as_ptr(), record.len(), settings.as_ptr(), settings.len(), place.as_mut_ptr(), place.len(),
-            counts.as_mut_ptr(), counts.len(),
+            plane.as_mut_ptr(), plane.len(), record.as_ptr(), record.len(), keep.as_ptr(), keep.len(), settings.as_ptr(), settings.len(),
+            place.as_mut_ptr(), place.len(), counts.as_mut_ptr(), counts.len(),
         )
     }
 }
@@ -369,10 +373,10 @@ fn recorded(random: &Random, _: bool, steps: Option<&[u32]>) -> Made {
     record::make(random, false, steps)
 }
 
-/// Our own record of a plane, run again on the plane as it was lent: the Rust's plane both times.
+/// Our own record of a plane, run again with the same keep marks on the plane as it was lent: the Rust's plane both times.
 fn of_round_trip(_: &Random, made: &Made) -> Compared {
     let mut n = Numbers::of(made);
-    let PlaneCase { all, grid, qindex, tiles, plane: lent, steps } = PlaneCase::of(made, &mut n);
+    let PlaneCase { all, grid, qindex, tiles, keep, plane: lent, steps } = PlaneCase::of(made, &mut n);
     let mut bytes: Vec<u8> = n.list();
     let due = n.counted();
     let after: Vec<u16> = n.some(lent.len());
@@ -381,14 +385,14 @@ fn of_round_trip(_: &Random, made: &Made) -> Compared {
     let length = unsafe {
         raw::bihargesh_record_plane(
             plane.as_mut_ptr(), plane.len(), bytes.as_mut_ptr(), bytes.len(), v.as_ptr(), v.len(), h.as_ptr(), h.len(),
-            w.as_ptr(), w.len(), t.as_ptr(), t.len(), qindex.as_ptr(), qindex.len(), tiles.as_ptr(), tiles.len(), steps.as_ptr(), steps.len(),
-            all.as_ptr(), all.len(), place.as_mut_ptr(), place.len(), counts[0].as_mut_ptr(), 2,
+            w.as_ptr(), w.len(), t.as_ptr(), t.len(), qindex.as_ptr(), qindex.len(), tiles.as_ptr(), tiles.len(), keep.as_ptr(), keep.len(),
+            steps.as_ptr(), steps.len(), all.as_ptr(), all.len(), place.as_mut_ptr(), place.len(), counts[0].as_mut_ptr(), 2,
         )
     };
     same("the length", length, due.place as i32)?;
     same("the recorded plane", &plane, &after)?;
     let mut again = lent;
-    let answer = replay(&mut again, &bytes[..length as usize], &[all[0], all[1], all[2], all[8]], &mut place, &mut counts[1]);
+    let answer = replay(&mut again, &bytes[..length as usize], &keep, &[all[0], all[1], all[2], all[8]], &mut place, &mut counts[1]);
     same("the answer", answer, 0)?;
     same("the plane", again, plane)?;
     same("the place", place, [77])?;
@@ -396,14 +400,14 @@ fn of_round_trip(_: &Random, made: &Made) -> Compared {
     Ok(due.no)
 }
 
-/// The numbers of a TU grid's case.
+/// The numbers of a TU grid's case; the last list is that of the keep marks.
 struct Leaves {
     all: Vec<i32>,
     leaves: Vec<u16>,
     skips: Vec<u16>,
-    marks: [Vec<u8>; 4],
+    marks: [Vec<u8>; 5],
     due: Due,
-    built: Option<[Vec<u8>; 4]>,
+    built: Option<[Vec<u8>; 5]>,
 }
 
 impl Leaves {
@@ -411,9 +415,9 @@ impl Leaves {
         let mut n = Numbers::of(made);
         let all = n.some(6);
         let (leaves, skips) = (n.list(), n.list());
-        let marks: [Vec<u8>; 4] = [n.list(), n.list(), n.list(), n.list()];
+        let marks: [Vec<u8>; 5] = [n.list(), n.list(), n.list(), n.list(), n.list()];
         let due = n.due();
-        let built = (due.no == 0).then(|| [0, 1, 2, 3].map(|k: usize| n.some(marks[k].len())));
+        let built = (due.no == 0).then(|| [0, 1, 2, 3, 4].map(|k: usize| n.some(marks[k].len())));
         Leaves { all, leaves, skips, marks, due, built }
     }
 }
@@ -425,11 +429,11 @@ fn of_tx_grid(random: &Random, made: &Made) -> Compared {
     let (mut place, place_after) = places(random, due);
     let mut marks = c.marks;
     let lent = (c.leaves.clone(), c.skips.clone(), settings.clone());
-    let [v, h, w, t] = &mut marks;
+    let [v, h, w, t, k] = &mut marks;
     let answer = unsafe {
         raw::bihargesh_tx_grid(
             c.leaves.as_ptr(), c.leaves.len(), c.skips.as_ptr(), c.skips.len(), v.as_mut_ptr(), v.len(), h.as_mut_ptr(), h.len(),
-            w.as_mut_ptr(), w.len(), t.as_mut_ptr(), t.len(), settings.as_ptr(), settings.len(), place.as_mut_ptr(), place.len(),
+            w.as_mut_ptr(), w.len(), t.as_mut_ptr(), t.len(), k.as_mut_ptr(), k.len(), settings.as_ptr(), settings.len(), place.as_mut_ptr(), place.len(),
         )
     };
     same("the answer", answer, -due.no)?;
@@ -458,18 +462,19 @@ fn of_tx_grid_leaves(random: &Random, made: &Made) -> Compared {
     let (leaves, skips) = (records(&c.leaves), records(&c.skips));
     let (mut marks, mut marks_by_numbers, mut place_by_numbers) = (c.marks.clone(), c.marks, place.clone());
     let lent = (leaves.clone(), skips.clone(), settings.clone());
-    let [v, h, w, t] = &mut marks;
+    let [v, h, w, t, k] = &mut marks;
     let answer = unsafe {
         raw::bihargesh_tx_grid_leaves(
             leaves.as_ptr(), leaves.len(), skips.as_ptr(), skips.len(), v.as_mut_ptr(), v.len(), h.as_mut_ptr(), h.len(),
-            w.as_mut_ptr(), w.len(), t.as_mut_ptr(), t.len(), settings.as_ptr(), settings.len(), place.as_mut_ptr(), place.len(),
+            w.as_mut_ptr(), w.len(), t.as_mut_ptr(), t.len(), k.as_mut_ptr(), k.len(), settings.as_ptr(), settings.len(), place.as_mut_ptr(), place.len(),
         )
     };
-    let [v, h, w, t] = &mut marks_by_numbers;
+    let [v, h, w, t, k] = &mut marks_by_numbers;
     let answer_by_numbers = unsafe {
         raw::bihargesh_tx_grid(
             c.leaves.as_ptr(), c.leaves.len(), c.skips.as_ptr(), c.skips.len(), v.as_mut_ptr(), v.len(), h.as_mut_ptr(), h.len(),
-            w.as_mut_ptr(), w.len(), t.as_mut_ptr(), t.len(), settings.as_ptr(), settings.len(), place_by_numbers.as_mut_ptr(), place_by_numbers.len(),
+            w.as_mut_ptr(), w.len(), t.as_mut_ptr(), t.len(), k.as_mut_ptr(), k.len(), settings.as_ptr(), settings.len(),
+            place_by_numbers.as_mut_ptr(), place_by_numbers.len(),
         )
     };
     same("the answer", answer, -due.no)?;
@@ -477,6 +482,32 @@ fn of_tx_grid_leaves(random: &Random, made: &Made) -> Compared {
     same("the grid", &marks, &after)?;
     same("a list for reading", (leaves, skips, settings), lent)?;
     same("what the numbers give", (answer_by_numbers, place_by_numbers, marks_by_numbers), (answer, place, marks))?;
+    Ok(due.no)
+}
+
+/// Keep marks over a rectangle: a negative row, column or size, which the oracle's numbers are not, is refused by 2.
+fn of_keep_rectangle(random: &Random, made: &Made) -> Compared {
+    let mut n = Numbers::of(made);
+    let mut all: Vec<i32> = n.some(6);
+    let mut keep: Vec<u8> = n.list();
+    let mut due = n.due();
+    if random.once_in(20) {
+        all[random.size(2, 5)] = random.one_of(&[-1, -2, i32::MIN]);
+    }
+    if all[2..].iter().any(|&number| number < 0) {
+        due = Due::refused(2);
+    }
+    let (settings, due) = settings(random, all, due, &[]);
+    let after = if due.no == 0 { n.some(keep.len()) } else { keep.clone() };
+    let (mut place, place_after) = places(random, due);
+    let lent = settings.clone();
+    let answer = unsafe {
+        raw::bihargesh_keep_rectangle(keep.as_mut_ptr(), keep.len(), settings.as_ptr(), settings.len(), place.as_mut_ptr(), place.len())
+    };
+    same("the answer", answer, -due.no)?;
+    same("the place", place, place_after)?;
+    same("the keep marks", keep, after)?;
+    same("a list for reading", settings, lent)?;
     Ok(due.no)
 }
 
@@ -527,6 +558,7 @@ fn of_frame(random: &Random, made: &Made) -> Compared {
     let mut planes: [Vec<u16>; 3] = [n.list(), n.list(), n.list()];
     let mut grids = [Grid::lent(&mut n), Grid::lent(&mut n)];
     let starts: [Vec<u16>; 2] = [n.list(), n.list()];
+    let kept: [Vec<u8>; 2] = [n.list(), n.list()];
     let steps = made.steps.clone().unwrap_or_default();
     let due = n.counted();
     let left = if due.no == 0 { [0, 1, 2].map(|k: usize| n.some(planes[k].len())) } else { planes.clone() };
@@ -536,8 +568,8 @@ fn of_frame(random: &Random, made: &Made) -> Compared {
     let (left, built) = if now.no == due.no { (left, built) } else { (planes.clone(), grids.clone()) };
     let (mut place, place_after) = places(random, now);
     let (mut counts, counts_after) = tallies(random, now);
-    let lent = (read.clone(), starts.clone(), steps.clone(), settings.clone());
-    let ([superblocks, leaves, chroma_leaves, skips], [tiles, chroma_tiles]) = (&read, &starts);
+    let lent = (read.clone(), starts.clone(), kept.clone(), steps.clone(), settings.clone());
+    let ([superblocks, leaves, chroma_leaves, skips], [tiles, chroma_tiles], [keep, chroma_keep]) = (&read, &starts, &kept);
     let ([y, u, v], [luma, chroma]) = (&mut planes, &mut grids);
     let ([lv, lh, lw, lt], [cv, ch, cw, ct]) = (&mut luma.marks, &mut chroma.marks);
     let answer = unsafe {
@@ -550,6 +582,7 @@ fn of_frame(random: &Random, made: &Made) -> Compared {
             steps.as_ptr(), steps.len(), superblocks.as_ptr(), superblocks.len(), leaves.as_ptr(), leaves.len(),
             chroma_leaves.as_ptr(), chroma_leaves.len(), skips.as_ptr(), skips.len(),
             tiles.as_ptr(), tiles.len(), chroma_tiles.as_ptr(), chroma_tiles.len(),
+            keep.as_ptr(), keep.len(), chroma_keep.as_ptr(), chroma_keep.len(),
             settings.as_ptr(), settings.len(), place.as_mut_ptr(), place.len(),
             counts.as_mut_ptr(), counts.len(),
         )
@@ -559,7 +592,7 @@ fn of_frame(random: &Random, made: &Made) -> Compared {
     same("the counts", counts, counts_after)?;
     same("a plane", planes, left)?;
     same("a grid", grids, built)?;
-    same("a list for reading", (read, starts, steps, settings), lent)?;
+    same("a list for reading", (read, starts, kept, steps, settings), lent)?;
     Ok(now.no)
 }
 
@@ -606,9 +639,9 @@ struct Part {
 }
 
 /// What makes the cases of both engines.
-const PLANES: &[Make] = &[plane::make, plane::make_bins, plane::make_tiles, plane::make_room_at_one];
+const PLANES: &[Make] = &[plane::make, plane::make_bins, plane::make_tiles, plane::make_room_at_one, plane::make_keep];
 
-const PARTS: [Part; 12] = [
+const PARTS: [Part; 13] = [
     Part { name: "bihargesh_thresholds", makes: &[thresholds::make], kind: None, compare: of_thresholds },
     Part { name: "bihargesh_segment", makes: &[segment::make_window], kind: None, compare: of_segment },
     Part { name: "bihargesh_plane", makes: PLANES, kind: None, compare: of_plane },
@@ -618,8 +651,9 @@ const PARTS: [Part; 12] = [
     Part { name: "bihargesh_replay of bihargesh_record_plane", makes: &[recorded], kind: None, compare: of_round_trip },
     Part { name: "bihargesh_tx_grid", makes: &[grid::make], kind: Some(1), compare: of_tx_grid },
     Part { name: "bihargesh_tx_grid_leaves", makes: &[whole_leaves], kind: Some(1), compare: of_tx_grid_leaves },
+    Part { name: "bihargesh_keep_rectangle", makes: &[grid::make_keep], kind: None, compare: of_keep_rectangle },
     Part { name: "bihargesh_qindex_grid", makes: &[grid::make], kind: Some(2), compare: of_qindex_grid },
-    Part { name: "bihargesh_frame", makes: &[frame::make, frame::make_bins, frame::make_tiles], kind: None, compare: of_frame },
+    Part { name: "bihargesh_frame", makes: &[frame::make, frame::make_bins, frame::make_tiles, frame::make_keep], kind: None, compare: of_frame },
     Part { name: "bihargesh_ccso", makes: &[ccso::make], kind: None, compare: of_ccso },
 ];
 
@@ -631,15 +665,18 @@ struct Counts {
     refused: [u64; 14],
     /// With tile starts: all, and the accepted ones that would end otherwise without them.
     starts: [u64; 2],
+    /// With kept cells: likewise.
+    keep: [u64; 2],
 }
 
 impl Counts {
     fn print(&self, name: &str) {
         let cases = self.accepted + self.refused.iter().sum::<u64>();
-        let [tiled, telling] = self.starts;
         let mut said = vec![format!("{cases} cases, {} accepted ({} changed what was lent)", self.accepted, self.changed)];
         said.extend((1..self.refused.len()).filter(|&k| self.refused[k] > 0).map(|k| format!("by {k}: {}", self.refused[k])));
-        said.extend((tiled > 0).then(|| format!("{tiled} with tile starts ({telling} end otherwise without)")));
+        for (what, [all, telling]) in [("tile starts", self.starts), ("kept cells", self.keep)] {
+            said.extend((all > 0).then(|| format!("{all} with {what} ({telling} end otherwise without)")));
+        }
         println!("linked: {name}: {}, 0 different", said.join(", "));
     }
 }
@@ -661,10 +698,12 @@ fn run(part: &Part, n: u64, seed: u64) -> Result<Counts, String> {
             format!("{}, case {} of seed {seed}: {what}\n{}", part.name, n - left + 1, cut(&String::from_utf8_lossy(&made.line.text())))
         })?;
         counts.starts[0] += made.starts.is_some() as u64;
+        counts.keep[0] += made.keep.is_some() as u64;
         if no == 0 {
             counts.accepted += 1;
             counts.changed += made.changed as u64;
             counts.starts[1] += (made.starts == Some(true)) as u64;
+            counts.keep[1] += (made.keep == Some(true)) as u64;
         } else {
             counts.refused[no as usize] += 1;
         }

@@ -5,7 +5,8 @@
 //!     pace same SIZE KIND                  both once: how many edges and changed samples; fails where the planes differ
 //!
 //! KIND is the size index of all blocks, or `dark`: index 1, and every qindex 0, so that every threshold is 0; or `plain`: index 1, and ours is `bihargesh_plane_plain`;
-//! or `recorded`: index 1, and ours is `bihargesh_record_plane` with a buffer that the record just fills, beside the Rust's run, which writes none.
+//! or `recorded`: index 1, and ours is `bihargesh_record_plane` with a buffer that the record just fills, beside the Rust's run, which writes none;
+//! or `kept`: index 1, and one cell in ten is kept (ticket 7), beside the Rust's run, which keeps none. There `same` holds ours to the Rust's segments, one after the other, whose stores to kept cells are taken back.
 
 #[path = "src/random.rs"]
 mod random;
@@ -16,7 +17,7 @@ mod rust;
 use rust as av2;
 
 use random::Random;
-use rust::deblock::{deblock_plane, PlaneCfg, TxLayout};
+use rust::deblock::{deblock_plane, Joint, PlaneCfg, Run, Settings, TxLayout};
 use std::hint::black_box;
 use std::process::exit;
 use std::time::Instant;
@@ -37,6 +38,7 @@ extern "C" {
         sqh: *const u8, sqh_len: usize,
         qindex: *const u16, qindex_len: usize,
         tiles: *const u16, tiles_len: usize,
+        keep: *const u8, keep_len: usize,
         steps: *const u32, steps_len: usize,
         settings: *const i32, settings_len: usize,
         place: *mut usize, place_len: usize,
@@ -51,6 +53,7 @@ extern "C" {
         sqh: *const u8, sqh_len: usize,
         qindex: *const u16, qindex_len: usize,
         tiles: *const u16, tiles_len: usize,
+        keep: *const u8, keep_len: usize,
         steps: *const u32, steps_len: usize,
         settings: *const i32, settings_len: usize,
         place: *mut usize, place_len: usize,
@@ -66,6 +69,7 @@ extern "C" {
         sqh: *const u8, sqh_len: usize,
         qindex: *const u16, qindex_len: usize,
         tiles: *const u16, tiles_len: usize,
+        keep: *const u8, keep_len: usize,
         steps: *const u32, steps_len: usize,
         settings: *const i32, settings_len: usize,
         place: *mut usize, place_len: usize,
@@ -83,6 +87,8 @@ struct Scene {
     qindex: Vec<u16>,
     /// No column starts a tile, as in the Rust.
     tiles: Vec<u16>,
+    /// Which cells are kept.
+    keep: Vec<u8>,
     steps: Vec<u32>,
     samples: Vec<u16>,
     /// Whether ours writes a record.
@@ -101,9 +107,9 @@ fn samples(random: &Random, size: usize) -> Vec<u16> {
 
 impl Scene {
     fn new(size: usize, kind: &str) -> Scene {
-        let (dark, recorded, plain) = (kind == "dark", kind == "recorded", kind == "plain");
-        let index: usize = if dark || recorded || plain { 1 } else { kind.parse().expect("an index") };
-        let random = Random::new(13);
+        let (dark, recorded, plain, kept) = (kind == "dark", kind == "recorded", kind == "plain", kind == "kept");
+        let index: usize = if dark || recorded || plain || kept { 1 } else { kind.parse().expect("an index") };
+        let (random, marks) = (Random::new(13), Random::new(7));
         let cells = size / 4;
         let room = |k: usize| (k > 0 && 4 * k >= REACH[index] && 4 * k + REACH[index] <= size) as u8;
         Scene {
@@ -114,6 +120,7 @@ impl Scene {
             sizes: vec![index as u8; cells * cells],
             qindex: (0..cells * cells).map(|_| if dark { 0 } else { random.size(120, 215) as u16 }).collect(),
             tiles: Vec::new(),
+            keep: (0..cells * cells).map(|_| (kept && marks.once_in(10)) as u8).collect(),
             steps: rust::quant::steps(),
             samples: samples(&random, size),
             recorded,
@@ -195,6 +202,7 @@ fn run_recorded(s: &Scene, plane: &mut [u16], record: &mut [u8]) {
             s.sizes.as_ptr(), s.sizes.len(),
             s.qindex.as_ptr(), s.qindex.len(),
             s.tiles.as_ptr(), s.tiles.len(),
+            s.keep.as_ptr(), s.keep.len(),
             s.steps.as_ptr(), s.steps.len(),
             settings.as_ptr(), settings.len(),
             place.as_mut_ptr(), place.len(),
@@ -222,6 +230,7 @@ fn run_ours(s: &Scene, plane: &mut [u16], record: &mut [u8]) {
             s.sizes.as_ptr(), s.sizes.len(),
             s.qindex.as_ptr(), s.qindex.len(),
             s.tiles.as_ptr(), s.tiles.len(),
+            s.keep.as_ptr(), s.keep.len(),
             s.steps.as_ptr(), s.steps.len(),
             settings.as_ptr(), settings.len(),
             place.as_mut_ptr(), place.len(),
@@ -268,13 +277,41 @@ fn time(s: &Scene) {
     println!("{} {}", median(theirs), median(ours));
 }
 
-fn same(s: &Scene) {
+/// The Rust's segments in the plain order, all vertical edges and then all horizontal ones; no sample of a kept cell is stored.
+fn by_segments(s: &Scene, keep: &[u8]) -> Vec<u16> {
+    let (cells, size) = ((s.cells, s.cells), (s.size, s.size));
+    let settings = Settings { cells, stride: s.size, size, superblock: (SUPERBLOCK, SUPERBLOCK), chroma: false, depth: DEPTH as u64, delta_q: 0, delta_side: 0 };
+    let kept = (0..s.size * s.size).map(|i| keep[i / s.size / 4 * s.cells + i % s.size / 4] == 1).collect();
+    let mut run = Run::new(&settings, &s.samples, kept);
+    for (marks, back, perp, line) in [(&s.vertical, 1, 1, s.size), (&s.horizontal, s.cells, s.size, 1)] {
+        for here in (0..marks.len()).filter(|&here| marks[here] == 1) {
+            let (row, column) = (here / s.cells, here % s.cells);
+            let shortened = back > 1 && row % SUPERBLOCK == 0;
+            let qindex = (s.qindex[here], s.qindex[here - back]);
+            run.edge(&Joint { base: 4 * (row * s.size + column), perp, line, index: s.sizes[here], shortened, qindex });
+        }
+    }
+    run.end()
+}
+
+/// The plane that is due: the Rust's, or with kept cells that of its segments, which without them must be the Rust's.
+fn due(s: &Scene) -> Vec<u16> {
     let mut floats = Floats::new(s);
-    let (mut plane, mut record) = (s.samples.clone(), s.buffer());
     run_rust(s, &mut floats);
+    let rust: Vec<u16> = floats.samples.iter().map(|&f| f as u16).collect();
+    if !s.keep.contains(&1) {
+        return rust;
+    }
+    assert!(by_segments(s, &vec![0; s.keep.len()]) == rust, "the Rust's segments, one after the other, leave another plane");
+    by_segments(s, &s.keep)
+}
+
+fn same(s: &Scene) {
+    let (mut plane, mut record) = (s.samples.clone(), s.buffer());
+    let due = due(s);
     run_ours(s, &mut plane, &mut record);
-    if let Some(at) = (0..plane.len()).find(|&i| plane[i] as f32 != floats.samples[i]) {
-        eprintln!("the planes differ first at offset {at}: the Rust has {}, ours {}", floats.samples[at], plane[at]);
+    if let Some(at) = (0..plane.len()).find(|&i| plane[i] != due[i]) {
+        eprintln!("the planes differ first at offset {at}: {} is due, ours is {}", due[at], plane[at]);
         exit(1);
     }
     let changed = (0..plane.len()).filter(|&i| plane[i] != s.samples[i]).count();

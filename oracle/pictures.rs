@@ -16,6 +16,8 @@ mod damage;
 mod frame;
 #[path = "src/grid.rs"]
 mod grid;
+#[path = "src/keep.rs"]
+mod keep;
 #[path = "src/line.rs"]
 mod line;
 #[path = "src/made.rs"]
@@ -214,6 +216,8 @@ struct Given {
     deltas: (i64, i64),
     /// The columns in which a tile starts, of luma and of chroma.
     starts: [Vec<u16>; 2],
+    /// Rectangles of luma's cells: row, column, rows, columns.
+    kept: Vec<[usize; 4]>,
 }
 
 fn given(p: &Picture, s: &Settings) -> Given {
@@ -244,6 +248,7 @@ fn given(p: &Picture, s: &Settings) -> Given {
         chroma: s.last("chroma", &[1])[0] != 0,
         deltas: (s.last("delta_y", &[0])[0], s.last("delta_uv", &[0])[0]),
         starts: ["tiles_y", "tiles_uv"].map(|name| s.last(name, &[]).iter().map(|&column| column as u16).collect()),
+        kept: s.all("keep").chunks(4).map(|k| [k[0] as usize, k[1] as usize, k[2] as usize, k[3] as usize]).collect(),
     }
 }
 
@@ -264,18 +269,30 @@ fn deblocked(p: &Picture, s: &Settings) -> [Vec<u16>; 3] {
         chroma_leaves: &g.chroma_leaves,
         skips: &g.skips,
     };
-    let new = tiled(p, &g, &planes, deblock::frame(&frame, &planes));
+    let new = read(p, &g, &planes, deblock::frame(&frame, &planes));
     [0, 1, 2].map(|k| if new[k].is_empty() { Vec::new() } else { packed(&new[k], p.plane_size(k)) })
 }
 
-/// The Rust's new planes; those with tile starts by the reading of these, which is held to the Rust's without them.
-fn tiled(p: &Picture, g: &Given, planes: &[Vec<u16>; 3], mut new: [Vec<u16>; 3]) -> [Vec<u16>; 3] {
+/// The Rust's new planes; those with tile starts or kept cells by the reading of these, which is held to the Rust's without them.
+fn read(p: &Picture, g: &Given, planes: &[Vec<u16>; 3], mut new: [Vec<u16>; 3]) -> [Vec<u16>; 3] {
     for k in 0..if p.chroma && g.chroma { 3 } else { 1 } {
         let c = alone(p, g, k > 0, planes[k].clone());
-        assert!(tiles::read(&tiles::bare(&c)) == new[k], "the reading of tile starts is not the Rust's");
+        assert!(tiles::read(&tiles::bare(&keep::open(&c))) == new[k], "the reading of tile starts is not the Rust's");
         new[k] = tiles::read(&c);
     }
     new
+}
+
+/// Whether a rectangle has a sample of luma.
+fn kept(g: &Given, x: usize, y: usize) -> bool {
+    g.kept.iter().any(|k| (4 * k[0]..4 * (k[0] + k[2])).contains(&y) && (4 * k[1]..4 * (k[1] + k[3])).contains(&x))
+}
+
+/// The marks of a plane's cells: 1 where one of luma's samples that lie over a cell is in a rectangle.
+fn marks(g: &Given, cells: (usize, usize), sub: (usize, usize)) -> Vec<u8> {
+    let (w, h) = (4 << sub.0, 4 << sub.1);
+    let any = |r: usize, c: usize| (h * r..h * (r + 1)).any(|y| (w * c..w * (c + 1)).any(|x| kept(g, x, y)));
+    (0..cells.0 * cells.1).map(|k| any(k / cells.0, k % cells.0) as u8).collect()
 }
 
 /// One of a picture's planes by itself.
@@ -296,6 +313,7 @@ fn alone(p: &Picture, g: &Given, chroma: bool, plane: Vec<u16>) -> plane::Case {
         marks: deblock::tx_grid(leaves, &g.skips, cells, sub, cap),
         qindex: deblock::qindex_grid(&g.entries, p.size.0.div_ceil(64), cells, sub),
         starts: g.starts[chroma as usize].clone(),
+        keep: marks(g, cells, sub),
         plane,
         steps: Vec::new(),
     }
@@ -416,6 +434,15 @@ fn tile_lines(random: &Random, out: &mut String, size: (usize, usize)) {
     }
 }
 
+/// Rectangles of kept cells: most in the picture, some partly or wholly beyond it, some empty.
+fn keep_lines(random: &Random, out: &mut String, size: (usize, usize)) {
+    for _ in 0..random.size(1, 5) {
+        let at = |n: usize| random.size(0, 2 * n.div_ceil(8) + random.one_of(&[0, 0, 3]));
+        let much = || random.one_of(&[1, 1, 2, 3, 5, 8, 40, 65535]) * !random.once_in(12) as usize;
+        *out += &format!("keep {} {} {} {}\n", at(size.1), at(size.0), much(), much());
+    }
+}
+
 fn settings(seed: u64, size: (usize, usize)) -> String {
     let random = Random::new(seed);
     let mut out = String::from("# random settings\nsettings 1\n");
@@ -450,6 +477,9 @@ fn settings(seed: u64, size: (usize, usize)) -> String {
         if random.once_in(2) {
             ccso_lines(&random, &mut out, letter);
         }
+    }
+    if random.once_in(2) {
+        keep_lines(&random, &mut out, size);
     }
     out
 }

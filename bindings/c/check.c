@@ -1,5 +1,5 @@
-/* Calls the functions of the static library from C and holds them to document 01's figures and refusals, to ticket 4's counts, to ticket 5's tile starts,
- * and the plain engine to the scheduled one. */
+/* Calls the functions of the static library from C and holds them to document 01's figures and refusals, to ticket 4's counts, to ticket 5's tile starts, to
+ * ticket 7's kept cells, and the plain engine to the scheduled one. */
 #include "bihargesh.h"
 #include <stdio.h>
 #include <string.h>
@@ -149,10 +149,10 @@ static void short_counts(void) {
 /* ---- a plane of 24 by 4 samples with one edge, 100 before it and 108 from sample 8 on */
 
 static uint16_t plane[96], lent[96], qindex[6], tiles[6];
-static uint8_t vedge[6], hedge[6], sizes[6];
+static uint8_t vedge[6], hedge[6], sizes[6], keep[7];
 static uint32_t table[352];
 static int32_t plane_settings[11];
-static size_t place[1], tiles_count;
+static size_t place[1], tiles_count, keep_count;
 
 /* the qindex whose side threshold at depth 8 is 40; every step but the first gives q 8 */
 static uint16_t index_of_side_40(void) {
@@ -176,6 +176,8 @@ static void plane_anew(void) {
     sizes[k] = 3;
     qindex[k] = index;
   }
+  memset(keep, 0, sizeof keep);
+  keep_count = 6;
   place[0] = 77;
   tiles_count = 0;
 }
@@ -185,7 +187,7 @@ static const uint16_t *starts(void) { return tiles_count ? tiles : NULL; }
 
 static int32_t run_plane(size_t settings_len) {
   return bihargesh_plane(plane, LEN(plane), vedge, LEN(vedge), hedge, LEN(hedge), sizes, LEN(sizes), sizes, LEN(sizes), qindex, LEN(qindex),
-                         starts(), tiles_count, table, LEN(table), plane_settings, settings_len, place, 1, counts, 2);
+                         starts(), tiles_count, keep, keep_count, table, LEN(table), plane_settings, settings_len, place, 1, counts, 2);
 }
 
 static void refused_plane(const char *what, size_t settings_len, int32_t want, size_t at) {
@@ -240,7 +242,7 @@ static void planes(void) {
   plane_settings[8] = 9;
   same("no place wanted",
        bihargesh_plane(plane, LEN(plane), vedge, LEN(vedge), hedge, LEN(hedge), sizes, LEN(sizes), sizes, LEN(sizes), qindex, LEN(qindex), NULL, 0,
-                       table, LEN(table), plane_settings, 11, NULL, 0, NULL, 0),
+                       keep, 6, table, LEN(table), plane_settings, 11, NULL, 0, NULL, 0),
        -1);
 }
 
@@ -250,7 +252,7 @@ static uint8_t record[16], record_lent[16];
 
 static int32_t record_plane(uint8_t *into, size_t room, size_t settings_len) {
   return bihargesh_record_plane(plane, LEN(plane), into, room, vedge, LEN(vedge), hedge, LEN(hedge), sizes, LEN(sizes), sizes, LEN(sizes), qindex,
-                                LEN(qindex), starts(), tiles_count, table, LEN(table), plane_settings, settings_len, place, 1, counts, 2);
+                                LEN(qindex), starts(), tiles_count, keep, keep_count, table, LEN(table), plane_settings, settings_len, place, 1, counts, 2);
 }
 
 static void refused_record(const char *what, size_t room, size_t settings_len, int32_t want, size_t at) {
@@ -381,7 +383,7 @@ enum { MANY_COLS = 20, MANY_ROWS = 9, MANY_CELLS = MANY_COLS * MANY_ROWS, MANY =
 
 /* What both take, and what each leaves. */
 static uint16_t many[2][MANY], many_blocks[MANY_CELLS], many_tiles[3];
-static uint8_t many_marks[2][MANY_CELLS], many_sizes[2][MANY_CELLS];
+static uint8_t many_marks[2][MANY_CELLS], many_sizes[2][MANY_CELLS], many_keep[MANY_CELLS];
 static int32_t many_settings[11];
 
 static unsigned drawn(unsigned below) {
@@ -390,8 +392,9 @@ static unsigned drawn(unsigned below) {
   return (state >> 8) % below;
 }
 
-/* Steps between blocks and a little noise; marks at a third of the cells; at most three tile starts, in rising order. */
-static void draw_many(void) {
+/* Steps between blocks and a little noise; marks at a third of the cells; at most three tile starts, in rising order; every second time a quarter of the
+ * cells kept. */
+static void draw_many(int kept) {
   const int32_t settings[11] = {MANY_COLS, MANY_ROWS, 4 * MANY_COLS, 4 * MANY_COLS, 4 * MANY_ROWS, 8, 8, 0, 8, 0, 0};
   memcpy(many_settings, settings, sizeof settings);
   many_settings[BIHARGESH_PLANE_SB_HEIGHT] += 8 * (int32_t)drawn(2);
@@ -404,6 +407,7 @@ static void draw_many(void) {
     many_sizes[0][k] = (uint8_t)drawn(7);
     many_sizes[1][k] = (uint8_t)drawn(7);
     many_blocks[k] = (uint16_t)(150 + drawn(100));
+    many_keep[k] = kept && drawn(4) == 0;
   }
   for (int k = 0; k < 3; k++) many_tiles[k] = (uint16_t)(1 + 6 * k + (int)drawn(6));
 }
@@ -415,7 +419,7 @@ static void damage_many(unsigned by) {
   if (by == 3) many_settings[BIHARGESH_PLANE_STRIDE]++;
   if (by == 4) table[drawn(352)] = 1048577;
   if (by == 5) many_tiles[1] = many_tiles[2];
-  if (by == 6) many_marks[drawn(2)][drawn(MANY_CELLS)] = 2;
+  if (by == 6) (drawn(2) ? many_keep : many_marks[drawn(2)])[drawn(MANY_CELLS)] = 2;
   if (by == 7) memset(many_sizes, 6, sizeof many_sizes), many_settings[BIHARGESH_PLANE_CHROMA] = 0, many_marks[0][1 + MANY_COLS * drawn(MANY_ROWS)] = 1;
   if (by == 8) many[0][drawn(MANY)] = 256;
 }
@@ -425,14 +429,14 @@ static void plain_engine(void) {
   for (unsigned k = 0; k < 900; k++) {
     int32_t answers[2];
     same("steps", bihargesh_steps(table, LEN(table)), 0);
-    draw_many();
+    draw_many(k / 9 % 2);
     damage_many(k % 9);
     memcpy(many[1], many[0], sizeof many[0]);
     for (int plain = 0; plain < 2; plain++) {
       places[plain][0] = 77;
       answers[plain] = (plain ? bihargesh_plane_plain : bihargesh_plane)(
           many[plain], MANY, many_marks[0], MANY_CELLS, many_marks[1], MANY_CELLS, many_sizes[0], MANY_CELLS, many_sizes[1], MANY_CELLS, many_blocks,
-          MANY_CELLS, many_tiles, 3, table, LEN(table), many_settings, 11, places[plain], 1, both[plain], 2);
+          MANY_CELLS, many_tiles, 3, many_keep, MANY_CELLS, table, LEN(table), many_settings, 11, places[plain], 1, both[plain], 2);
     }
     same("a plane drawn by chance", answers[0], -(int32_t)(k % 9));
     same("the plain engine's answer", answers[1], answers[0]);
@@ -459,7 +463,7 @@ static void again_anew(void) {
 }
 
 static int32_t run_again(size_t length, size_t settings_len) {
-  return bihargesh_replay(plane, LEN(plane), again, length, replay_settings, settings_len, place, 1, counts, 2);
+  return bihargesh_replay(plane, LEN(plane), again, length, keep, keep_count, replay_settings, settings_len, place, 1, counts, 2);
 }
 
 static void refused_again(const char *what, size_t length, size_t settings_len, int32_t want, size_t at) {
@@ -521,18 +525,164 @@ static void replays(void) {
   refused_again("three numbers", 0, 3, -BIHARGESH_BAD_LENGTH, 0);
 }
 
-/* ---- grids of 16 by 16 cells, with one entry more that stays */
+/* ---- kept cells in the same plane: the edge filters samples 0 to 15, cells 0 to 3 */
 
-static uint8_t marks[4][257];
+static uint16_t unkept[96], one_kept[96];
+
+/* A run with one cell kept: its samples stay, the others are those of the run that keeps none, and the stores into it are not counted. */
+static void kept_cell(int cell) {
+  size_t changed = 0;
+  again_anew();
+  same("no cell kept", run_plane(11), 0);
+  memcpy(unkept, plane, sizeof plane);
+  again_anew();
+  memcpy(lent, plane, sizeof plane);
+  keep[cell] = 1;
+  same("a cell kept", run_plane(11), 0);
+  memcpy(one_kept, plane, sizeof plane);
+  for (int k = 0; k < 96; k++) {
+    same("a sample beside a kept cell", plane[k], k % 24 / 4 == cell ? lent[k] : unkept[k]);
+    changed += plane[k] != lent[k];
+  }
+  same("stored beside a kept cell", (long long)counts[0], cell < 4 ? 48 : 64);
+  same("changed beside a kept cell", (long long)counts[1], (long long)changed);
+}
+
+/* The record of a run with the cell kept is that of the run without, and gives the run's plane with the same mark alone. */
+static void kept_record(int cell) {
+  again_anew();
+  keep[cell] = 1;
+  same("a record with a cell kept", record_plane(record, 16, 11), 15);
+  same("its bytes", memcmp(record, again, 15), 0);
+  same("its plane", memcmp(plane, one_kept, sizeof plane), 0);
+  again_anew();
+  keep[cell] = 1;
+  same("run again with the cell kept", run_again(15, 4), 0);
+  same("the same plane", memcmp(plane, one_kept, sizeof plane), 0);
+  again_anew();
+  same("run again with no cell kept", run_again(15, 4), 0);
+  same("another plane", memcmp(plane, one_kept, sizeof plane) != 0, cell < 4);
+}
+
+static void kept_cells(void) {
+  for (int cell = 0; cell < 6; cell++) {
+    kept_cell(cell);
+    kept_record(cell);
+  }
+  again_anew();
+  memcpy(lent, plane, sizeof plane);
+  memset(keep, 1, sizeof keep);
+  same("every cell kept", run_plane(11), 0);
+  none("every cell kept");
+  same("the plane as lent", memcmp(plane, lent, sizeof plane), 0);
+  plane_anew();
+  keep[6] = 9;
+  keep_count = 7;
+  same("an entry beyond is not tested", run_plane(11), 0);
+  plane_anew();
+  keep[3] = 2;
+  refused_plane("keep mark 2", 11, -BIHARGESH_BAD_CELL, 3);
+  keep[3] = hedge[2] = 2;
+  refused_plane("the first bad cell", 11, -6, 2);
+  keep[5] = 255;
+  refused_record("keep mark 255", 16, 11, -6, 5);
+  keep[5] = 2;
+  vedge[1] = 1;
+  refused_plane("a keep mark before room", 11, -6, 5);
+  keep_count = 5;
+  refused_plane("five keep marks", 11, -BIHARGESH_BAD_LENGTH, 0);
+  keep_count = 0;
+  refused_plane("no keep marks", 11, -3, 0);
+  keep_count = 5;
+  refused_record("five keep marks", 16, 11, -3, 0);
+  again_anew();
+  keep_count = 5;
+  refused_again("five keep marks", 15, 4, -BIHARGESH_BAD_LENGTH, 0);
+  keep[4] = 2;
+  again[20] = 8;
+  refused_again("an entry before a keep mark", 35, 4, -BIHARGESH_BAD_ENTRY, 1);
+  keep[4] = 2;
+  again[15] = 2;
+  refused_again("a keep mark before room", 35, 4, -BIHARGESH_BAD_CELL, 4);
+  keep[4] = 2;
+  refused_again("a keep mark with no entry", 5, 4, -6, 4);
+}
+
+/* ---- a kept rectangle in a plane of 3 rows of 4 cells, with one entry more that stays */
+
+static uint8_t kept[13];
+
+/* The rectangle's marks are want, row by row; the second cell was kept before. */
+static void rectangle(const char *what, int32_t row, int32_t col, int32_t high, int32_t wide, const char *want) {
+  const int32_t settings[BIHARGESH_KEEP_RECTANGLE_SETTINGS] = {4, 3, row, col, high, wide};
+  memset(kept, 0, sizeof kept);
+  kept[1] = 1;
+  kept[12] = 9;
+  place[0] = 77;
+  same(what, bihargesh_keep_rectangle(kept, LEN(kept), settings, 6, place, 1), 0);
+  for (int k = 0; k < 12; k++) same(what, kept[k], want[k] - '0');
+  same(what, kept[12] == 9 && place[0] == 77, 1);
+}
+
+/* It is refused with its place, and the marks stay. */
+static void bad_rectangle(const char *what, const int32_t *settings, size_t settings_len, size_t count, int32_t want, size_t at) {
+  uint8_t before[13];
+  memcpy(before, kept, sizeof kept);
+  place[0] = 77;
+  same(what, bihargesh_keep_rectangle(kept, count, settings, settings_len, place, 1), want);
+  same(what, (long long)place[0], (long long)at);
+  same(what, memcmp(kept, before, sizeof kept), 0);
+}
+
+static void rectangles(void) {
+  const int32_t most = INT32_MAX;
+  int32_t settings[6] = {4, 3, 0, 0, 3, 4};
+  rectangle("a rectangle", 1, 1, 2, 3, "010001110111");
+  rectangle("two rows of one column", 0, 2, 2, 1, "011000100000");
+  rectangle("one row of two columns", 0, 2, 1, 2, "011100000000");
+  rectangle("cut at the right", 1, 3, 1, 9, "010000010000");
+  rectangle("cut below", 2, 0, 9, 1, "010000001000");
+  rectangle("the whole plane", 0, 0, most, most, "111111111111");
+  rectangle("beyond the plane", 3, 4, most, most, "010000000000");
+  rectangle("far beyond it", most, most, most, most, "010000000000");
+  rectangle("no rows", 0, 0, 0, 4, "010000000000");
+  rectangle("no columns", 0, 0, 3, 0, "010000000000");
+  for (int k = 2; k < 6; k++) {
+    int32_t lent_number = settings[k];
+    settings[k] = -1;
+    bad_rectangle("a negative number", settings, 6, 13, -BIHARGESH_BAD_SIZE, 0);
+    bad_rectangle("a negative number before the length", settings, 6, 0, -2, 0);
+    settings[k] = lent_number;
+  }
+  bad_rectangle("five numbers", settings, 5, 13, -BIHARGESH_BAD_LENGTH, 0);
+  bad_rectangle("eleven marks", settings, 6, 11, -3, 0);
+  kept[7] = 2;
+  bad_rectangle("a bad mark", settings, 6, 13, -BIHARGESH_BAD_CELL, 7);
+  kept[7] = 0;
+  settings[0] = 0;
+  bad_rectangle("no columns of cells", settings, 6, 13, -2, 0);
+  settings[0] = 1025;
+  bad_rectangle("1025 columns of cells", settings, 6, 13, -2, 0);
+  same("no place wanted", bihargesh_keep_rectangle(kept, 13, settings, 6, NULL, 0), -2);
+}
+
+/* ---- grids of 16 by 16 cells, with one entry more that stays; the last list is that of the keep marks */
+
+static uint8_t marks[5][257];
 static uint16_t cells[1025];
 
 static int32_t run_tx(const uint16_t *leaves, size_t count, int32_t cap) {
   int32_t settings[6] = {16, 16, 0, 0, cap, cap};
   memset(marks, 9, sizeof marks);
-  return bihargesh_tx_grid(leaves, count, NULL, 0, marks[0], 257, marks[1], 257, marks[2], 257, marks[3], 257, settings, 6, place, 1);
+  return bihargesh_tx_grid(leaves, count, NULL, 0, marks[0], 257, marks[1], 257, marks[2], 257, marks[3], 257, marks[4], 257, settings, 6, place, 1);
 }
 
-static uint8_t by_numbers[4][257];
+/* no cell is kept, and the entry beyond stays */
+static void none_kept(const char *what) {
+  for (int k = 0; k < 257; k++) same(what, marks[4][k], k < 256 ? 0 : 9);
+}
+
+static uint8_t by_numbers[5][257];
 
 /* the same leaves as records: the same answer, place and marks */
 static void same_by_records(const char *what, const struct bihargesh_leaf *leaves, size_t count, const struct bihargesh_leaf *skips, size_t skipped,
@@ -547,10 +697,11 @@ static void same_by_records(const char *what, const struct bihargesh_leaf *leave
   place[0] = 7;
   same(what,
        bihargesh_tx_grid(numbers[0], 4 * count, numbers[1], 4 * skipped, by_numbers[0], 257, by_numbers[1], 257, by_numbers[2], 257, by_numbers[3], 257,
-                         settings, settings_len, place_by_numbers, 1),
+                         by_numbers[4], 257, settings, settings_len, place_by_numbers, 1),
        want);
   same(what,
-       bihargesh_tx_grid_leaves(leaves, count, skips, skipped, marks[0], 257, marks[1], 257, marks[2], 257, marks[3], 257, settings, settings_len, place, 1),
+       bihargesh_tx_grid_leaves(leaves, count, skips, skipped, marks[0], 257, marks[1], 257, marks[2], 257, marks[3], 257, marks[4], 257, settings,
+                                settings_len, place, 1),
        want);
   same(what, memcmp(marks, by_numbers, sizeof marks), 0);
   same(what, (long long)place[0], (long long)at);
@@ -563,13 +714,17 @@ static void leaf_records(void) {
   same_by_records("two leaves", good, 2, NULL, 0, 6, 0, 7);
   same("a mark at 8", marks[0][8], 1);
   same("an entry beyond", marks[2][256], 9);
+  none_kept("keep marks of leaf records");
   same_by_records("a leaf under a skip leaf", good, 1, good, 1, 6, 0, 7);
   same("index 4", marks[3][255], 4);
   same_by_records("no leaves", NULL, 0, NULL, 0, 6, 0, 7);
   same_by_records("a bad leaf record", bad, 2, NULL, 0, 6, -BIHARGESH_BAD_LEAF, 1);
   same_by_records("a skip leaf with 4096", good, 2, flagged, 1, 6, -BIHARGESH_BAD_LEAF, 0);
   same_by_records("five settings", good, 2, NULL, 0, 5, -BIHARGESH_BAD_LENGTH, 0);
-  same("the marks as lent", marks[1][0], 9);
+  same("the marks as lent", marks[1][0] == 9 && marks[4][0] == 9, 1);
+  same("255 keep marks", bihargesh_tx_grid_leaves(good, 2, NULL, 0, marks[0], 257, marks[1], 257, marks[2], 257, marks[3], 257, marks[4], 255,
+                                                  (int32_t[6]){16, 16, 0, 0, 8, 8}, 6, place, 1), -3);
+  same("the marks as lent", marks[0][0] == 9 && marks[4][254] == 9, 1);
 }
 
 static void grids(void) {
@@ -578,6 +733,7 @@ static void grids(void) {
   for (int k = 0; k < 16; k++) same("marks at 0 and 8", marks[0][k], k == 0 || k == 8);
   same("index 3", marks[2][255], 3);
   same("an entry beyond", marks[2][256], 9);
+  none_kept("keep marks of leaves");
   same("a whole leaf", run_tx(whole, 4, 8), 0);
   for (int k = 0; k < 16; k++) same("a mark at 0", marks[0][k], k == 0);
   same("index 4", marks[3][255], 4);
@@ -585,7 +741,10 @@ static void grids(void) {
   same("the second", (long long)place[0], 1);
   same("a cut list", run_tx(cut, 3, 8), -3);
   same("cap 3", run_tx(cut, 4, 3), -5);
-  same("the marks as lent", marks[1][0], 9);
+  same("the marks as lent", marks[1][0] == 9 && marks[4][0] == 9, 1);
+  same("255 keep marks", bihargesh_tx_grid(cut, 4, NULL, 0, marks[0], 257, marks[1], 257, marks[2], 257, marks[3], 257, marks[4], 255,
+                                           (int32_t[6]){16, 16, 0, 0, 8, 8}, 6, place, 1), -BIHARGESH_BAD_LENGTH);
+  same("the marks as lent", marks[0][0] == 9 && marks[4][254] == 9, 1);
 
   uint16_t blocks[4] = {10, 20, 30, 40};
   int32_t settings[5] = {32, 32, 0, 0, 2};
@@ -606,6 +765,7 @@ static void grids(void) {
 
 static uint16_t luma[192], u[128], v[128], blocks_of[12], chroma_blocks_of[8];
 static uint8_t luma_grid[4][12], chroma_grid[4][8];
+static const uint8_t all_open[12];
 
 static int32_t run_frame(const int32_t *settings, size_t settings_len) {
   static const uint16_t leaves[8] = {0, 0, 2, 2, 0, 2, 4, 2};
@@ -615,8 +775,8 @@ static int32_t run_frame(const int32_t *settings, size_t settings_len) {
   v[5] = 109;
   return bihargesh_frame(luma, LEN(luma), u, LEN(u), v, LEN(v), luma_grid[0], 12, luma_grid[1], 12, luma_grid[2], 12, luma_grid[3], 12, blocks_of,
                          LEN(blocks_of), chroma_grid[0], 8, chroma_grid[1], 8, chroma_grid[2], 8, chroma_grid[3], 8, chroma_blocks_of,
-                         LEN(chroma_blocks_of), table, LEN(table), blocks, 1, leaves, 8, leaves, 8, NULL, 0, NULL, 0, NULL, 0, settings, settings_len, place, 1, counts,
-                         2);
+                         LEN(chroma_blocks_of), table, LEN(table), blocks, 1, leaves, 8, leaves, 8, NULL, 0, NULL, 0, NULL, 0, all_open, 12, all_open, 8, settings,
+                         settings_len, place, 1, counts, 2);
 }
 
 static void frames(void) {
@@ -628,14 +788,14 @@ static void frames(void) {
   same("frame", run_frame(numbers, 15), 0);
   memcpy(of_frame, counts, sizeof counts);
   for (int k = 0; k < 192; k++) one[k] = k % 24 < 8 ? 100 : 108;
-  same("luma alone", bihargesh_plane(one, 192, luma_grid[0], 12, luma_grid[1], 12, luma_grid[2], 12, luma_grid[3], 12, blocks_of, 12, NULL, 0, table,
-                                     352, luma_numbers, 11, place, 1, counts, 2), 0);
+  same("luma alone", bihargesh_plane(one, 192, luma_grid[0], 12, luma_grid[1], 12, luma_grid[2], 12, luma_grid[3], 12, blocks_of, 12, NULL, 0,
+                                     all_open, 12, table, 352, luma_numbers, 11, place, 1, counts, 2), 0);
   for (int n = 0; n < 2; n++) of_planes[n] += counts[n];
   for (int which = 0; which < 2; which++) {
     for (int k = 0; k < 128; k++) other[k] = k % 16 < 4 ? 100 : 108;
     if (which == 1) other[5] = 109;
     same("u or v alone", bihargesh_plane(other, 128, chroma_grid[0], 8, chroma_grid[1], 8, chroma_grid[2], 8, chroma_grid[3], 8, chroma_blocks_of, 8,
-                                         NULL, 0, table, 352, chroma_numbers, 11, place, 1, counts, 2), 0);
+                                         NULL, 0, all_open, 8, table, 352, chroma_numbers, 11, place, 1, counts, 2), 0);
     for (int n = 0; n < 2; n++) of_planes[n] += counts[n];
   }
   same("a frame's counts are its planes'", memcmp(of_frame, of_planes, sizeof of_frame), 0);
@@ -668,7 +828,7 @@ static void frames(void) {
 enum { WIDE_CELLS = 16 * 4, WIDE_CHROMA_CELLS = 8 * 2 };
 
 static uint16_t wide[16 * WIDE_CELLS], wide_u[16 * WIDE_CHROMA_CELLS], wide_v[16 * WIDE_CHROMA_CELLS], wide_blocks[2][WIDE_CELLS];
-static uint8_t wide_grid[2][4][WIDE_CELLS];
+static uint8_t wide_grid[2][4][WIDE_CELLS], wide_keep[2][WIDE_CELLS];
 
 /* n rows of 100 before the middle and 108 from there on */
 static void halves(uint16_t *samples, int stride, int n) {
@@ -687,10 +847,10 @@ static int32_t run_wide(int32_t has_chroma, int32_t chroma_deblock, const uint16
   return bihargesh_frame(wide, LEN(wide), wide_u, LEN(wide_u), wide_v, LEN(wide_v), l[0], WIDE_CELLS, l[1], WIDE_CELLS, l[2], WIDE_CELLS, l[3], WIDE_CELLS,
                          wide_blocks[0], WIDE_CELLS, c[0], WIDE_CHROMA_CELLS, c[1], WIDE_CHROMA_CELLS, c[2], WIDE_CHROMA_CELLS, c[3], WIDE_CHROMA_CELLS,
                          wide_blocks[1], WIDE_CHROMA_CELLS, table, LEN(table), blocks, 1, leaves, 8, leaves, 8, NULL, 0, starts, count, chroma,
-                         chroma_count, settings, 15, place, 1, counts, 2);
+                         chroma_count, wide_keep[0], WIDE_CELLS, wide_keep[1], WIDE_CHROMA_CELLS, settings, 15, place, 1, counts, 2);
 }
 
-/* A plane of the frame is bihargesh_plane's with the same tile starts, and another than with none. */
+/* A plane of the frame is bihargesh_plane's with the same tile starts and keep marks, and another than with no tile starts. */
 static void wide_plane(const char *what, int kind, const uint16_t *got, int stride, int rows, const uint16_t *starts, size_t count) {
   const int32_t settings[11] = {stride / 4, rows / 4, stride, stride, rows, 16 >> kind, 16 >> kind, kind, 8, 0, 0};
   size_t cells = (size_t)(stride * rows / 16), samples = 16 * cells;
@@ -699,7 +859,7 @@ static void wide_plane(const char *what, int kind, const uint16_t *got, int stri
   for (int tiled = 0; tiled < 2; tiled++) {
     halves(alone, stride, rows);
     same(what, bihargesh_plane(alone, samples, g[0], cells, g[1], cells, g[2], cells, g[3], cells, wide_blocks[kind], cells, starts, tiled ? count : 0,
-                               table, LEN(table), settings, 11, place, 1, counts, 2), 0);
+                               wide_keep[kind], cells, table, LEN(table), settings, 11, place, 1, counts, 2), 0);
     same(what, memcmp(alone, got, samples * sizeof *got) == 0, tiled);
   }
 }
@@ -727,6 +887,39 @@ static void tiled_frames(void) {
     same("chroma's tiles are not tested", run_wide(flag, 1 - flag, start, 1, bad, 1), 0);
     same("u as lent", wide_u[15] == 100 && wide_u[16] == 108, 1);
   }
+}
+
+/* ---- kept cells of that frame: the two before the middle in luma's second row, the one after it in chroma's first */
+
+static void kept_frames(void) {
+  const uint16_t start[1] = {8}, chroma_start[1] = {4};
+  uint8_t before[2][WIDE_CELLS], grids_before[2][4][WIDE_CELLS];
+  size_t open;
+  same("a frame with no cell kept", run_wide(1, 1, start, 1, chroma_start, 1), 0);
+  open = counts[0];
+  wide_keep[0][22] = wide_keep[0][23] = wide_keep[1][4] = 1;
+  memcpy(before, wide_keep, sizeof before);
+  same("a frame with kept cells", run_wide(1, 1, start, 1, chroma_start, 1), 0);
+  same("less is stored", counts[0] > 0 && counts[0] < open, 1);
+  same("the keep marks as lent", memcmp(wide_keep, before, sizeof before), 0);
+  same("luma's kept cells", wide[4 * 64 + 31] == 100 && wide[4 * 64 + 24] == 100 && wide[31] > 100 && wide[4 * 64 + 32] < 108, 1);
+  same("chroma's kept cell", wide_u[16] == 108 && wide_v[3 * 32 + 16] == 108 && wide_u[15] > 100 && wide_u[4 * 32 + 16] < 108, 1);
+  wide_plane("luma with kept cells", 0, wide, 64, 16, start, 1);
+  wide_plane("u with a kept cell", 1, wide_u, 32, 8, chroma_start, 1);
+  wide_plane("v with a kept cell", 1, wide_v, 32, 8, chroma_start, 1);
+  memset(wide_grid, 7, sizeof wide_grid);
+  memcpy(grids_before, wide_grid, sizeof wide_grid);
+  wide_keep[1][5] = 2;
+  same("chroma's keep mark 2", run_wide(1, 1, start, 1, chroma_start, 1), -BIHARGESH_BAD_CELL);
+  same("its cell", (long long)place[0], 5);
+  none("chroma's keep mark 2");
+  wide_keep[0][40] = 3;
+  same("luma's keep mark before it", run_wide(1, 1, start, 1, chroma_start, 1), -6);
+  same("its cell", (long long)place[0], 40);
+  same("the grids as lent", memcmp(wide_grid, grids_before, sizeof wide_grid), 0);
+  wide_keep[0][40] = 0;
+  for (int flag = 0; flag < 2; flag++) same("chroma's keep marks are not tested", run_wide(flag, 1 - flag, start, 1, chroma_start, 1), 0);
+  memset(wide_keep, 0, sizeof wide_keep);
 }
 
 /* ---- offsets: document 01's c = 600 at depth 10 with b 2 and classes 2, 1 */
@@ -775,6 +968,7 @@ static void published_steps(void) {
 static void settings_counted(void) {
   same("a plane's settings", BIHARGESH_PLANE_SETTINGS, 11);
   same("a TU grid's settings", BIHARGESH_TX_GRID_SETTINGS, 6);
+  same("a kept rectangle's settings", BIHARGESH_KEEP_RECTANGLE_SETTINGS, 6);
   same("a qindex grid's settings", BIHARGESH_QINDEX_GRID_SETTINGS, 5);
   same("a frame's settings", BIHARGESH_FRAME_SETTINGS, 15);
   same("CCSO's settings", BIHARGESH_CCSO_SETTINGS, 16);
@@ -792,10 +986,13 @@ int main(void) {
   tile_starts();
   plain_engine();
   replays();
+  kept_cells();
+  rectangles();
   grids();
   leaf_records();
   frames();
   tiled_frames();
+  kept_frames();
   offsets();
   published_steps();
   settings_counted();

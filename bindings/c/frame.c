@@ -12,6 +12,7 @@ struct grid {
 
 static uint16_t y[SIZE * SIZE], u[CHROMA * CHROMA], v[CHROMA * CHROMA];
 static struct grid luma, chroma;
+static const uint8_t keep[CELLS], chroma_keep[CHROMA_CELLS]; /* zeros: no cell is kept */
 static uint32_t steps[352];
 
 /* A plane of n by n samples: 100 in its left half, 108 in its right. */
@@ -36,8 +37,8 @@ int main(void) {
   int32_t answer = bihargesh_frame(
       y, SIZE * SIZE, u, CHROMA * CHROMA, v, CHROMA * CHROMA, luma.vedge, CELLS, luma.hedge, CELLS, luma.sqw, CELLS, luma.sqh, CELLS,
       luma.qindex, CELLS, chroma.vedge, CHROMA_CELLS, chroma.hedge, CHROMA_CELLS, chroma.sqw, CHROMA_CELLS, chroma.sqh, CHROMA_CELLS,
-      chroma.qindex, CHROMA_CELLS, steps, 352, superblocks, 1, leaves, 4, leaves, 4, NULL, 0, NULL, 0, NULL, 0, settings, BIHARGESH_FRAME_SETTINGS,
-      &place, 1, counts, 2);
+      chroma.qindex, CHROMA_CELLS, steps, 352, superblocks, 1, leaves, 4, leaves, 4, NULL, 0, NULL, 0, NULL, 0, keep, CELLS, chroma_keep, CHROMA_CELLS,
+      settings, BIHARGESH_FRAME_SETTINGS, &place, 1, counts, 2);
   if (answer != 0) {
     printf("the frame: refused by %d at place %zu\n", -answer, place);
     return 1;

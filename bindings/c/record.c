@@ -12,7 +12,7 @@ enum { COLS = 12, ROWS = 8, CELLS = COLS * ROWS, WIDTH = 4 * COLS, HEIGHT = 4 * 
 
 static const char *folder;
 static uint16_t plane[SAMPLES];
-static uint8_t record[ROOM], bytes[ROOM];
+static uint8_t record[ROOM], bytes[ROOM], keep[CELLS]; /* no cell is kept */
 static size_t counts[2];
 
 /* A file of the folder as bytes; how many there are, or 0 where it can't be read or written. */
@@ -56,10 +56,10 @@ static int32_t record_plane(void) {
   const uint16_t leaves[12] = {0, 0, 4, 8, 0, 4, 4, 8, 0, 8, 4, 8}, superblocks[1] = {190};
   const int32_t tx[6] = {COLS, ROWS, 0, 0, 4, 2}, q[5] = {COLS, ROWS, 0, 0, 1};
   const int32_t settings[BIHARGESH_PLANE_SETTINGS] = {COLS, ROWS, WIDTH, WIDTH, HEIGHT, 16, 16, 0, 8, 0, 0};
-  if (bihargesh_tx_grid(leaves, 12, NULL, 0, vedge, CELLS, hedge, CELLS, sqw, CELLS, sqh, CELLS, tx, 6, NULL, 0) != 0) return -1;
+  if (bihargesh_tx_grid(leaves, 12, NULL, 0, vedge, CELLS, hedge, CELLS, sqw, CELLS, sqh, CELLS, keep, CELLS, tx, 6, NULL, 0) != 0) return -1;
   if (bihargesh_qindex_grid(superblocks, 1, qindex, CELLS, q, 5, NULL, 0) != 0 || bihargesh_steps(steps, 352) != 0) return -1;
-  return bihargesh_record_plane(plane, SAMPLES, record, ROOM, vedge, CELLS, hedge, CELLS, sqw, CELLS, sqh, CELLS, qindex, CELLS, NULL, 0, steps, 352,
-                                settings, BIHARGESH_PLANE_SETTINGS, NULL, 0, counts, 2);
+  return bihargesh_record_plane(plane, SAMPLES, record, ROOM, vedge, CELLS, hedge, CELLS, sqw, CELLS, sqh, CELLS, qindex, CELLS, NULL, 0, keep, CELLS,
+                                steps, 352, settings, BIHARGESH_PLANE_SETTINGS, NULL, 0, counts, 2);
 }
 
 /* The folder's files by a run here. */
@@ -78,7 +78,7 @@ static int check_files(void) {
   size_t again[2], length = file("record.edg", "rb", bytes, ROOM);
   if (!picture("before.pgm", 0, before) || !picture("after.pgm", 0, after) || length < 5) return printf("the folder's files are not whole\n"), 1;
   memcpy(plane, before, sizeof plane);
-  if (bihargesh_replay(plane, SAMPLES, bytes, length, settings, BIHARGESH_REPLAY_SETTINGS, NULL, 0, again, 2) != 0) return printf("the record was refused\n"), 1;
+  if (bihargesh_replay(plane, SAMPLES, bytes, length, keep, CELLS, settings, BIHARGESH_REPLAY_SETTINGS, NULL, 0, again, 2) != 0) return printf("the record was refused\n"), 1;
   if (memcmp(plane, after, sizeof plane) != 0) return printf("the record that is run again gives another plane\n"), 1;
   memcpy(plane, before, sizeof plane);
   if (record_plane() != (int32_t)length || memcmp(record, bytes, length) != 0) return printf("the plane's record is another\n"), 1;

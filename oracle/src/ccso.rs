@@ -231,9 +231,9 @@ fn answered(c: Case, choice: Option<Choice>) -> Made {
         .list(&c.offsets);
     if let Some(r) = refusal {
         line.unsigned(&[r.no, r.place]);
-        return Made { line, refusal, width: None, changed: false, counts: None, starts: None, steps: None };
+        return Made { line, refusal, ..Made::default() };
     }
     let target = choice.map_or_else(|| plain(&c), |choice| by_rust(&c, &choice));
     line.unsigned(&[0, 0]).entries(&target);
-    Made { line, refusal, width: None, changed: target != c.target, counts: None, starts: None, steps: None }
+    Made { line, refusal, changed: target != c.target, ..Made::default() }
 }

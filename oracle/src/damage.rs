@@ -74,6 +74,16 @@ pub fn starts(random: &Random, starts: &mut Vec<u16>, cols: u64) {
     }
 }
 
+/// Keep marks with a fault: some that are neither 0 nor 1 at places below `n`.
+pub fn keep(random: &Random, marks: &mut [u8], n: u64) {
+    for _ in 0..random.size(1, 3) {
+        let at = random.below(n.max(1)) as usize;
+        if at < marks.len() {
+            marks[at] = random.one_of(&[2, 3, 128, 255]);
+        }
+    }
+}
+
 /// Some samples above top, at places below `limit`.
 pub fn samples(random: &Random, plane: &mut [u16], limit: usize, top: u64) {
     for _ in 0..random.size(1, 3) {

@@ -5,13 +5,13 @@ use crate::random::Random;
 use crate::rust::ccso::{Choice, BORDER};
 use crate::rust::deblock::{self, Frame, Marks, Settings};
 use crate::rust::quant;
-use crate::tiles;
+use crate::{keep, tiles};
 use std::panic;
 
 /// What is said of the Rust, and whether it is so.
 type Said = (&'static str, fn() -> bool);
 
-const SAID: [Said; 18] = [
+const SAID: [Said; 20] = [
     ("read_line clamps an offset before the plane to its first sample", clamps_before),
     ("read_line clamps an offset past the plane to its last sample", clamps_after),
     ("f32 samples are cut to whole numbers when read", cuts),
@@ -28,6 +28,8 @@ const SAID: [Said; 18] = [
     ("deblock_plane passes false for vertical edges: a superblock's first column is filtered as 8,8 where the turned plane's first row is as 6,8", never_shortens),
     ("the oracle's reading of tile starts is deblock_plane where there are none, on 1000 planes", reads_bare),
     ("the oracle's reading of tile starts is deblock_plane on the turned plane where every k-th column starts a tile, on 1000 planes", reads_turned),
+    ("the oracle's reading of kept cells is deblock_plane where none is kept, on 1000 planes", reads_open),
+    ("the oracle's reading of kept cells is deblock_plane asked for one edge after the other, what it stores in kept cells taken back, on the planes of at most 40 cells of 1000", reads_by_edges),
     ("with superblocks one cell wide deblock_plane leaves other samples than the plain order, on a plane of 4x2 cells", one_cell_wide),
     ("with superblocks of 8 or 16 cells it leaves the plain order's, which is its own with one superblock across, on 1000 planes", plain_order),
 ];
@@ -148,6 +150,7 @@ fn never_shortens() -> bool {
         marks: Marks { vertical: vec![0, 0, 0, 0, 0, 0, 0, 0, 1], horizontal: vec![0; 9], width: vec![1; 9], height: vec![1; 9] },
         qindex: vec![200; 9],
         starts: Vec::new(),
+        keep: vec![0; 9],
         plane: (0..144).map(|i| if i % 36 < 32 { 100 } else { 108 }).collect(),
         steps: quant::steps(),
     };
@@ -173,6 +176,23 @@ fn reads_turned() -> bool {
     };
     let telling = tiled_planes().map(every).filter(|c| tiles::matter(c, &tiles::read(c)) == Some(true)).count();
     telling > 100 && tiled_planes().map(every).all(|c| tiles::holds_turned(&c) != Some(false))
+}
+
+/// A thousand accepted planes with kept cells.
+fn kept_planes() -> impl Iterator<Item = Case> {
+    let random = Random::new(7);
+    (0..1000).map(move |_| plane::with_keep(&random))
+}
+
+fn reads_open() -> bool {
+    kept_planes().all(|c| tiles::holds_bare(&c))
+}
+
+/// Some hundred of these planes would end otherwise without their kept cells, and samples in these end as they were lent.
+fn reads_by_edges() -> bool {
+    let (planes, stays) = (|| kept_planes().filter(|c| keep::holds(c).is_some()), |c: &Case| keep::of(c).into_iter().zip(tiles::read(c)).zip(&c.plane).all(|((kept, new), &lent)| !kept || new == lent));
+    let telling = planes().filter(|c| keep::matter(c, &tiles::read(c)) == Some(true)).count();
+    telling > 100 && planes().all(|c| keep::holds(&c) == Some(true)) && kept_planes().all(|c| stays(&c))
 }
 
 /// A vertical edge in column 2 and a horizontal one in column 0, which superblocks one cell wide do first: x = 5 and x = 10 of rows 0 to 3 tell. Two cells are wide enough.

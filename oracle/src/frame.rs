@@ -7,7 +7,7 @@ use crate::random::Random;
 use crate::refusals::{self, Layout};
 use crate::rust::deblock::{self, Counts, Frame, Marks};
 use crate::thresholds::{delta, DEPTHS};
-use crate::{damage, made::Made, picture, rust, tiles};
+use crate::{damage, keep, made::Made, picture, rust, tiles};
 
 /// A plane kind's five lists.
 pub struct Grid {
@@ -31,6 +31,8 @@ pub struct Case {
     pub planes: [Vec<u16>; 3],
     /// The columns in which a tile starts, of luma and of chroma.
     pub starts: [Vec<u16>; 2],
+    /// Keep marks, of luma and of chroma.
+    pub keep: [Vec<u8>; 2],
     pub luma_grid: Grid,
     pub chroma_grid: Grid,
     pub steps: Vec<u32>,
@@ -87,6 +89,7 @@ impl Case {
             marks: built.marks,
             qindex: built.qindex,
             starts: self.starts[chroma as usize].clone(),
+            keep: self.keep[chroma as usize].clone(),
             plane: self.planes[k].clone(),
             steps: self.steps.clone(),
         }
@@ -106,6 +109,7 @@ impl Case {
             horizontal: &grid.marks.horizontal,
             width: &grid.marks.width,
             height: &grid.marks.height,
+            keep: &self.keep[chroma as usize],
         }
     }
 }
@@ -163,6 +167,7 @@ fn good_of(random: &Random, size: (u64, u64)) -> Case {
         skips: Vec::new(),
         planes: [Vec::new(), Vec::new(), Vec::new()],
         starts: [Vec::new(), Vec::new()],
+        keep: [Vec::new(), Vec::new()],
         luma_grid: empty_grid(),
         chroma_grid: empty_grid(),
         steps: rust::quant::steps(),
@@ -170,6 +175,7 @@ fn good_of(random: &Random, size: (u64, u64)) -> Case {
     fill_luma(random, &mut c);
     fill_chroma(random, &mut c);
     c.starts = [plane::starts(random, c.luma_cells().0), plane::starts(random, c.chroma_cells().0)];
+    c.keep = [keep::marks(random, c.luma_cells()), keep::marks(random, c.chroma_cells())];
     spoil_unused(random, &mut c);
     match random.below(12) {
         0 => light(random, &mut c, |random, stride, n, depth| picture::still(random, stride, n, depth, 0)),
@@ -179,11 +185,12 @@ fn good_of(random: &Random, size: (u64, u64)) -> Case {
     c
 }
 
-/// A frame that leaves chroma alone takes any list of its tile starts.
+/// A frame that leaves chroma alone takes any list of its tile starts and of its keep marks.
 fn spoil_unused(random: &Random, c: &mut Case) {
     if !c.uses_chroma() && random.once_in(2) {
-        let cols = c.chroma_cells().0;
-        damage::starts(random, &mut c.starts[1], cols);
+        let cells = c.chroma_cells();
+        damage::starts(random, &mut c.starts[1], cells.0);
+        plane::spoil_keep(random, &mut c.keep[1], cells);
     }
 }
 
@@ -289,7 +296,7 @@ fn damaged(random: &Random, c: &mut Case) {
 
 fn damaged_settings(random: &Random, c: &mut Case) {
     let cols = [c.luma_cells().0, c.chroma_cells().0];
-    match random.below(14) {
+    match random.below(16) {
         0 => c.depth = damage::depth(random),
         1 => c.size.0 = damage::count(random, 4096),
         2 => c.size.1 = damage::count(random, 4096),
@@ -303,7 +310,17 @@ fn damaged_settings(random: &Random, c: &mut Case) {
         10 => c.chroma_cap.0 = damage::cap(random),
         11 => damage::starts(random, &mut c.starts[0], cols[0]),
         12 => damage::starts(random, &mut c.starts[1], cols[1]),
+        13 | 14 => spoil_keep(random, c),
         _ => c.chroma_cap.1 = damage::cap(random),
+    }
+}
+
+/// A fault in the keep marks of luma or of chroma, whatever else is wrong.
+fn spoil_keep(random: &Random, c: &mut Case) {
+    let which = random.below(2) as usize;
+    let n = c.keep[which].len() as u64;
+    if n > 0 {
+        plane::spoil_keep(random, &mut c.keep[which], (n, 1));
     }
 }
 
@@ -343,6 +360,26 @@ pub fn make_bins(random: &Random, refused: bool, _: Option<&[u32]>) -> Made {
     let mut c = good(random);
     redraw(random, &mut c, picture::bin);
     finished(random, refused, c)
+}
+
+/// Frames with kept cells of luma and chroma, half of them even blocks; what is refused has a bad mark among them, or too few, and nothing else.
+pub fn make_keep(random: &Random, refused: bool, _: Option<&[u32]>) -> Made {
+    let telling = random.once_in(2);
+    let mut c = if telling { good_of(random, (random.size(49, 150) as u64, length(random))) } else { good(random) };
+    if telling {
+        tell(random, &mut c);
+    }
+    let cells = [c.luma_cells(), c.chroma_cells()];
+    let kept = random.below(3) as usize;
+    for k in (0..2).filter(|&k| k != kept) {
+        c.keep[k] = keep::lengthened(random, keep::some(random, cells[k]));
+    }
+    spoil_unused(random, &mut c);
+    if refused {
+        let which = (c.uses_chroma() && random.once_in(2)) as usize;
+        plane::spoil_keep(random, &mut c.keep[which], cells[which]);
+    }
+    answered(c)
 }
 
 /// Frames with tile starts of luma and chroma; what is refused has a bad list of them, and nothing else.
@@ -396,19 +433,25 @@ struct Done {
     counts: Counts,
     /// Of a frame with tile starts: whether a plane would end otherwise without them.
     starts: Option<bool>,
+    /// Of a frame with kept cells: likewise.
+    keep: Option<bool>,
 }
 
-/// Each filtered plane by itself over the built grid, with its tile starts; without these it must be the Rust's plane of the frame.
+/// Whether something matters to one plane more.
+fn joined(so_far: Option<bool>, more: Option<bool>) -> Option<bool> {
+    more.map_or(so_far, |matters| Some(matters || so_far == Some(true)))
+}
+
+/// Each filtered plane by itself over the built grid, with its tile starts and keep marks; without these it must be the Rust's plane of the frame.
 fn watched(c: &Case) -> Done {
     let rust = filtered(c);
-    let mut done = Done { planes: c.planes.clone(), counts: Counts::default(), starts: None };
+    let mut done = Done { planes: c.planes.clone(), counts: Counts::default(), starts: None, keep: None };
     for k in 0..if c.uses_chroma() { 3 } else { 1 } {
         let alone = c.alone(k);
         let (plane, more) = plane::filtered(&alone);
-        assert!(tiles::read(&tiles::bare(&alone)) == rust[k], "a plane of a frame is another when it is run alone");
-        if let Some(matter) = tiles::matter(&alone, &plane) {
-            done.starts = Some(matter || done.starts == Some(true));
-        }
+        assert!(tiles::read(&tiles::bare(&keep::open(&alone))) == rust[k], "a plane of a frame is another when it is run alone");
+        done.starts = joined(done.starts, tiles::matter(&alone, &plane));
+        done.keep = joined(done.keep, keep::matter(&alone, &plane));
         done.planes[k] = plane;
         done.counts.add(more);
     }
@@ -446,7 +489,7 @@ fn answered(c: Case) -> Made {
     }
     write_grid(&mut line, &c.luma_grid);
     write_grid(&mut line, &c.chroma_grid);
-    line.list(&c.starts[0]).list(&c.starts[1]);
+    line.list(&c.starts[0]).list(&c.starts[1]).list(&c.keep[0]).list(&c.keep[1]);
     let done = refusal.is_none().then(|| watched(&c));
     let counts = done.as_ref().map(|d| d.counts);
     let (no, place) = refusal.map_or((0, 0), |r| (r.no, r.place));
@@ -459,6 +502,7 @@ fn answered(c: Case) -> Made {
         write_built(&mut line, &c, false);
         write_built(&mut line, &c, true);
     }
-    let starts = done.map_or(c.starts.iter().any(|list| !list.is_empty()).then_some(false), |d| d.starts);
-    Made { line, refusal, width: None, changed, counts, starts, steps: Some(c.steps) }
+    let lent = (c.starts.iter().any(|list| !list.is_empty()), c.keep.iter().any(|list| keep::any(list, list.len() as u64)));
+    let (starts, keep) = done.map_or((lent.0.then_some(false), lent.1.then_some(false)), |d| (d.starts, d.keep));
+    Made { line, refusal, changed, counts, starts, keep, steps: Some(c.steps), ..Made::default() }
 }

@@ -1,10 +1,10 @@
-//! The two grids alone: kind 1 is the TU grid, kind 2 the qindex grid, each answered by the Rust's own.
+//! The two grids alone: kind 1 is the TU grid, kind 2 the qindex grid, each answered by the Rust's own; kind 3 is keep marks over a rectangle, by a plain reading of ticket 7.
 
 use crate::line::Line;
 use crate::plane::{cells, tuples};
 use crate::random::Random;
 use crate::rust::deblock::{self, Marks};
-use crate::{damage, picture, refusals, made::Made};
+use crate::{damage, keep, picture, refusals, made::Made};
 
 pub struct TxCase {
     pub cells: (u64, u64),
@@ -13,6 +13,8 @@ pub struct TxCase {
     pub leaves: Vec<u32>,
     pub skips: Vec<u32>,
     pub marks: Marks,
+    /// Cleared whatever it holds (ticket 7).
+    pub keep: Vec<u8>,
 }
 
 pub struct QindexCase {
@@ -21,6 +23,16 @@ pub struct QindexCase {
     pub sb_cols: u64,
     pub entries: Vec<u16>,
     pub qindex: Vec<u16>,
+}
+
+/// A rectangle of cells and the keep marks that it is set in.
+pub struct KeepCase {
+    pub cells: (u64, u64),
+    pub row: u64,
+    pub column: u64,
+    /// Its rows and columns.
+    pub size: (u64, u64),
+    pub keep: Vec<u8>,
 }
 
 pub const SUBSAMPLINGS: [(u64, u64); 3] = [(0, 0), (1, 0), (1, 1)];
@@ -35,11 +47,12 @@ pub fn cap(random: &Random) -> u64 {
 
 /// Contents before a grid is built: anything, and sometimes more than is needed.
 pub fn contents(random: &Random, n: usize) -> Marks {
-    let list = |random: &Random| {
-        let spare = picture::spare(random);
-        random.list(n + spare, 256).iter().map(|&m| m as u8).collect::<Vec<u8>>()
-    };
-    Marks { vertical: list(random), horizontal: list(random), width: list(random), height: list(random) }
+    Marks { vertical: anything(random, n), horizontal: anything(random, n), width: anything(random, n), height: anything(random, n) }
+}
+
+fn anything(random: &Random, n: usize) -> Vec<u8> {
+    let spare = picture::spare(random);
+    random.list(n + spare, 256).iter().map(|&m| m as u8).collect()
 }
 
 /// What was built, followed by what was lent beyond it.
@@ -91,6 +104,7 @@ fn good(random: &Random) -> TxCase {
         leaves: Vec::new(),
         skips: Vec::new(),
         marks: contents(random, (cells.0 * cells.1) as usize),
+        keep: anything(random, (cells.0 * cells.1) as usize),
     };
     c.leaves = leaves(random, &c);
     c.skips = skips(random, &c);
@@ -120,7 +134,7 @@ pub fn whole_skip(random: &Random) -> [u32; 4] {
 fn damaged(random: &Random, c: &mut TxCase) {
     let n = c.cells.0 * c.cells.1;
     for _ in 0..random.one_of(&[1, 1, 2, 3]) {
-        match random.below(14) {
+        match random.below(15) {
             0 => c.cells.0 = damage::count(random, 1024),
             1 => c.cells.1 = damage::count(random, 1024),
             2 => c.sub = damage::subsampling(random),
@@ -140,6 +154,7 @@ fn damaged(random: &Random, c: &mut TxCase) {
                 let leaf = picture::bad_leaf(random);
                 spoil_leaves(random, &mut c.skips, leaf);
             }
+            13 => damage::shorten(random, &mut c.keep, n),
             _ => {
                 let leaf = whole_skip(random);
                 spoil_leaves(random, &mut c.skips, leaf);
@@ -157,10 +172,11 @@ fn tx_answered(c: TxCase) -> Made {
         .list(&c.marks.vertical)
         .list(&c.marks.horizontal)
         .list(&c.marks.width)
-        .list(&c.marks.height);
+        .list(&c.marks.height)
+        .list(&c.keep);
     if let Some(r) = refusal {
         line.unsigned(&[r.no, r.place]);
-        return Made { line, refusal, width: None, changed: false, counts: None, starts: None, steps: None };
+        return Made { line, refusal, ..Made::default() };
     }
     let built = deblock::tx_grid(&tuples(&c.leaves), &tuples(&c.skips), size(c.cells), size(c.sub), size(c.cap));
     let marks = marks_over(&built, &c.marks);
@@ -168,8 +184,9 @@ fn tx_answered(c: TxCase) -> Made {
         .entries(&marks.vertical)
         .entries(&marks.horizontal)
         .entries(&marks.width)
-        .entries(&marks.height);
-    Made { line, refusal, width: None, changed: marks.vertical != c.marks.vertical, counts: None, starts: None, steps: None }
+        .entries(&marks.height)
+        .entries(&over(&vec![0; (c.cells.0 * c.cells.1) as usize], &c.keep));
+    Made { line, refusal, changed: marks.vertical != c.marks.vertical, ..Made::default() }
 }
 
 fn good_qindex(random: &Random) -> QindexCase {
@@ -205,12 +222,75 @@ fn qindex_answered(c: QindexCase) -> Made {
     line.unsigned(&[c.cells.0, c.cells.1, c.sub.0, c.sub.1, c.sb_cols]).list(&c.entries).list(&c.qindex);
     if let Some(r) = refusal {
         line.unsigned(&[r.no, r.place]);
-        return Made { line, refusal, width: None, changed: false, counts: None, starts: None, steps: None };
+        return Made { line, refusal, ..Made::default() };
     }
     let built = deblock::qindex_grid(&c.entries, c.sb_cols as usize, size(c.cells), size(c.sub));
     let qindex = qindex_over(&built, &c.qindex);
     line.unsigned(&[0, 0]).entries(&qindex);
-    Made { line, refusal, width: None, changed: qindex != c.qindex, counts: None, starts: None, steps: None }
+    Made { line, refusal, changed: qindex != c.qindex, ..Made::default() }
+}
+
+/// Where a rectangle begins in so many rows or columns, and how many it has: empty, inside, up to the border, past it, beyond, and as far as numbers go.
+fn part(random: &Random, n: u64) -> (u64, u64) {
+    let far = random.one_of(&[1024, 1025, i32::MAX as u64, u32::MAX as u64]);
+    let at = match random.below(8) {
+        0 => n + random.below(3),
+        1 => far,
+        _ => random.below(n),
+    };
+    let count = match random.below(8) {
+        0 => 0,
+        1 => far,
+        2 => n.saturating_sub(at),
+        3 => n.saturating_sub(at) + 1,
+        _ => random.below(n) + 1,
+    };
+    (at, count)
+}
+
+fn good_keep(random: &Random) -> KeepCase {
+    let cells = if random.once_in(1500) { random.one_of(&[(1024, 1), (1, 1024)]) } else { cells(random) };
+    let ((row, rows), (column, columns)) = (part(random, cells.1), part(random, cells.0));
+    KeepCase { cells, row, column, size: (rows, columns), keep: keep::marks(random, cells) }
+}
+
+fn damaged_keep(random: &Random, c: &mut KeepCase) {
+    let n = c.cells.0 * c.cells.1;
+    for _ in 0..random.one_of(&[1, 1, 2, 3]) {
+        match random.below(7) {
+            0 => c.cells.0 = damage::count(random, 1024),
+            1 => c.cells.1 = damage::count(random, 1024),
+            2 => damage::shorten(random, &mut c.keep, n),
+            _ => damage::keep(random, &mut c.keep, n),
+        }
+    }
+}
+
+/// Ticket 7's rectangle: every cell of the plane that lies in it is kept, and the others stay.
+pub fn rectangle(c: &KeepCase) -> Vec<u8> {
+    let within = |at: u64, first: u64, count: u64| first <= at && at - first < count;
+    let inside = |cell: u64| within(cell / c.cells.0, c.row, c.size.0) && within(cell % c.cells.0, c.column, c.size.1);
+    let mut marks = c.keep.clone();
+    (0..c.cells.0 * c.cells.1).filter(|&cell| inside(cell)).for_each(|cell| marks[cell as usize] = 1);
+    marks
+}
+
+/// Keep marks over a rectangle.
+pub fn make_keep(random: &Random, refused: bool, _: Option<&[u32]>) -> Made {
+    let mut c = good_keep(random);
+    if refused {
+        damaged_keep(random, &mut c);
+    }
+    let refusal = refusals::of_rectangle(&c);
+    let mut line = Line::new(3);
+    line.unsigned(&[c.cells.0, c.cells.1, c.row, c.column, c.size.0, c.size.1]).list(&c.keep);
+    if let Some(r) = refusal {
+        line.unsigned(&[r.no, r.place]);
+        return Made { line, refusal, ..Made::default() };
+    }
+    let marks = rectangle(&c);
+    line.unsigned(&[0, 0]).entries(&marks);
+    Made { line, refusal, changed: marks != c.keep, ..Made::default() }
 }
 
 /// A case of either grid; the TU grid's with whole leaves alone where that is asked for, as records are.

@@ -5,7 +5,8 @@ use crate::random::Random;
 use crate::refusals::Refusal;
 use crate::rust::deblock::Counts;
 
-/// A case with its answer.
+/// A case with its answer; what a part has nothing to say of is left at its default.
+#[derive(Default)]
 pub struct Made {
     pub line: Line,
     pub refusal: Option<Refusal>,
@@ -16,6 +17,8 @@ pub struct Made {
     pub counts: Option<Counts>,
     /// Of a case with tile starts: whether its planes would end otherwise without them.
     pub starts: Option<bool>,
+    /// Of a case with a kept cell: whether its planes would end otherwise without.
+    pub keep: Option<bool>,
     /// The step table that the case is asked with, where its part has one.
     pub steps: Option<Vec<u32>>,
 }

@@ -5,6 +5,7 @@ mod damage;
 mod differences;
 mod frame;
 mod grid;
+mod keep;
 mod line;
 mod made;
 mod picture;
@@ -29,7 +30,7 @@ use std::io::{self, BufWriter, Write};
 use std::process::exit;
 use summary::Summary;
 
-const USAGE: &str = "oracle thresholds|segment|segment-limits|segment-window|plane|plane-bins|plane-dark|plane-tiles|plane-room|plane-record|plane-replay|grid|frame|frame-bins|frame-tiles|ccso N SEED [--only accepted|refused], or: oracle differences";
+const USAGE: &str = "oracle thresholds|segment|segment-limits|segment-window|plane|plane-bins|plane-dark|plane-tiles|plane-room|plane-keep|plane-record|plane-replay|grid|grid-keep|frame|frame-bins|frame-tiles|frame-keep|ccso N SEED [--only accepted|refused], or: oracle differences";
 
 fn part(name: &str) -> Option<Make> {
     match name {
@@ -42,12 +43,15 @@ fn part(name: &str) -> Option<Make> {
         "plane-dark" => Some(plane::make_dark),
         "plane-tiles" => Some(plane::make_tiles),
         "plane-room" => Some(plane::make_room_at_one),
+        "plane-keep" => Some(plane::make_keep),
         "plane-record" => Some(record::make),
         "plane-replay" => Some(replay::make),
         "grid" => Some(grid::make),
+        "grid-keep" => Some(grid::make_keep),
         "frame" => Some(frame::make),
         "frame-bins" => Some(frame::make_bins),
         "frame-tiles" => Some(frame::make_tiles),
+        "frame-keep" => Some(frame::make_keep),
         "ccso" => Some(ccso::make),
         _ => None,
     }

@@ -139,7 +139,7 @@ pub fn even(random: &Random, stride: usize, n: usize, depth: u64, block: usize) 
     let top = refusals::top(depth) as i64;
     let across = stride.div_ceil(block);
     let (middle, step) = (random.within(40, top - 40), random.one_of(&[1, 1, 3, 1 << (depth - 8)]));
-    let levels: Vec<i64> = (0..across * n.div_ceil(stride).div_ceil(block)).map(|_| middle + step * random.within(-3, 3)).collect();
+    let levels: Vec<i64> = (0..across * n.div_ceil(stride).div_ceil(block)).map(|_| (middle + step * random.within(-3, 3)).clamp(0, top)).collect();
     (0..n).map(|i| levels[i / stride / block * across + i % stride / block] as u16).collect()
 }
 

@@ -5,7 +5,7 @@ use crate::random::Random;
 use crate::refusals::{self, Layout, Refusal};
 use crate::rust::deblock::{self, Counts, Leaf, Marks, Settings};
 use crate::thresholds::{delta, DEPTHS};
-use crate::{damage, made::Made, picture, record, replay, rust, tiles};
+use crate::{damage, keep, made::Made, picture, record, replay, rust, tiles};
 
 #[derive(Clone)]
 pub struct Case {
@@ -21,6 +21,8 @@ pub struct Case {
     pub qindex: Vec<u16>,
     /// The columns in which a tile starts.
     pub starts: Vec<u16>,
+    /// A mark of 1 for each kept cell.
+    pub keep: Vec<u8>,
     pub plane: Vec<u16>,
     pub steps: Vec<u32>,
 }
@@ -37,6 +39,7 @@ impl Case {
             horizontal: &self.marks.horizontal,
             width: &self.marks.width,
             height: &self.marks.height,
+            keep: &self.keep,
         }
     }
 
@@ -152,6 +155,7 @@ fn good_of(random: &Random, cells: (u64, u64)) -> Case {
         marks,
         qindex: picture::qindices(random, n + spare),
         starts: starts(random, cells.0),
+        keep: keep::marks(random, cells),
         plane: picture::samples(random, stride as usize, 4 * cells.1 as usize, depth, spare),
         steps: rust::quant::steps(),
     };
@@ -226,7 +230,7 @@ fn wild_padding(random: &Random, c: &mut Case) {
 fn damaged(random: &Random, c: &mut Case) {
     let n = c.cells.0 * c.cells.1;
     for _ in 0..random.one_of(&[1, 1, 2, 3]) {
-        match random.below(26) {
+        match random.below(30) {
             0 => c.depth = damage::depth(random),
             1 => c.cells.0 = damage::count(random, 1024),
             2 => c.cells.1 = damage::count(random, 1024),
@@ -246,6 +250,8 @@ fn damaged(random: &Random, c: &mut Case) {
             16 => c.delta_side = damage::delta(random),
             17 | 18 | 19 => bad_cells(random, &mut c.marks, n),
             24 | 25 => damage::starts(random, &mut c.starts, c.cells.0),
+            26 | 27 => damage::keep(random, &mut c.keep, n),
+            28 => damage::shorten(random, &mut c.keep, n),
             _ => {
                 let limit = c.plane.len();
                 damage::samples(random, &mut c.plane, limit, refusals::top(c.depth.min(12)));
@@ -328,6 +334,35 @@ pub fn with_tiles(random: &Random) -> Case {
     c
 }
 
+/// Planes with kept cells, half of them even blocks whose edges store as far as they can; what is refused has a bad mark among them, or too few, and nothing else.
+pub fn make_keep(random: &Random, refused: bool, _: Option<&[u32]>) -> Made {
+    let mut c = with_keep(random);
+    if refused {
+        spoil_keep(random, &mut c.keep, c.cells);
+    }
+    answered(c)
+}
+
+/// A fault in a list of keep marks.
+pub fn spoil_keep(random: &Random, marks: &mut Vec<u8>, cells: (u64, u64)) {
+    let n = cells.0 * cells.1;
+    if random.once_in(3) { damage::shorten(random, marks, n) } else { damage::keep(random, marks, n) }
+}
+
+/// A plane with kept cells, to be accepted.
+pub fn with_keep(random: &Random) -> Case {
+    let telling = random.once_in(2);
+    let cells = if telling { (random.size(5, 20) as u64, random.size(1, 6) as u64) } else { cells(random) };
+    let mut c = good_of(random, cells);
+    if telling {
+        tell(random, &mut c);
+    }
+    make_room(&mut c);
+    let marks = if random.once_in(3) { keep::near(random, &c) } else { keep::some(random, cells) };
+    c.keep = keep::lengthened(random, marks);
+    c
+}
+
 /// Chroma planes whose column 1 starts a tile and has a marked edge between blocks of index 2 to 6: its pair 6,10 reaches 3 before the edge. What is
 /// refused is the same without that start: there the pair is 10,10 and reaches 5, where only 4 samples are.
 pub fn make_room_at_one(random: &Random, refused: bool, _: Option<&[u32]>) -> Made {
@@ -373,32 +408,36 @@ pub fn asked(c: &Case, kind: u64) -> Line {
         .list(&c.marks.height)
         .list(&c.qindex)
         .list(&c.starts)
+        .list(&c.keep)
         .list(&c.plane);
     line
 }
 
-/// The Rust's plane, with tile starts by the reading that is held to it; and its stores: those of its segments in document 01's order, which must leave the same plane.
+/// The Rust's plane, with tile starts or kept cells by the readings that are held to it; and its stores: those of its segments in document 01's order, which must leave the same plane.
 /// The plain order, which is the Rust's with one superblock across, must leave and store the same.
 pub fn filtered(c: &Case) -> (Vec<u16>, Counts) {
     assert!(tiles::holds_bare(c) && tiles::holds_turned(c) != Some(false), "the reading of tile starts is not the Rust's");
+    assert!(keep::holds(c) != Some(false), "the reading of kept cells is not the Rust's");
     let plane = tiles::read(c);
-    let (seen, counts) = replay::run(record::entries(c), c.stride, c.depth, &c.plane);
+    let run = |c: &Case| replay::run(record::entries(c), c.stride, c.depth, &c.plane, keep::of(c));
+    let (seen, counts) = run(c);
     assert!(seen == plane, "the segments that were watched left another plane");
     let plain = tiles::plain(c);
     assert!(tiles::holds_bare(&plain) && tiles::read(&plain) == plane, "the plain order leaves another plane");
-    assert!(replay::run(record::entries(&plain), c.stride, c.depth, &c.plane) == (seen, counts), "the plain order has other counts");
+    assert!(run(&plain) == (seen, counts), "the plain order has other counts");
     (plane, counts)
 }
 
 /// A refused plane.
 pub fn refused(line: Line, refusal: Option<Refusal>, c: Case) -> Made {
-    Made { line, refusal, width: None, changed: false, counts: None, starts: c.starts.first().map(|_| false), steps: Some(c.steps) }
+    let keep = keep::any(&c.keep, c.cells.0.saturating_mul(c.cells.1)).then_some(false);
+    Made { line, refusal, starts: c.starts.first().map(|_| false), keep, steps: Some(c.steps), ..Made::default() }
 }
 
 /// An accepted plane and what was stored.
 pub fn accepted(line: Line, plane: Vec<u16>, counts: Counts, c: Case) -> Made {
-    let starts = tiles::matter(&c, &plane);
-    Made { line, refusal: None, width: None, changed: plane != c.plane, counts: Some(counts), starts, steps: Some(c.steps) }
+    let (starts, keep) = (tiles::matter(&c, &plane), keep::matter(&c, &plane));
+    Made { line, changed: plane != c.plane, counts: Some(counts), starts, keep, steps: Some(c.steps), ..Made::default() }
 }
 
 fn answered(c: Case) -> Made {

@@ -157,6 +157,7 @@ pub struct Layout<'a> {
     pub horizontal: &'a [u8],
     pub width: &'a [u8],
     pub height: &'a [u8],
+    pub keep: &'a [u8],
 }
 
 impl Layout<'_> {
@@ -192,9 +193,9 @@ impl Layout<'_> {
         Some(Edge { x, y, direction, lengths: lengths(m, self.chroma, self.shortened(direction, row, column)) })
     }
 
-    /// 6: the first cell with a bad mark or index.
+    /// 6: the first cell with a bad mark or index; from ticket 7 on a keep mark may be bad too.
     fn bad_cell(&self) -> Option<u64> {
-        let bad = |i: &usize| self.vertical[*i] > 1 || self.horizontal[*i] > 1 || self.width[*i] > 6 || self.height[*i] > 6;
+        let bad = |i: &usize| self.vertical[*i] > 1 || self.horizontal[*i] > 1 || self.width[*i] > 6 || self.height[*i] > 6 || self.keep[*i] > 1;
         (0..(self.cells.0 * self.cells.1) as usize).find(bad).map(|i| i as u64)
     }
 
@@ -220,11 +221,17 @@ fn bad_stride(stride: u64, mi_cols: u64) -> bool {
     outside(stride, 4 * mi_cols, 8192)
 }
 
+/// 6 of keep marks alone: the first that is neither 0 nor 1.
+pub fn bad_keep(keep: &[u8], cells: (u64, u64)) -> Option<Refusal> {
+    let marks = &keep[..(cells.0 * cells.1) as usize];
+    refuse_at(6, marks.iter().position(|&mark| mark > 1).map(|cell| cell as u64))
+}
+
 /// 1, 2 and 3 of a plane on which a record is run.
-pub fn replay_plane(cells: (u64, u64), stride: u64, bits: u64, plane: &[u16]) -> Option<Refusal> {
+pub fn replay_plane(cells: (u64, u64), stride: u64, bits: u64, keep: &[u8], plane: &[u16]) -> Option<Refusal> {
     depth(bits)
         .or_else(|| refuse(2, bad_cells(cells) || bad_stride(stride, cells.0)))
-        .or_else(|| refuse(3, short(plane, stride * 4 * cells.1)))
+        .or_else(|| refuse(3, short(plane, stride * 4 * cells.1) || short(keep, cells.0 * cells.1)))
 }
 
 pub fn of_plane(c: &plane::Case) -> Option<Refusal> {
@@ -240,6 +247,7 @@ pub fn of_plane(c: &plane::Case) -> Option<Refusal> {
     let lists = || {
         [&c.marks.vertical, &c.marks.horizontal, &c.marks.width, &c.marks.height].iter().any(|l| short(l, n()))
             || short(&c.qindex, n())
+            || short(&c.keep, n())
             || short(&c.plane, c.stride * 4 * c.cells.1)
     };
     depth(c.depth)
@@ -273,7 +281,7 @@ fn bad_leaf(leaves: &[u32], skip: bool) -> Option<Refusal> {
 
 pub fn of_tx_grid(c: &grid::TxCase) -> Option<Refusal> {
     let n = || c.cells.0 * c.cells.1;
-    let lists = || [&c.marks.vertical, &c.marks.horizontal, &c.marks.width, &c.marks.height].iter().any(|l| short(l, n()));
+    let lists = || [&c.marks.vertical, &c.marks.horizontal, &c.marks.width, &c.marks.height, &c.keep].iter().any(|l| short(l, n()));
     refuse(2, bad_cells(c.cells) || bad_subsampling(c.sub))
         .or_else(|| refuse(3, lists() || ragged(&c.leaves) || ragged(&c.skips)))
         .or_else(|| refuse(5, bad_cap(c.cap)))
@@ -286,10 +294,16 @@ pub fn of_qindex_grid(c: &grid::QindexCase) -> Option<Refusal> {
         .or_else(|| refuse(3, c.entries.is_empty() || short(&c.qindex, c.cells.0 * c.cells.1)))
 }
 
-/// A frame's lists that one plane kind needs: its planes and its five grids.
-fn frame_lists(planes: &[&Vec<u16>], g: &frame::Grid, cells: (u64, u64), stride: u64) -> bool {
+/// The checks of keep marks over a rectangle: 2, 3, 6.
+pub fn of_rectangle(c: &grid::KeepCase) -> Option<Refusal> {
+    refuse(2, bad_cells(c.cells)).or_else(|| refuse(3, short(&c.keep, c.cells.0 * c.cells.1))).or_else(|| bad_keep(&c.keep, c.cells))
+}
+
+/// A frame's lists that one plane kind needs: its planes, its five grids and its keep marks.
+fn frame_lists(planes: &[&Vec<u16>], g: &frame::Grid, keep: &[u8], cells: (u64, u64), stride: u64) -> bool {
     let n = cells.0 * cells.1;
     planes.iter().any(|p| short(p, stride * 4 * cells.1))
+        || short(keep, n)
         || [&g.marks.vertical, &g.marks.horizontal, &g.marks.width, &g.marks.height].iter().any(|l| short(l, n))
         || short(&g.qindex, n)
 }
@@ -306,8 +320,8 @@ pub fn of_frame(c: &frame::Case) -> Option<Refusal> {
     let lists = || {
         short(&c.entries, c.size.0.div_ceil(64) * c.size.1.div_ceil(64))
             || [&c.leaves, &c.chroma_leaves, &c.skips].iter().any(|l| ragged(l))
-            || frame_lists(&[&c.planes[0]], &c.luma_grid, c.luma_cells(), c.strides.0)
-            || (chroma && frame_lists(&[&c.planes[1], &c.planes[2]], &c.chroma_grid, c.chroma_cells(), c.strides.1))
+            || frame_lists(&[&c.planes[0]], &c.luma_grid, &c.keep[0], c.luma_cells(), c.strides.0)
+            || (chroma && frame_lists(&[&c.planes[1], &c.planes[2]], &c.chroma_grid, &c.keep[1], c.chroma_cells(), c.strides.1))
     };
     let settings = || {
         bad_delta(c.deltas.0)
@@ -325,6 +339,8 @@ pub fn of_frame(c: &frame::Case) -> Option<Refusal> {
         .or_else(|| bad_leaf(&c.leaves, false))
         .or_else(|| bad_leaf(&c.chroma_leaves, false))
         .or_else(|| bad_leaf(&c.skips, true))
+        .or_else(|| bad_keep(&c.keep[0], c.luma_cells()))
+        .or_else(|| if chroma { bad_keep(&c.keep[1], c.chroma_cells()) } else { None })
         .or_else(|| of_built_frame(c, chroma))
 }
 

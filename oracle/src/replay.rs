@@ -7,7 +7,7 @@ use crate::record::{record, Entry};
 use crate::refusals::{self, has_room, Edge, Refusal, PAIRS};
 use crate::rust::deblock::{Counts, Span, Watched};
 use crate::thresholds::DEPTHS;
-use crate::{damage, made::Made, picture};
+use crate::{damage, keep, made::Made, picture};
 
 impl Entry {
     fn read(bytes: &[u8]) -> Entry {
@@ -42,6 +42,7 @@ struct Case {
     stride: u64,
     depth: u64,
     bytes: Vec<u8>,
+    keep: Vec<u8>,
     plane: Vec<u16>,
 }
 
@@ -93,7 +94,7 @@ fn spoil(random: &Random, bytes: &mut Vec<u8>) {
 
 fn damaged(random: &Random, c: &mut Case) {
     for _ in 0..random.one_of(&[1, 1, 2]) {
-        match random.below(12) {
+        match random.below(14) {
             0 => c.depth = damage::depth(random),
             1 => c.cells.0 = damage::count(random, 1024),
             2 => c.cells.1 = damage::count(random, 1024),
@@ -102,6 +103,10 @@ fn damaged(random: &Random, c: &mut Case) {
             5 | 6 => {
                 let limit = c.plane.len();
                 damage::samples(random, &mut c.plane, limit, refusals::top(c.depth.min(12)));
+            }
+            7 | 8 => {
+                let cells = (c.cells.0.min(1024), c.cells.1.min(1024));
+                plane::spoil_keep(random, &mut c.keep, cells);
             }
             _ => spoil(random, &mut c.bytes),
         }
@@ -113,10 +118,11 @@ fn refusal_of(c: &Case) -> Option<Refusal> {
     let (no, at) = (|no: u64, bad: bool| bad.then_some(Refusal { no, place: 0 }), |no: u64, place: Option<u64>| place.map(|place| Refusal { no, place }));
     let list = || -> Vec<Entry> { c.bytes[5..].chunks_exact(10).map(Entry::read).collect() };
     let first = |bad: &dyn Fn(&Entry) -> bool| list().iter().position(bad).map(|k| k as u64);
-    refusals::replay_plane(c.cells, c.stride, c.depth, &c.plane)
+    refusals::replay_plane(c.cells, c.stride, c.depth, &c.keep, &c.plane)
         .or_else(|| no(11, c.bytes.len() < 5 || c.bytes[..5] != *b"EDG\x01\x00"))
         .or_else(|| at(12, ((c.bytes.len() - 5) % 10 != 0).then(|| (c.bytes.len() as u64 - 5) / 10)))
         .or_else(|| at(13, first(&|e| !e.good())))
+        .or_else(|| refusals::bad_keep(&c.keep, c.cells))
         .or_else(|| at(7, first(&|e| !has_room(&e.edge(), 4 * c.cells.0, 4 * c.cells.1))))
         .or_else(|| refusals::plane_sample(&c.plane, c.cells, c.stride, c.depth))
 }
@@ -131,6 +137,7 @@ pub fn make(random: &Random, refused: bool, _: Option<&[u32]>) -> Made {
         stride,
         depth,
         bytes: record(&edges(random, cells, refused && random.once_in(3))),
+        keep: keep::marks(random, cells),
         plane: picture::samples(random, stride as usize, 4 * cells.1 as usize, depth, spare),
     };
     match random.below(12) {
@@ -144,9 +151,9 @@ pub fn make(random: &Random, refused: bool, _: Option<&[u32]>) -> Made {
     replayed(c)
 }
 
-/// The segments of the published Rust, one after the other: the plane that they leave, and what they stored.
-pub fn run(edges: impl IntoIterator<Item = Entry>, stride: u64, depth: u64, plane: &[u16]) -> (Vec<u16>, Counts) {
-    let mut watched = Watched::new(plane);
+/// The segments of the published Rust, one after the other: the plane that they leave, and what they stored. Stores to kept samples are none.
+pub fn run(edges: impl IntoIterator<Item = Entry>, stride: u64, depth: u64, plane: &[u16], kept: Vec<bool>) -> (Vec<u16>, Counts) {
+    let mut watched = Watched::keeping(plane, kept);
     edges.into_iter().for_each(|e| watched.segment(&e.span(stride as usize), e.q as i64, e.side as i64, depth));
     watched.end()
 }
@@ -154,12 +161,15 @@ pub fn run(edges: impl IntoIterator<Item = Entry>, stride: u64, depth: u64, plan
 fn replayed(c: Case) -> Made {
     let refusal = refusal_of(&c);
     let mut line = Line::new(4);
-    line.unsigned(&[c.cells.0, c.cells.1, c.stride, c.depth]).list(&c.bytes).list(&c.plane);
+    line.unsigned(&[c.cells.0, c.cells.1, c.stride, c.depth]).list(&c.bytes).list(&c.keep).list(&c.plane);
     if let Some(r) = refusal {
         line.unsigned(&[r.no, r.place, 0, 0]);
-        return Made { line, refusal, width: None, changed: false, counts: None, starts: None, steps: None };
+        let keep = keep::any(&c.keep, c.cells.0.saturating_mul(c.cells.1)).then_some(false);
+        return Made { line, refusal, keep, ..Made::default() };
     }
-    let (plane, counts) = run(c.bytes[5..].chunks_exact(10).map(Entry::read), c.stride, c.depth, &c.plane);
+    let run = |kept: Vec<bool>| run(c.bytes[5..].chunks_exact(10).map(Entry::read), c.stride, c.depth, &c.plane, kept);
+    let (plane, counts) = run(keep::samples(&c.keep, c.cells, c.stride, c.plane.len()));
+    let keep = keep::any(&c.keep, c.cells.0 * c.cells.1).then(|| run(vec![false; c.plane.len()]).0 != plane);
     line.unsigned(&[0, 0, counts.stored, counts.changed]).entries(&plane);
-    Made { line, refusal, width: None, changed: plane != c.plane, counts: Some(counts), starts: None, steps: None }
+    Made { line, refusal, changed: plane != c.plane, counts: Some(counts), keep, ..Made::default() }
 }

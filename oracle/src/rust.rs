@@ -130,15 +130,21 @@ pub mod deblock {
     /// numbers and stores whole ones, so a sample whose half is gone was stored.
     pub struct Watched {
         floats: Vec<f32>,
+        kept: Vec<bool>,
         counts: Counts,
     }
 
     impl Watched {
         pub fn new(plane: &[u16]) -> Watched {
-            Watched { floats: plane.iter().map(|&s| s as f32 + 0.5).collect(), counts: Counts::default() }
+            Watched::keeping(plane, vec![false; plane.len()])
         }
 
-        /// The Rust's segment; what it stored is counted and lies a half above its number again.
+        /// The same where some samples lie in kept cells (ticket 7).
+        pub fn keeping(plane: &[u16], kept: Vec<bool>) -> Watched {
+            Watched { floats: plane.iter().map(|&s| s as f32 + 0.5).collect(), kept, counts: Counts::default() }
+        }
+
+        /// The Rust's segment; what it stored is counted and lies a half above its number again. A store to a kept sample is none: it is undone and not counted.
         pub fn segment(&mut self, at: &Span, q: i64, side: i64, depth: u64) {
             let places = at.places(self.floats.len());
             let before: Vec<f32> = places.iter().map(|&place| self.floats[place]).collect();
@@ -146,7 +152,9 @@ pub mod deblock {
             let free = unlimited(&before, at, q, side);
             for (k, &place) in places.iter().enumerate() {
                 let new = self.floats[place];
-                if new.fract() == 0.0 {
+                if self.kept[place] {
+                    self.floats[place] = before[k];
+                } else if new.fract() == 0.0 {
                     let limited = free.get(k).is_some_and(|&f| f != new);
                     self.counts.add(Counts { stored: 1, changed: (new != before[k].floor()) as u64, limited: limited as u64 });
                     self.floats[place] = new + 0.5;
@@ -268,19 +276,24 @@ pub mod deblock {
     pub struct Run<'a> {
         settings: &'a Settings,
         floats: Vec<f32>,
+        /// Which samples lie in kept cells.
+        kept: Vec<bool>,
     }
 
     impl Run<'_> {
-        pub fn new<'a>(settings: &'a Settings, plane: &[u16]) -> Run<'a> {
-            Run { settings, floats: to_floats(plane) }
+        pub fn new<'a>(settings: &'a Settings, plane: &[u16], kept: Vec<bool>) -> Run<'a> {
+            Run { settings, floats: to_floats(plane), kept }
         }
 
+        /// One edge; a kept sample is read like any other, and ends as it was.
         pub fn edge(&mut self, e: &Joint) {
             let s = self.settings;
             let (before, after) = filter_lengths(e.index as i32, s.chroma, e.shortened);
             let (q, side) = thresholds(e.qindex.0 as i64, e.qindex.1 as i64, s.delta_q, s.delta_side, s.depth);
             let at = Span { base: e.base, perp: e.perp, line: e.line, lengths: (before as i64, after as i64) };
+            let lent: Vec<(usize, f32)> = at.places(self.floats.len()).into_iter().filter(|&p| self.kept[p]).map(|p| (p, self.floats[p])).collect();
             run_segment(&mut self.floats, &at, q, side, s.depth);
+            lent.into_iter().for_each(|(place, sample)| self.floats[place] = sample);
         }
 
         pub fn end(self) -> Vec<u16> {

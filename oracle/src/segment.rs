@@ -332,12 +332,12 @@ fn answered(c: Case) -> Made {
     line.unsigned(&[c.columns, c.rows, c.stride, c.depth, c.q, c.side, c.pair, c.direction, c.x, c.y]).list(&c.plane);
     if let Some(r) = refusal {
         line.unsigned(&[r.no, r.place, 0, 0]);
-        return Made { line, refusal, width: None, changed: false, counts: None, starts: None, steps: None };
+        return Made { line, refusal, ..Made::default() };
     }
     let width = c.width(c.q, c.side);
     let (plane, counts) = c.filtered();
     let before = width.min(PAIRS[c.pair as usize].0 as usize / 2 - 1);
     assert!(counts.stored == 4 * (before + width) as u64, "the Rust stored {} samples at width {width}", counts.stored);
     line.unsigned(&[0, width as u64, counts.stored, counts.changed]).entries(&plane);
-    Made { line, refusal, width: Some(width), changed: plane != c.plane, counts: Some(counts), starts: None, steps: None }
+    Made { line, refusal, width: Some(width), changed: plane != c.plane, counts: Some(counts), ..Made::default() }
 }

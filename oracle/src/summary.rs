@@ -15,6 +15,8 @@ pub struct Summary {
     limited: u64,
     /// Of the cases with tile starts: all, the accepted ones, and those whose planes would end otherwise without them.
     starts: [u64; 3],
+    /// Of the cases with kept cells: likewise.
+    keep: [u64; 3],
 }
 
 impl Summary {
@@ -28,9 +30,9 @@ impl Summary {
         if let Some(w) = made.width {
             self.widths[w] += 1;
         }
-        if let Some(matter) = made.starts {
-            let counts = [true, made.refusal.is_none(), matter];
-            (0..3).for_each(|k| self.starts[k] += counts[k] as u64);
+        for (sums, said) in [(&mut self.starts, made.starts), (&mut self.keep, made.keep)] {
+            let counts = said.map_or([false; 3], |matter| [true, made.refusal.is_none(), matter]);
+            (0..3).for_each(|k| sums[k] += counts[k] as u64);
         }
         if let Some(n) = made.counts {
             self.counts.add(n);
@@ -49,8 +51,10 @@ impl Summary {
         if self.counts.stored > 0 {
             eprintln!("  stored {}, changed {}; stored but changed nothing: {} cases; limited to the range: {} samples in {} cases", self.counts.stored, self.counts.changed, self.still, self.counts.limited, self.limited);
         }
-        if self.starts[0] > 0 {
-            eprintln!("  with tile starts: {} cases, {} accepted; other samples than without: {}", self.starts[0], self.starts[1], self.starts[2]);
+        for (what, [all, accepted, telling]) in [("tile starts", self.starts), ("kept cells", self.keep)] {
+            if all > 0 {
+                eprintln!("  with {what}: {all} cases, {accepted} accepted; other samples than without: {telling}");
+            }
         }
         for (w, n) in self.widths.iter().enumerate() {
             if *n > 0 {

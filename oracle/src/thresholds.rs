@@ -132,5 +132,5 @@ fn answered(c: Case) -> Made {
     };
     let mut line = Line::new(if rust_table { 2 } else { 3 });
     line.unsigned(&[c.curr, c.prev]).signed(&[c.delta_q, c.delta_side]).unsigned(&[c.depth, no]).signed(&[a, b]);
-    Made { line, refusal, width: None, changed: false, counts: None, starts: None, steps: Some(c.steps) }
+    Made { line, refusal, steps: Some(c.steps), ..Made::default() }
 }

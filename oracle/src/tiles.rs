@@ -1,13 +1,14 @@
 //! Ticket 5's tile columns: a plane by a plain reading of document 01 as amended, on the Rust's own ladder, thresholds and segments, and held to the Rust itself where that has an answer.
 
+use crate::keep;
 use crate::plane::Case;
 use crate::record::{self, Side};
 use crate::rust::deblock::{self, Joint, Marks, Run, Settings};
 
-/// The plane after every edge in document 01's order.
+/// The plane after every edge in document 01's order; samples in kept cells are not stored (ticket 7).
 pub fn read(c: &Case) -> Vec<u16> {
     let settings = c.settings();
-    let mut run = Run::new(&settings, &c.plane);
+    let mut run = Run::new(&settings, &c.plane, keep::of(c));
     record::order(c).into_iter().filter_map(|side| joint(c, side)).for_each(|j| run.edge(&j));
     run.end()
 }
@@ -84,16 +85,16 @@ fn turn<T: Copy>(list: &[T], stride: usize, columns: usize, rows: usize) -> Vec<
     (0..columns * rows).map(|i| list[i % rows * stride + i / rows]).collect()
 }
 
-/// Whether the reading with no tile start is the Rust's.
+/// Whether the reading with no tile start and no kept cell is the Rust's.
 pub fn holds_bare(c: &Case) -> bool {
-    read(&bare(c)) == deblock::plane(&c.settings(), &c.marks, &c.qindex, &c.plane)
+    read(&bare(&keep::open(c))) == deblock::plane(&c.settings(), &c.marks, &c.qindex, &c.plane)
 }
 
-/// Where every k-th column starts a tile: whether the reading is the Rust's on the turned plane. Turned, the two directions change their order,
+/// Where every k-th column starts a tile: whether the reading with no kept cell is the Rust's on the turned plane. Turned, the two directions change their order,
 /// so that only the vertical edges are run.
 pub fn holds_turned(c: &Case) -> Option<bool> {
     let k = every(&c.starts, c.cells.0)?;
-    let mut vertical = c.clone();
+    let mut vertical = keep::open(c);
     vertical.marks.horizontal.fill(0);
     Some(read(&vertical) == turned(&vertical, k))
 }

@@ -30,7 +30,8 @@ impl Room {
 fn main() -> Result<(), Refusal> {
     let (mut y, mut u, mut v) = (halves(SIZE), halves(CHROMA), halves(CHROMA));
     let (mut luma, mut chroma) = (Room::of(16 * 16), Room::of(8 * 8));
-    let blocks = Blocks { superblocks: &[200], leaves: &[0, 0, 16, 16], chroma_leaves: &[0, 0, 16, 16], skips: &[], tiles: &[], chroma_tiles: &[] };
+    let leaves = &[0, 0, 16, 16];
+    let blocks = Blocks { superblocks: &[200], leaves, chroma_leaves: leaves, skips: &[], tiles: &[], chroma_tiles: &[], keep: &[0; 16 * 16], chroma_keep: &[0; 8 * 8] };
     let settings = Frame {
         width: SIZE as i32,
         height: SIZE as i32,

@@ -43,13 +43,13 @@ pub enum Reason {
     Depth = 1,
     /// A size, stride, subsampling or count is out of range.
     Size,
-    /// A list is shorter than needed, or a list of leaves is cut.
+    /// A list, keep marks too, is shorter than needed, or a list of leaves is cut.
     Length,
     /// The step table is bad.
     Steps,
     /// A delta, cap, threshold, pair, tile start or CCSO setting is out of range.
     Setting,
-    /// A grid cell has a bad mark or size index.
+    /// A grid cell has a mark or keep mark other than 0 and 1, or a bad size index.
     Cell,
     /// An edge lacks room.
     Room,
@@ -103,7 +103,7 @@ impl fmt::Display for Reason {
             Reason::Length => "a list is shorter than needed, or a list of leaves is cut",
             Reason::Steps => "the step table is not 352 entries from 64 on, each at most 1048576",
             Reason::Setting => "a delta, cap, threshold, length pair, tile start or CCSO setting is out of range",
-            Reason::Cell => "a grid cell has a bad mark or size index",
+            Reason::Cell => "a grid cell has a bad mark, keep mark or size index",
             Reason::Room => "an edge lacks room",
             Reason::Sample => "a sample exceeds the depth's largest",
             Reason::Leaf => "a leaf is bad",
@@ -175,6 +175,7 @@ pub struct Replay {
 }
 
 /// A plane's grid: a number for each cell, row by row; and the column of cells in which each tile but the first begins, none for one tile.
+/// `keep` is 1 for a cell whose samples are never stored and 0 for any other; it is asked for as the other lists are.
 #[derive(Clone, Copy, Debug)]
 pub struct Grid<'a> {
     pub vedge: &'a [u8],
@@ -183,6 +184,7 @@ pub struct Grid<'a> {
     pub sqh: &'a [u8],
     pub qindex: &'a [u16],
     pub tiles: &'a [u16],
+    pub keep: &'a [u8],
 }
 
 /// The four lists that a TU grid fills.
@@ -203,6 +205,17 @@ pub struct TxGrid {
     pub ssy: i32,
     pub cap_width: i32,
     pub cap_height: i32,
+}
+
+/// Settings of a kept rectangle: the plane's cells each way; its first row and column, how many rows and how many columns it has, in cells from 0 on.
+#[derive(Clone, Copy, Debug, Default)]
+pub struct Rectangle {
+    pub cols: i32,
+    pub rows: i32,
+    pub row: i32,
+    pub col: i32,
+    pub height: i32,
+    pub width: i32,
 }
 
 /// Settings of a qindex grid.
@@ -230,7 +243,7 @@ pub struct BuiltGrid<'a> {
     pub qindex: &'a mut [u16],
 }
 
-/// What a frame's grids are built from, four numbers a leaf; and the tile starts of luma and of chroma, as a grid's, each in cells of its own.
+/// What a frame's grids are built from, four numbers a leaf; and the tile starts and keep marks of luma and of chroma, as a grid's, each in cells of its own.
 #[derive(Clone, Copy, Debug)]
 pub struct Blocks<'a> {
     pub superblocks: &'a [u16],
@@ -239,6 +252,8 @@ pub struct Blocks<'a> {
     pub skips: &'a [u16],
     pub tiles: &'a [u16],
     pub chroma_tiles: &'a [u16],
+    pub keep: &'a [u8],
+    pub chroma_keep: &'a [u8],
 }
 
 /// Settings of a frame.
@@ -355,8 +370,8 @@ fn deblock_by(engine: Engine, plane: &mut [u16], grid: Grid, steps: &[u32], s: P
         engine(
             plane.as_mut_ptr(), plane.len(), grid.vedge.as_ptr(), grid.vedge.len(), grid.hedge.as_ptr(), grid.hedge.len(),
             grid.sqw.as_ptr(), grid.sqw.len(), grid.sqh.as_ptr(), grid.sqh.len(), grid.qindex.as_ptr(), grid.qindex.len(),
-            grid.tiles.as_ptr(), grid.tiles.len(), steps.as_ptr(), steps.len(), settings.as_ptr(), settings.len(),
-            place.as_mut_ptr(), place.len(), counts.as_mut_ptr(), counts.len(),
+            grid.tiles.as_ptr(), grid.tiles.len(), grid.keep.as_ptr(), grid.keep.len(), steps.as_ptr(), steps.len(),
+            settings.as_ptr(), settings.len(), place.as_mut_ptr(), place.len(), counts.as_mut_ptr(), counts.len(),
         )
     };
     filtered(answer, place, counts)
@@ -374,7 +389,7 @@ pub fn deblock_plane(plane: &mut [u16], grid: Grid, steps: &[u32], s: Plane) -> 
 /// use bihargesh::{deblock_plane, deblock_plane_plain, Grid, Plane};
 ///
 /// // six cells with a vertical edge at the third, where a tile begins, on a step from 100 to 108
-/// let grid = Grid { vedge: &[0, 0, 1, 0, 0, 0], hedge: &[0; 6], sqw: &[3; 6], sqh: &[0; 6], qindex: &[200; 6], tiles: &[2] };
+/// let grid = Grid { vedge: &[0, 0, 1, 0, 0, 0], hedge: &[0; 6], sqw: &[3; 6], sqh: &[0; 6], qindex: &[200; 6], tiles: &[2], keep: &[0; 6] };
 /// let settings = Plane { cols: 6, rows: 1, stride: 24, width: 24, height: 4, superblock_width: 8, superblock_height: 8, depth: 8, ..Plane::default() };
 /// let mut plane: Vec<u16> = [vec![100; 8], vec![108; 16]].concat().repeat(4);
 /// let mut plain = plane.clone();
@@ -394,7 +409,7 @@ pub fn deblock_plane_plain(plane: &mut [u16], grid: Grid, steps: &[u32], s: Plan
 /// use bihargesh::{record_plane, Counts, Grid, Plane, Reason, Refusal};
 ///
 /// // three cells in a row, with a vertical edge at the second: the pair of lengths is 4, 4
-/// let grid = Grid { vedge: &[0, 1, 0], hedge: &[0; 3], sqw: &[0; 3], sqh: &[0; 3], qindex: &[0; 3], tiles: &[] };
+/// let grid = Grid { vedge: &[0, 1, 0], hedge: &[0; 3], sqw: &[0; 3], sqh: &[0; 3], qindex: &[0; 3], tiles: &[], keep: &[0; 3] };
 /// let settings = Plane { cols: 3, rows: 1, stride: 12, width: 12, height: 4, superblock_width: 8, superblock_height: 8, depth: 8, ..Plane::default() };
 /// let (mut plane, mut record) = ([100; 48], [7; 16]);
 /// let (length, counts) = record_plane(&mut plane, &mut record, grid, &bihargesh::steps(), settings)?;
@@ -413,8 +428,8 @@ pub fn record_plane(plane: &mut [u16], record: &mut [u8], grid: Grid, steps: &[u
         bihargesh_record_plane(
             plane.as_mut_ptr(), plane.len(), record.as_mut_ptr(), record.len(), grid.vedge.as_ptr(), grid.vedge.len(),
             grid.hedge.as_ptr(), grid.hedge.len(), grid.sqw.as_ptr(), grid.sqw.len(), grid.sqh.as_ptr(), grid.sqh.len(),
-            grid.qindex.as_ptr(), grid.qindex.len(), grid.tiles.as_ptr(), grid.tiles.len(), steps.as_ptr(), steps.len(),
-            settings.as_ptr(), settings.len(), place.as_mut_ptr(), place.len(),
+            grid.qindex.as_ptr(), grid.qindex.len(), grid.tiles.as_ptr(), grid.tiles.len(), grid.keep.as_ptr(), grid.keep.len(),
+            steps.as_ptr(), steps.len(), settings.as_ptr(), settings.len(), place.as_mut_ptr(), place.len(),
             counts.as_mut_ptr(), counts.len(),
         )
     };
@@ -422,7 +437,7 @@ pub fn record_plane(plane: &mut [u16], record: &mut [u8], grid: Grid, steps: &[u
 }
 
 /// Runs the edges of a record on a plane, one after the other; how many samples were stored and changed.
-/// `record_plane`'s record, on the plane as it was lent there, gives the plane that it left, and its counts.
+/// `record_plane`'s record, on the plane and with the keep marks that were lent there, gives the plane that it left, and its counts.
 ///
 /// ```
 /// use bihargesh::{replay, Counts, Reason, Refusal, Replay};
@@ -431,29 +446,34 @@ pub fn record_plane(plane: &mut [u16], record: &mut [u8], grid: Grid, steps: &[u
 /// let record = [b'E', b'D', b'G', 1, 0, 8, 0, 0, 0, 0, 1, 20, 0, 40, 0];
 /// let settings = Replay { cols: 4, rows: 1, stride: 16, depth: 8 };
 /// let mut plane: Vec<u16> = [[100; 8], [108; 8]].concat().repeat(4);
-/// assert_eq!(replay(&mut plane, &record, settings)?, Counts { stored: 24, changed: 24 });
+/// let mut kept = plane.clone();
+/// assert_eq!(replay(&mut plane, &record, &[0; 4], settings)?, Counts { stored: 24, changed: 24 });
 /// assert_eq!(plane[4..12], [100, 101, 102, 103, 105, 106, 107, 108]);
 ///
-/// let refusal = replay(&mut plane, &record[..14], settings).unwrap_err();
+/// // the same with the cell before the edge kept
+/// assert_eq!(replay(&mut kept, &record, &[0, 1, 0, 0], settings)?, Counts { stored: 12, changed: 12 });
+/// assert_eq!(kept[4..12], [100, 100, 100, 100, 105, 106, 107, 108]);
+///
+/// let refusal = replay(&mut plane, &record[..14], &[0; 4], settings).unwrap_err();
 /// assert_eq!(refusal, Refusal { reason: Reason::Cut, place: 0 });
 /// assert_eq!(refusal.to_string(), "the record ends within an entry, at place 0");
 /// # Ok::<(), Refusal>(())
 /// ```
-pub fn replay(plane: &mut [u16], record: &[u8], s: Replay) -> Result<Counts, Refusal> {
+pub fn replay(plane: &mut [u16], record: &[u8], keep: &[u8], s: Replay) -> Result<Counts, Refusal> {
     let settings = [s.cols, s.rows, s.stride, s.depth];
     let (mut place, mut counts) = ([0], [0; 2]);
     // SAFETY: as above.
     let answer = unsafe {
         bihargesh_replay(
-            plane.as_mut_ptr(), plane.len(), record.as_ptr(), record.len(), settings.as_ptr(), settings.len(), place.as_mut_ptr(), place.len(),
-            counts.as_mut_ptr(), counts.len(),
+            plane.as_mut_ptr(), plane.len(), record.as_ptr(), record.len(), keep.as_ptr(), keep.len(), settings.as_ptr(), settings.len(),
+            place.as_mut_ptr(), place.len(), counts.as_mut_ptr(), counts.len(),
         )
     };
     filtered(answer, place, counts)
 }
 
-/// Builds a plane's marks and size indices from its leaves and skip leaves, four numbers a leaf.
-pub fn build_tx_grid(leaves: &[u16], skips: &[u16], marks: Marks, s: TxGrid) -> Result<(), Refusal> {
+/// Builds a plane's marks and size indices from its leaves and skip leaves, four numbers a leaf, and keeps no cell: `keep` is 0 for every cell afterwards.
+pub fn build_tx_grid(leaves: &[u16], skips: &[u16], marks: Marks, keep: &mut [u8], s: TxGrid) -> Result<(), Refusal> {
     let settings = [s.cols, s.rows, s.ssx, s.ssy, s.cap_width, s.cap_height];
     let mut place = [0];
     // SAFETY: as above.
@@ -461,7 +481,7 @@ pub fn build_tx_grid(leaves: &[u16], skips: &[u16], marks: Marks, s: TxGrid) -> 
         bihargesh_tx_grid(
             leaves.as_ptr(), leaves.len(), skips.as_ptr(), skips.len(), marks.vedge.as_mut_ptr(), marks.vedge.len(),
             marks.hedge.as_mut_ptr(), marks.hedge.len(), marks.sqw.as_mut_ptr(), marks.sqw.len(), marks.sqh.as_mut_ptr(), marks.sqh.len(),
-            settings.as_ptr(), settings.len(), place.as_mut_ptr(), place.len(),
+            keep.as_mut_ptr(), keep.len(), settings.as_ptr(), settings.len(), place.as_mut_ptr(), place.len(),
         )
     };
     told(answer, place)
@@ -472,19 +492,19 @@ pub fn build_tx_grid(leaves: &[u16], skips: &[u16], marks: Marks, s: TxGrid) -> 
 /// ```
 /// use bihargesh::{build_tx_grid_leaves, Leaf, Marks, Reason, Refusal, TxGrid};
 ///
-/// let mut lists = [[9; 2]; 4];
-/// let [vedge, hedge, sqw, sqh] = &mut lists;
+/// let mut lists = [[9; 2]; 5];
+/// let [vedge, hedge, sqw, sqh, keep] = &mut lists;
 /// let settings = TxGrid { cols: 2, rows: 1, cap_width: 8, cap_height: 8, ..TxGrid::default() };
 /// let leaves = [Leaf { row: 0, col: 0, w: 1, h: 1 }, Leaf { row: 0, col: 1, w: 1, h: 1 }];
-/// build_tx_grid_leaves(&leaves, &[], Marks { vedge, hedge, sqw, sqh }, settings)?;
-/// assert_eq!(lists, [[1, 1], [1, 1], [0, 0], [0, 0]]);
+/// build_tx_grid_leaves(&leaves, &[], Marks { vedge, hedge, sqw, sqh }, keep, settings)?;
+/// assert_eq!(lists, [[1, 1], [1, 1], [0, 0], [0, 0], [0, 0]]);
 ///
-/// let [vedge, hedge, sqw, sqh] = &mut lists;
-/// let refusal = build_tx_grid_leaves(&leaves[..1], &[Leaf::default()], Marks { vedge, hedge, sqw, sqh }, settings).unwrap_err();
+/// let [vedge, hedge, sqw, sqh, keep] = &mut lists;
+/// let refusal = build_tx_grid_leaves(&leaves[..1], &[Leaf::default()], Marks { vedge, hedge, sqw, sqh }, keep, settings).unwrap_err();
 /// assert_eq!(refusal, Refusal { reason: Reason::Leaf, place: 0 });
 /// # Ok::<(), Refusal>(())
 /// ```
-pub fn build_tx_grid_leaves(leaves: &[Leaf], skips: &[Leaf], marks: Marks, s: TxGrid) -> Result<(), Refusal> {
+pub fn build_tx_grid_leaves(leaves: &[Leaf], skips: &[Leaf], marks: Marks, keep: &mut [u8], s: TxGrid) -> Result<(), Refusal> {
     let settings = [s.cols, s.rows, s.ssx, s.ssy, s.cap_width, s.cap_height];
     let mut place = [0];
     // SAFETY: as above.
@@ -492,9 +512,32 @@ pub fn build_tx_grid_leaves(leaves: &[Leaf], skips: &[Leaf], marks: Marks, s: Tx
         bihargesh_tx_grid_leaves(
             leaves.as_ptr(), leaves.len(), skips.as_ptr(), skips.len(), marks.vedge.as_mut_ptr(), marks.vedge.len(),
             marks.hedge.as_mut_ptr(), marks.hedge.len(), marks.sqw.as_mut_ptr(), marks.sqw.len(), marks.sqh.as_mut_ptr(), marks.sqh.len(),
-            settings.as_ptr(), settings.len(), place.as_mut_ptr(), place.len(),
+            keep.as_mut_ptr(), keep.len(), settings.as_ptr(), settings.len(), place.as_mut_ptr(), place.len(),
         )
     };
+    told(answer, place)
+}
+
+/// Marks every cell of a rectangle as kept and leaves the other marks as they are; what lies beyond the plane is cut off.
+///
+/// ```
+/// use bihargesh::{keep_rectangle, Reason, Rectangle, Refusal};
+///
+/// // two rows of three cells: the last two columns of the second row, and what would follow them
+/// let mut keep = [0; 6];
+/// let settings = Rectangle { cols: 3, rows: 2, row: 1, col: 1, height: 9, width: 2 };
+/// keep_rectangle(&mut keep, settings)?;
+/// assert_eq!(keep, [0, 0, 0, 0, 1, 1]);
+///
+/// let refusal = keep_rectangle(&mut keep, Rectangle { col: -1, ..settings }).unwrap_err();
+/// assert_eq!(refusal, Refusal { reason: Reason::Size, place: 0 });
+/// # Ok::<(), Refusal>(())
+/// ```
+pub fn keep_rectangle(keep: &mut [u8], s: Rectangle) -> Result<(), Refusal> {
+    let settings = [s.cols, s.rows, s.row, s.col, s.height, s.width];
+    let mut place = [0];
+    // SAFETY: as above.
+    let answer = unsafe { bihargesh_keep_rectangle(keep.as_mut_ptr(), keep.len(), settings.as_ptr(), settings.len(), place.as_mut_ptr(), place.len()) };
     told(answer, place)
 }
 
@@ -546,6 +589,7 @@ pub fn deblock_frame(planes: Planes, luma: BuiltGrid, chroma: BuiltGrid, steps: 
             steps.as_ptr(), steps.len(), b.superblocks.as_ptr(), b.superblocks.len(), b.leaves.as_ptr(), b.leaves.len(),
             b.chroma_leaves.as_ptr(), b.chroma_leaves.len(), b.skips.as_ptr(), b.skips.len(),
             b.tiles.as_ptr(), b.tiles.len(), b.chroma_tiles.as_ptr(), b.chroma_tiles.len(),
+            b.keep.as_ptr(), b.keep.len(), b.chroma_keep.as_ptr(), b.chroma_keep.len(),
             settings.as_ptr(), settings.len(), place.as_mut_ptr(), place.len(),
             counts.as_mut_ptr(), counts.len(),
         )

@@ -13,7 +13,7 @@ pub struct Leaf {
 /// Both functions that filter a plane: what they take, and their answer.
 pub type Engine = unsafe extern "C" fn(
     *mut u16, usize, *const u8, usize, *const u8, usize, *const u8, usize, *const u8, usize, *const u16, usize,
-    *const u16, usize, *const u32, usize, *const i32, usize, *mut usize, usize, *mut usize, usize,
+    *const u16, usize, *const u8, usize, *const u32, usize, *const i32, usize, *mut usize, usize, *mut usize, usize,
 ) -> i32;
 
 #[link(name = "bihargesh", kind = "static")]
@@ -24,36 +24,37 @@ extern "C" {
     pub fn bihargesh_plane(
         plane: *mut u16, plane_len: usize, vedge: *const u8, vedge_len: usize, hedge: *const u8, hedge_len: usize,
         sqw: *const u8, sqw_len: usize, sqh: *const u8, sqh_len: usize, qindex: *const u16, qindex_len: usize,
-        tiles: *const u16, tiles_len: usize, steps: *const u32, steps_len: usize, settings: *const i32, settings_len: usize,
-        place: *mut usize, place_len: usize, counts: *mut usize, counts_len: usize,
+        tiles: *const u16, tiles_len: usize, keep: *const u8, keep_len: usize, steps: *const u32, steps_len: usize,
+        settings: *const i32, settings_len: usize, place: *mut usize, place_len: usize, counts: *mut usize, counts_len: usize,
     ) -> i32;
     pub fn bihargesh_plane_plain(
         plane: *mut u16, plane_len: usize, vedge: *const u8, vedge_len: usize, hedge: *const u8, hedge_len: usize,
         sqw: *const u8, sqw_len: usize, sqh: *const u8, sqh_len: usize, qindex: *const u16, qindex_len: usize,
-        tiles: *const u16, tiles_len: usize, steps: *const u32, steps_len: usize, settings: *const i32, settings_len: usize,
-        place: *mut usize, place_len: usize, counts: *mut usize, counts_len: usize,
+        tiles: *const u16, tiles_len: usize, keep: *const u8, keep_len: usize, steps: *const u32, steps_len: usize,
+        settings: *const i32, settings_len: usize, place: *mut usize, place_len: usize, counts: *mut usize, counts_len: usize,
     ) -> i32;
     pub fn bihargesh_record_plane(
         plane: *mut u16, plane_len: usize, record: *mut u8, record_len: usize, vedge: *const u8, vedge_len: usize, hedge: *const u8, hedge_len: usize,
         sqw: *const u8, sqw_len: usize, sqh: *const u8, sqh_len: usize, qindex: *const u16, qindex_len: usize,
-        tiles: *const u16, tiles_len: usize, steps: *const u32, steps_len: usize, settings: *const i32, settings_len: usize,
-        place: *mut usize, place_len: usize, counts: *mut usize, counts_len: usize,
+        tiles: *const u16, tiles_len: usize, keep: *const u8, keep_len: usize, steps: *const u32, steps_len: usize,
+        settings: *const i32, settings_len: usize, place: *mut usize, place_len: usize, counts: *mut usize, counts_len: usize,
     ) -> i32;
     pub fn bihargesh_replay(
-        plane: *mut u16, plane_len: usize, record: *const u8, record_len: usize,
+        plane: *mut u16, plane_len: usize, record: *const u8, record_len: usize, keep: *const u8, keep_len: usize,
         settings: *const i32, settings_len: usize, place: *mut usize, place_len: usize,
         counts: *mut usize, counts_len: usize,
     ) -> i32;
     pub fn bihargesh_tx_grid(
         leaves: *const u16, leaves_len: usize, skips: *const u16, skips_len: usize, vedge: *mut u8, vedge_len: usize,
         hedge: *mut u8, hedge_len: usize, sqw: *mut u8, sqw_len: usize, sqh: *mut u8, sqh_len: usize,
-        settings: *const i32, settings_len: usize, place: *mut usize, place_len: usize,
+        keep: *mut u8, keep_len: usize, settings: *const i32, settings_len: usize, place: *mut usize, place_len: usize,
     ) -> i32;
     pub fn bihargesh_tx_grid_leaves(
         leaves: *const Leaf, leaves_len: usize, skips: *const Leaf, skips_len: usize, vedge: *mut u8, vedge_len: usize,
         hedge: *mut u8, hedge_len: usize, sqw: *mut u8, sqw_len: usize, sqh: *mut u8, sqh_len: usize,
-        settings: *const i32, settings_len: usize, place: *mut usize, place_len: usize,
+        keep: *mut u8, keep_len: usize, settings: *const i32, settings_len: usize, place: *mut usize, place_len: usize,
     ) -> i32;
+    pub fn bihargesh_keep_rectangle(keep: *mut u8, keep_len: usize, settings: *const i32, settings_len: usize, place: *mut usize, place_len: usize) -> i32;
     pub fn bihargesh_qindex_grid(
         superblocks: *const u16, superblocks_len: usize, qindex: *mut u16, qindex_len: usize,
         settings: *const i32, settings_len: usize, place: *mut usize, place_len: usize,
@@ -67,6 +68,7 @@ extern "C" {
         steps: *const u32, steps_len: usize, superblocks: *const u16, superblocks_len: usize, leaves: *const u16, leaves_len: usize,
         chroma_leaves: *const u16, chroma_leaves_len: usize, skips: *const u16, skips_len: usize,
         tiles: *const u16, tiles_len: usize, chroma_tiles: *const u16, chroma_tiles_len: usize,
+        keep: *const u8, keep_len: usize, chroma_keep: *const u8, chroma_keep_len: usize,
         settings: *const i32, settings_len: usize, place: *mut usize, place_len: usize,
         counts: *mut usize, counts_len: usize,
     ) -> i32;

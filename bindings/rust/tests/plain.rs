@@ -26,6 +26,7 @@ struct Case {
     sizes: [Vec<u8>; 2],
     qindex: Vec<u16>,
     tiles: Vec<u16>,
+    keep: Vec<u8>,
     plane: Vec<u16>,
 }
 
@@ -46,13 +47,14 @@ impl Case {
         let most = r.one_of(&[2, 4, 7]);
         let mut sizes = || (0..n).map(|_| r.below(most) as u8).collect();
         let sizes = [sizes(), sizes()];
-        let (step, noise) = (r.below(9), 1 + r.below(4));
+        let (step, noise, kept) = (r.below(9), 1 + r.below(4), r.one_of(&[0, 0, 1, 3]));
         Case {
             settings,
             marks,
             sizes,
             qindex: (0..n).map(|_| 120 + r.below(130) as u16).collect(),
             tiles: (1..cols as u16).filter(|_| r.below(6) == 0).collect(),
+            keep: (0..n).map(|_| (r.below(4) < kept) as u8).collect(),
             plane: (0..stride * 4 * rows).map(|k| (40 + step * (k % stride / 8 % 11) + step * (k / stride / 8) + r.below(noise)) as u16).collect(),
         }
     }
@@ -60,7 +62,7 @@ impl Case {
     /// One fault, by the number of the refusal that it may lead to.
     fn damage(&mut self, r: &mut Random) {
         let cell = r.below(self.qindex.len() as u64) as usize;
-        match r.below(8) {
+        match r.below(10) {
             0 => self.settings.depth = 9,
             1 => self.settings.superblock_width = r.one_of(&[0, 1, 2, 7, 32]),
             2 => self.settings.stride += 1,
@@ -68,6 +70,8 @@ impl Case {
             4 => self.tiles.push(self.settings.cols as u16),
             5 => self.sizes[r.below(2) as usize][cell] = 7,
             6 => self.marks[r.below(2) as usize].fill(1),
+            7 => self.keep[cell] = 2,
+            8 => self.keep.truncate(cell),
             _ => self.plane[cell] = 4096,
         }
     }
@@ -75,7 +79,7 @@ impl Case {
     /// An engine's answer, and the plane afterwards.
     fn run(&self, engine: fn(&mut [u16], Grid, &[u32], Plane) -> Result<Counts, Refusal>) -> (Result<Counts, Refusal>, Vec<u16>) {
         let ([vedge, hedge], [sqw, sqh]) = (&self.marks, &self.sizes);
-        let grid = Grid { vedge, hedge, sqw, sqh, qindex: &self.qindex, tiles: &self.tiles };
+        let grid = Grid { vedge, hedge, sqw, sqh, qindex: &self.qindex, tiles: &self.tiles, keep: &self.keep };
         let mut plane = self.plane.clone();
         (engine(&mut plane, grid, &bihargesh::steps(), self.settings), plane)
     }

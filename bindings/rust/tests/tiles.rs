@@ -28,7 +28,7 @@ impl Row {
         let (steps, index) = steps();
         let mut vedge = [0; 6];
         vedge[self.column] = 1;
-        let grid = Grid { vedge: &vedge, hedge: &[0; 6], sqw: &[self.index; 6], sqh: &[self.index; 6], qindex: &[index; 6], tiles };
+        let grid = Grid { vedge: &vedge, hedge: &[0; 6], sqw: &[self.index; 6], sqh: &[self.index; 6], qindex: &[index; 6], tiles, keep: &[0; 6] };
         let settings = Plane { cols: 6, rows: 1, stride: 24, width: 24, height: 4, superblock_width: 16, superblock_height: 16, chroma: self.chroma, depth: 8, ..Plane::default() };
         let lent: Vec<u16> = (0..96).map(|k| if k % 24 < 4 * self.column { 100 } else { 108 }).collect();
         let (mut plane, mut with_record, mut record) = (lent.clone(), lent, vec![9; self.room]);
@@ -81,6 +81,9 @@ fn room_of_the_pair() {
     }
 }
 
+/// No cell is kept.
+const OPEN: [u8; 64] = [0; 64];
+
 /// A grid that a frame builds.
 struct Room {
     marks: [Vec<u8>; 4],
@@ -99,7 +102,7 @@ impl Room {
 
     fn grid<'a>(&'a self, tiles: &'a [u16]) -> Grid<'a> {
         let [vedge, hedge, sqw, sqh] = &self.marks;
-        Grid { vedge, hedge, sqw, sqh, qindex: &self.qindex, tiles }
+        Grid { vedge, hedge, sqw, sqh, qindex: &self.qindex, tiles, keep: &OPEN }
     }
 }
 
@@ -113,7 +116,7 @@ fn frame(tiles: &[u16], chroma_tiles: &[u16], has_chroma: bool, chroma_deblock: 
     let (steps, index) = steps();
     let (mut planes, mut grids) = ([halves(64, 16), halves(32, 8), halves(32, 8)], [Room::of(64), Room::of(16)]);
     let leaves = &[0, 0, 8, 4, 0, 8, 8, 4];
-    let blocks = Blocks { superblocks: &[index], leaves, chroma_leaves: leaves, skips: &[], tiles, chroma_tiles };
+    let blocks = Blocks { superblocks: &[index], leaves, chroma_leaves: leaves, skips: &[], tiles, chroma_tiles, keep: &OPEN, chroma_keep: &OPEN };
     let settings = Frame {
         width: 64, height: 16, ssx: 1, ssy: 1, has_chroma, chroma_deblock, depth: 8, luma_stride: 64, chroma_stride: 32,
         cap_width: 16, cap_height: 16, chroma_cap_width: 16, chroma_cap_height: 16, ..Frame::default()

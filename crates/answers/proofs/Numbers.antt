@@ -139,6 +139,12 @@ module _ {A : Type 0} {check : Answer} (lent new : A) where
   pub handed-on : {own a : Answer} {left : A} → own ≡ check → a ≡ own → left ≡ settle own lent new → Handed check lent new a left
   handed-on e f g = record { answer = f ∙ e; left-is = g ∙ ap (λ (x : Answer). settle x lent new) e }
 
+-- two lists that are left by one check
+pub settled : {A B : Type 0} (check : Answer) (a b : A) (c d : B) {m : A} {n : B} → m ≡ settle check a b → n ≡ settle check c d → _≡_ {A = A × B} (m, n) (settle check (a, c) (b, d))
+unfolding settle
+settled Accepted a b c d e f = cc
+settled (Refused r) a b c d e f = cc
+
 -- told to C
 pub reported : {A : Type 0} {check a : Answer} {lent new left : A} {p q : List ℕ} {z : ℤ} → Handed check lent new a left → Told a p z q → Reported check lent new p (toZ w32 (ofZ w32 z)) left q
 reported d t = record { told = told-by (d .answer) t; left-is = d .left-is }

@@ -3,3 +3,4 @@ pub mod Numbered
 pub mod Listing
 pub mod Placing
 pub mod Gating
+pub mod Keeping

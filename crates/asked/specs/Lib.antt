@@ -1,5 +1,6 @@
--- What `specs/` holds: the settings' numbers and lists by their places, places of refusals, and CCSO over the planes.
+-- What `specs/` holds: the settings' numbers and lists by their places, places of refusals, CCSO over the planes, and the cells that are kept.
 pub mod Numbers
 pub mod Lists
 pub mod Places
 pub mod Offsets
+pub mod Kept

@@ -1,11 +1,11 @@
--- The lists of the settings among their n short numbers: 4096 qindex entries, then luma's leaves, chroma's leaves, skip leaves, luma's tile starts and chroma's,
+-- The lists of the settings among their n short numbers: 4096 qindex entries, then luma's leaves, chroma's leaves, skip leaves, luma's tile starts and chroma's, and the kept rectangles,
 -- each from a place of its own to the place after its last number. Assumes nothing.
 use mathlib.Core.List.{List}
-use Prim.Native.Nat.{ℕ, _+_, _≤_, min, max}
+use Prim.Native.Nat.{ℕ, _+_, _-_, _≤_, min, max}
 use lib.Dec.{eqb}
-use lib.ListN.{getD}
+use lib.ListN.{getD, take, drop}
 use Rattle.laws.specs.Choose.{pick}
-use Rattle.settings.specs.Rules.{leafRoom, tilesFrom}
+use Rattle.settings.specs.Rules.{leafRoom, tilesFrom, keepsFrom}
 use Rattle.asked.specs.declared.lists.Lists.{Lists}
 
 -- the end of a list that begins at `from` and has room up to `end`, by the place after the last number of its kind
@@ -19,7 +19,7 @@ chromaFrom n = 4096 + leafRoom n
 abbrev pub skipsFrom : ℕ → ℕ
 skipsFrom n = chromaFrom n + leafRoom n
 
--- kinds 4, 5 and 6, 21 and 22; chroma has luma's leaves where it has none of its own, and no tile starts but its own
+-- kinds 4, 5 and 6, 21, 22 and 23; chroma has luma's leaves where it has none of its own, and no tile starts but its own
 unfoldable pub listsAsked : ℕ → List ℕ → Lists
 listsAsked n places = record {
   entries = 4096;
@@ -32,8 +32,14 @@ listsAsked n places = record {
   tiles = tilesFrom n;
   tilesend = endOf places 21 (tilesFrom n) (tilesFrom n + 1023);
   chromatiles = tilesFrom n + 1023;
-  chromatilesend = endOf places 22 (tilesFrom n + 1023) (tilesFrom n + 1023 + 1023);
+  chromatilesend = endOf places 22 (tilesFrom n + 1023) (keepsFrom n);
+  keeps = keepsFrom n;
+  keepsend = endOf places 23 (keepsFrom n) (keepsFrom n + 16384);
 }
+
+-- the numbers from a place to another
+abbrev pub between : List ℕ → ℕ → ℕ → List ℕ
+between xs from end = take (end - from) (drop from xs)
 
 -- the steps given, at most 352; all 352 of the published table where none is
 unfoldable pub stepsAsked : ℕ → ℕ
@@ -52,3 +58,5 @@ pub record Within (l : Lists) (n : ℕ) : Type 0 where
   pub tiles-in : l .tilesend ≤ n
   pub chromatiles-from : l .chromatiles ≤ l .chromatilesend
   pub chromatiles-in : l .chromatilesend ≤ n
+  pub keeps-from : l .keeps ≤ l .keepsend
+  pub keeps-in : l .keepsend ≤ n

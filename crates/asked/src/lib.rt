@@ -1,4 +1,4 @@
-// What the settings of a picture ask for: the filters' own settings, CCSO over the planes, and where a refusal stands.
+// What the settings of a picture ask for: the filters' own settings, CCSO over the planes, the cells that are kept, and where a refusal stands.
 
 // The frame, and the CCSO settings of a plane.
 pub mod told;
@@ -11,3 +11,6 @@ pub mod places;
 
 // CCSO over one plane, and over all three.
 pub mod gated;
+
+// The cells that are kept, as marks of a plane.
+pub mod kept;

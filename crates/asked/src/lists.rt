@@ -1,4 +1,4 @@
-// The lists of the settings: qindex entries, luma's leaves, chroma's leaves, skip leaves and both planes' tile starts among the short numbers, and the steps.
+// The lists of the settings: qindex entries, luma's leaves, chroma's leaves, skip leaves, both planes' tile starts and the kept rectangles among the short numbers, and the steps.
 ghost use mathlib.Core.Path.{_≡_};
 ghost use Prim.Native.Nat.{_≤_, min, max};
 ghost use lib.ListN.{length};
@@ -20,6 +20,8 @@ pub struct Lists {
     pub tilesend: usize,
     pub chromatiles: usize,
     pub chromatilesend: usize,
+    pub keeps: usize,
+    pub keepsend: usize,
 }
 
 // A place between two others.
@@ -38,7 +40,7 @@ pub fn steps_of(n: usize) -> usize
 
 // The lists of n short numbers by the places after their last ones. Chroma has luma's leaves where it has none of its own.
 pub fn lists_of(places: &[usize], n: usize) -> Lists
-    requires { ⌜ (23 ≤ length (now places)) × (6142 ≤ n) ⌝ }
+    requires { ⌜ (24 ≤ length (now places)) × (22526 ≤ n) ⌝ }
     ensures { λ r. ⌜ (r ≡ listsAsked n (now (places .entry))) × Within r n ⌝ }
 {
     let room = leaf_room(n);
@@ -48,9 +50,11 @@ pub fn lists_of(places: &[usize], n: usize) -> Lists
     let c = limit(places[5], chroma, skips);
     let tiles = skips + room;
     let chromatiles = tiles + 1023;
+    let keeps = chromatiles + 1023;
     let s = limit(places[6], skips, tiles);
     let t = limit(places[21], tiles, chromatiles);
-    let u = limit(places[22], chromatiles, chromatiles + 1023);
+    let u = limit(places[22], chromatiles, keeps);
+    let k = limit(places[23], keeps, keeps + 16384);
     if c == chroma {
         return Lists {
             entries: 4096,
@@ -64,6 +68,8 @@ pub fn lists_of(places: &[usize], n: usize) -> Lists
             tilesend: t,
             chromatiles,
             chromatilesend: u,
+            keeps,
+            keepsend: k,
         };
     }
     Lists {
@@ -78,5 +84,7 @@ pub fn lists_of(places: &[usize], n: usize) -> Lists
         tilesend: t,
         chromatiles,
         chromatilesend: u,
+        keeps,
+        keepsend: k,
     }
 }

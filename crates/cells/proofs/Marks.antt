@@ -2,28 +2,25 @@
 -- Assumes nothing.
 use mathlib.Core.Path.{_≡_, sym, ap, _∙_}
 use mathlib.Core.List.{List, []}
-use Prim.Native.Nat.{ℕ, _+_, _*_, _≤_, _<_, max}
-use native.Mathlib.Nat.{zero-add}
+use Prim.Native.Nat.{ℕ, _*_, _≤_, _<_}
 use native.Mathlib.Omega.{arith}
 use borrow.Author.Needs.{needs}
 use borrow.Author.Tests.{leb-true}
 use mathlib.Core.Bool.{Bool, true, false}
-use lib.Dec.{leb}
+use lib.Dec.{leb, ltb}
 use lib.ListN.{getD}
-use Rattle.laws.specs.Choose.{all-bad, all-ok, all-last, all-none, all-parts, is-le, not-le, told-yes-not, told-no-not}
-use Rattle.laws.specs.Largest.{largest, largest-none, largest-more, largest-end, under-largest}
+use Rattle.laws.specs.Choose.{all-ok, all-none, all-parts, is-le, not-le, not-lt, told-yes-not, told-no-not}
+use Rattle.laws.specs.Largest.{largest}
 use Rattle.rules.specs.declared.settings.Plane.{Plane}
 use Rattle.rules.specs.declared.refusals.Found.{Found}
 use Rattle.rules.specs.declared.refusals.Found.the-variants.{Nothing}
-use Rattle.rules.specs.Refusals.{foundUnless}
-use Rattle.rules.specs.Plane.{Grid, grid, tiled, cellGood, badCell}
-use Rattle.scan.proofs.First.{firsts, all-nothing, nothing-all, found-unless-not, unless-nothing}
+use Rattle.rules.specs.Refusals.{foundIf, foundUnless, over}
+use Rattle.rules.specs.Plane.{Grid, keeping, cellGood, badCell, badKeep}
+use Rattle.scan.proofs.Bytes.{under-most as under-all}
+use Rattle.scan.proofs.First.{firsts, all-nothing, nothing-all, found-unless-not, found-if-not, unless-nothing}
 use Rattle.cells.specs.Fit.{small, badOf}
 
 -- ---- the largest of each list
-
-pub most-more : (l : List ℕ) (k : ℕ) {m r : ℕ} → m ≡ largest l 0 k → r ≡ max m (getD l k 0) → r ≡ largest l 0 (k + 1)
-most-more l k e f = largest-more l 0 k e (rw (zero-add k) f)
 
 -- a list's largest m, found to be too large, not too large, and left to the answer
 pub over-most : (m l n : ℕ) → m ≡ l → n < m → false ≡ leb l n
@@ -38,7 +35,7 @@ last-most m l n e = ap (λ (k : ℕ). leb k n) e
 -- where it is small enough, so is every number
 pub every-small : (l : List ℕ) (n m k : ℕ) → leb (largest l 0 n) m ≡ true → k < n → true ≡ leb (getD l k 0) m
 every-small l n m k e h =
-    let u : getD l k 0 ≤ largest l 0 n = rw (zero-add k) at (under-largest l 0 n k h) in let t = leb-true (largest l 0 n) m e in is-le (getD l k 0) m (omega arith)
+    let u = under-all l n k h in let t = leb-true (largest l 0 n) m e in is-le (getD l k 0) m (omega arith)
 
 pub small-none : (n : ℕ) (g : Grid) (b : Bool) → b ≡ small n g → b ≡ true → Nothing ≡ badOf n g
 unfolding badOf cellGood small
@@ -47,12 +44,14 @@ small-none n g b e t =
     let q = all-parts _ _ (p .1) in
     let r = all-parts _ _ (q .1) in
     let o = all-parts _ _ (r .1) in
+    let k = all-parts _ _ (o .1) in
     sym (all-nothing (λ i. foundUnless (cellGood g i) i) n
     (λ i h. sym (found-unless-not _ i
     (all-ok _ _ _ (every-small (g .vedge) n 1 i (p .0) h)
     (all-ok _ _ _ (every-small (g .hedge) n 1 i (q .0) h)
     (all-ok _ _ _ (every-small (g .sqw) n 6 i (r .0) h)
-    (all-ok _ _ _ (every-small (g .sqh) n 6 i (o .0) h) all-none)))))))
+    (all-ok _ _ _ (every-small (g .sqh) n 6 i (o .0) h)
+    (all-ok _ _ _ (every-small (g .keep) n 1 i (k .0) h) all-none))))))))
 
 -- ---- good cells
 
@@ -65,14 +64,19 @@ none-good n g e k h =
     let q = all-parts _ _ (p .1) in
     (leb-true _ _ (q .0), leb-true _ _ (all-parts _ _ (q .1) .0))
 
+-- its keep marks are good too
+pub none-bad : (n : ℕ) (g : Grid) → badOf n g ≡ Nothing → badKeep n (g .keep) ≡ Nothing
+unfolding badOf badKeep cellGood over
+none-bad n g e =
+    all-nothing (λ i. foundIf (ltb 1 (getD (g .keep) i 0)) i) n (λ i h.
+    let t = unless-nothing _ i (nothing-all (λ k. foundUnless (cellGood g k) k) n e i h) in
+    let p = all-parts _ _ (all-parts _ _ (all-parts _ _ (all-parts _ _ t .1) .1) .1) in
+    sym (found-if-not _ i (not-lt 1 (getD (g .keep) i 0) (leb-true _ _ (all-parts _ _ (p .1) .0)))))
+
 -- no qindex and no tile is looked at
-pub bad-is : (s : Plane) (v h w t : List ℕ) (r : Found) → r ≡ badOf (s .rows * s .cols) (grid v h w t []) → (q ts : List ℕ) → r ≡ badCell s (tiled v h w t q ts)
+pub bad-is : (s : Plane) (v h w t ks : List ℕ) (r : Found) → r ≡ badOf (s .rows * s .cols) (keeping v h w t [] [] ks) → (q ts : List ℕ) → r ≡ badCell s (keeping v h w t q ts ks)
 unfolding badCell badOf cellGood
-bad-is s v h w t r e q ts = e
-
-pub ruleset most = (needs, largest-none, most-more, largest-end)
-
-pub ruleset smalls = (needs, all-bad, all-ok, all-last, over-most, under-most, last-most)
+bad-is s v h w t ks r e q ts = e
 
 -- the code's scan
 pub ruleset finds = (firsts, told-yes-not, told-no-not)

@@ -16,7 +16,7 @@ use Rattle.rules.specs.declared.refusals.Found.the-variants.{At, Nothing}
 use Rattle.rules.specs.Lengths.{pairOf, reachBefore, reachAfter}
 use Rattle.rules.specs.Refusals.{first, sooner}
 use Rattle.rules.specs.Segment.{hasRoom, roomAlong}
-use Rattle.rules.specs.Plane.{Grid, tiled, cellOf, marksOf, indicesOf, indexAt, shortenedAt, isEdge, edgeRoom, lacksRoom, lacksRow, lacksDir, noRoom}
+use Rattle.rules.specs.Plane.{Grid, keeping, cellOf, marksOf, indicesOf, indexAt, shortenedAt, isEdge, edgeRoom, lacksRoom, lacksRow, lacksDir, noRoom}
 use Rattle.lengths.proofs.Lengths.{pair-facts}
 use Rattle.scan.proofs.First.{first-found, all-nothing, found-unless, found-unless-not, sooner-first-by, sooner-second-by}
 use Rattle.cells.specs.Fit.{Cell, Inner, oneWay, sized, marked, starting, roomOf}
@@ -185,10 +185,10 @@ module _ (s : Plane) (g : Grid) where
     unfolding lacksDir
     rows-last e q = ends-second _ _ ends-rows some one e q
 
--- both directions, of any qindex; no tile is looked at in direction 1
-pub room-is : (s : Plane) (v h w t ts : List ℕ) (r : Found) → r ≡ sooner (lacksDir s (oneWay v w [] ts) 0) (lacksDir s (oneWay h t [] []) 1) → (q : List ℕ) → r ≡ noRoom s (tiled v h w t q ts)
+-- both directions, of any qindex and keep marks; no tile is looked at in direction 1
+pub room-is : (s : Plane) (v h w t ts : List ℕ) (r : Found) → r ≡ sooner (lacksDir s (oneWay v w [] ts) 0) (lacksDir s (oneWay h t [] []) 1) → (q ks : List ℕ) → r ≡ noRoom s (keeping v h w t q ts ks)
 unfolding noRoom lacksDir lacksRow lacksRoom isEdge marksOf edgeRoom indexAt indicesOf shortenedAt pick
-room-is s v h w t ts r e q = e
+room-is s v h w t ts r e q ks = e
 
 pub ruleset rooms = (needs, reach-small, inner-by, room-left, room-up, lacks-none, lacks-not, lacks-it)
 

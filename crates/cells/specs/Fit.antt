@@ -28,11 +28,12 @@ pub record Sizes (s : Plane) : Type 0 where
   pub sbh-most : s .sbh ≤ 16
 
 -- lists of at least count numbers
-pub record Long (count v h w t : ℕ) : Type 0 where
+pub record Long (count v h w t k : ℕ) : Type 0 where
   pub vedge : count ≤ v
   pub hedge : count ≤ h
   pub sqw : count ≤ w
   pub sqh : count ≤ t
+  pub keep : count ≤ k
 
 -- the first count numbers are at most n
 pub record Within (n count : ℕ) (l : List ℕ) : Type 0 where
@@ -46,6 +47,7 @@ small count g =
     ∷ leb (largest (g .hedge) 0 count) 1
     ∷ leb (largest (g .sqw) 0 count) 6
     ∷ leb (largest (g .sqh) 0 count) 6
+    ∷ leb (largest (g .keep) 0 count) 1
     ∷ [])
 
 -- the first of count cells that is not good

@@ -1,53 +1,38 @@
-// Document 01, "Grid cells: two marks (0 or 1) and two size indices 0..6.": the first cell that has others.
+// Document 01, "Grid cells: two marks (0 or 1) and two size indices 0..6.", and document 02's third mark: the first cell that has others.
 use rules::refusals::Found;
 use rules::settings::Plane;
+use scan::highest;
 ghost use mathlib.Core.Path.{_≡_};
 ghost use mathlib.Core.List.{List, []};
-ghost use Prim.Native.Nat.{ℕ, _+_, _*_, _≤_, max};
+ghost use Prim.Native.Nat.{ℕ, _+_, _*_, _≤_};
 ghost use lib.ListN.{length};
-ghost use Rattle.laws.specs.Largest.{largest};
-ghost use Rattle.rules.specs.Plane.{grid, tiled, cellGood, badCell};
+ghost use Rattle.rules.specs.Plane.{keeping, cellGood, badCell};
 ghost use Rattle.cells.specs.Fit.{Sizes, Long, small, badOf};
 
-fn larger(a: u8, b: u8) -> u8
-    ensures { λ r. ⌜ r ≡ max a b ⌝ }
-{
-    if a < b { b } else { a }
-}
-
-// The largest of the first count numbers.
-fn most(list: &[u8], count: usize) -> u8
-    requires { ⌜ count ≤ length (now list) ⌝ }
-    ensures { λ r. ⌜ r ≡ largest (now (list .entry)) 0 count ⌝ }
-{
-    let mut m: u8 = 0;
-    for k in 0..count {
-        m = larger(m, list[k]);
-    }
-    m
-}
-
 // Whether no number of the grid is too large, by the largest of each list.
-fn all_good(vedge: &[u8], hedge: &[u8], sqw: &[u8], sqh: &[u8], count: usize) -> bool
-    requires { ⌜ Long count (length (now vedge)) (length (now hedge)) (length (now sqw)) (length (now sqh)) ⌝ }
-    ensures { λ r. ⌜ r ≡ small count (grid (now (vedge .entry)) (now (hedge .entry)) (now (sqw .entry)) (now (sqh .entry)) []) ⌝ }
+fn all_good(vedge: &[u8], hedge: &[u8], sqw: &[u8], sqh: &[u8], keep: &[u8], count: usize) -> bool
+    requires { ⌜ Long count (length (now vedge)) (length (now hedge)) (length (now sqw)) (length (now sqh)) (length (now keep)) ⌝ }
+    ensures { λ r. ⌜ r ≡ small count (keeping (now (vedge .entry)) (now (hedge .entry)) (now (sqw .entry)) (now (sqh .entry)) [] [] (now (keep .entry))) ⌝ }
 {
-    if 1 < most(vedge, count) {
+    if 1 < highest(vedge, count) {
         return false;
     }
-    if 1 < most(hedge, count) {
+    if 1 < highest(hedge, count) {
         return false;
     }
-    if 6 < most(sqw, count) {
+    if 6 < highest(sqw, count) {
         return false;
     }
-    most(sqh, count) <= 6
+    if 6 < highest(sqh, count) {
+        return false;
+    }
+    highest(keep, count) <= 1
 }
 
 // Whether the marks and size indices of one cell are good.
-fn cell_good(vedge: &[u8], hedge: &[u8], sqw: &[u8], sqh: &[u8], k: usize) -> bool
-    requires { ⌜ Long (k + 1) (length (now vedge)) (length (now hedge)) (length (now sqw)) (length (now sqh)) ⌝ }
-    ensures { λ r. ⌜ r ≡ cellGood (grid (now (vedge .entry)) (now (hedge .entry)) (now (sqw .entry)) (now (sqh .entry)) []) k ⌝ }
+fn cell_good(vedge: &[u8], hedge: &[u8], sqw: &[u8], sqh: &[u8], keep: &[u8], k: usize) -> bool
+    requires { ⌜ Long (k + 1) (length (now vedge)) (length (now hedge)) (length (now sqw)) (length (now sqh)) (length (now keep)) ⌝ }
+    ensures { λ r. ⌜ r ≡ cellGood (keeping (now (vedge .entry)) (now (hedge .entry)) (now (sqw .entry)) (now (sqh .entry)) [] [] (now (keep .entry))) k ⌝ }
 {
     if 1 < vedge[k] {
         return false;
@@ -58,16 +43,19 @@ fn cell_good(vedge: &[u8], hedge: &[u8], sqw: &[u8], sqh: &[u8], k: usize) -> bo
     if 6 < sqw[k] {
         return false;
     }
-    sqh[k] <= 6
+    if 6 < sqh[k] {
+        return false;
+    }
+    keep[k] <= 1
 }
 
 // The first of count cells that is not good.
-fn first_bad(vedge: &[u8], hedge: &[u8], sqw: &[u8], sqh: &[u8], count: usize) -> Found
-    requires { ⌜ Long count (length (now vedge)) (length (now hedge)) (length (now sqw)) (length (now sqh)) ⌝ }
-    ensures { λ r. ⌜ r ≡ badOf count (grid (now (vedge .entry)) (now (hedge .entry)) (now (sqw .entry)) (now (sqh .entry)) []) ⌝ }
+fn first_bad(vedge: &[u8], hedge: &[u8], sqw: &[u8], sqh: &[u8], keep: &[u8], count: usize) -> Found
+    requires { ⌜ Long count (length (now vedge)) (length (now hedge)) (length (now sqw)) (length (now sqh)) (length (now keep)) ⌝ }
+    ensures { λ r. ⌜ r ≡ badOf count (keeping (now (vedge .entry)) (now (hedge .entry)) (now (sqw .entry)) (now (sqh .entry)) [] [] (now (keep .entry))) ⌝ }
 {
     for k in 0..count {
-        if !cell_good(vedge, hedge, sqw, sqh, k) {
+        if !cell_good(vedge, hedge, sqw, sqh, keep, k) {
             return Found::At(k);
         }
     }
@@ -75,13 +63,13 @@ fn first_bad(vedge: &[u8], hedge: &[u8], sqw: &[u8], sqh: &[u8], count: usize) -
 }
 
 // The first bad cell of a plane's grid, whatever its qindex and tiles: the largest numbers first, since a cell is seldom bad, and the place only where one is.
-pub fn bad_cell(vedge: &[u8], hedge: &[u8], sqw: &[u8], sqh: &[u8], s: Plane) -> Found
-    requires { ⌜ Sizes s × Long (s .rows * s .cols) (length (now vedge)) (length (now hedge)) (length (now sqw)) (length (now sqh)) ⌝ }
-    ensures { λ r. ⌜ ((q ts : List ℕ) → r ≡ badCell s (tiled (now (vedge .entry)) (now (hedge .entry)) (now (sqw .entry)) (now (sqh .entry)) q ts)) ⌝ }
+pub fn bad_cell(vedge: &[u8], hedge: &[u8], sqw: &[u8], sqh: &[u8], keep: &[u8], s: Plane) -> Found
+    requires { ⌜ Sizes s × Long (s .rows * s .cols) (length (now vedge)) (length (now hedge)) (length (now sqw)) (length (now sqh)) (length (now keep)) ⌝ }
+    ensures { λ r. ⌜ ((q ts : List ℕ) → r ≡ badCell s (keeping (now (vedge .entry)) (now (hedge .entry)) (now (sqw .entry)) (now (sqh .entry)) q ts (now (keep .entry)))) ⌝ }
 {
     let count = s.rows * s.cols;
-    if all_good(vedge, hedge, sqw, sqh, count) {
+    if all_good(vedge, hedge, sqw, sqh, keep, count) {
         return Found::Nothing;
     }
-    first_bad(vedge, hedge, sqw, sqh, count)
+    first_bad(vedge, hedge, sqw, sqh, keep, count)
 }

@@ -14,7 +14,7 @@ ghost use Prim.Native.Nat.{ℕ, _+_, _*_, _≤_, _<_};
 ghost use lib.Dec.{leb};
 ghost use lib.ListN.{length};
 ghost use Rattle.laws.specs.Choose.{all};
-ghost use Rattle.rules.specs.Plane.{tiled, lacksRoom, lacksRow, lacksDir, noRoom};
+ghost use Rattle.rules.specs.Plane.{keeping, lacksRoom, lacksRow, lacksDir, noRoom};
 ghost use Rattle.cells.specs.Fit.{Sizes, Cell, Inner, Indices, Ready, oneWay, roomOf};
 
 // Whether both reaches lie in the plane along an edge's lines, and the four lines beside each other.
@@ -138,10 +138,10 @@ fn lacks_horz(hedge: &[u8], sqh: &[u8], s: Plane) -> Found
     lacks_row(hedge, sqh, s, rows - 1)
 }
 
-// The first edge of a plane that lacks room, whatever the qindex.
+// The first edge of a plane that lacks room, whatever the qindex and the keep marks.
 pub fn no_room(vedge: &[u8], hedge: &[u8], sqw: &[u8], sqh: &[u8], tiles: &[u16], s: Plane) -> Found
     requires { ⌜ Ready s (now vedge) (now sqw) × Ready s (now hedge) (now sqh) ⌝ }
-    ensures { λ f. ⌜ ((q : List ℕ) → f ≡ noRoom s (tiled (now (vedge .entry)) (now (hedge .entry)) (now (sqw .entry)) (now (sqh .entry)) q (now (tiles .entry)))) ⌝ }
+    ensures { λ f. ⌜ ((q ks : List ℕ) → f ≡ noRoom s (keeping (now (vedge .entry)) (now (hedge .entry)) (now (sqw .entry)) (now (sqh .entry)) q (now (tiles .entry)) ks)) ⌝ }
 {
     let f = lacks_vert(vedge, sqw, tiles, s);
     if let Found::At(k) = f {

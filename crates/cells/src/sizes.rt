@@ -7,7 +7,7 @@ ghost use Prim.Native.Nat.{ℕ};
 ghost use lib.Dec.{eqb};
 ghost use lib.ListN.{length};
 ghost use Rattle.laws.specs.Choose.{either};
-ghost use Rattle.rules.specs.Plane.{tiled, planeSizesOk, planeLengthsOk};
+ghost use Rattle.rules.specs.Plane.{keeping, planeSizesOk, planeLengthsOk};
 ghost use Rattle.cells.specs.Fit.{Sizes};
 
 // A superblock is 8 or 16 cells wide and high.
@@ -53,10 +53,11 @@ pub fn lengths_ok(
     sqw: &[u8],
     sqh: &[u8],
     qindex: &[u16],
+    keep: &[u8],
     s: Plane,
 ) -> bool
     requires { ⌜ Sizes s ⌝ }
-    ensures { λ r. ⌜ ((ts : List ℕ) → r ≡ planeLengthsOk s (tiled (now (vedge .entry)) (now (hedge .entry)) (now (sqw .entry)) (now (sqh .entry)) (now (qindex .entry)) ts) (length (now (plane .entry)))) ⌝ }
+    ensures { λ r. ⌜ ((ts : List ℕ) → r ≡ planeLengthsOk s (keeping (now (vedge .entry)) (now (hedge .entry)) (now (sqw .entry)) (now (sqh .entry)) (now (qindex .entry)) ts (now (keep .entry))) (length (now (plane .entry)))) ⌝ }
 {
     if plane.len() < 4 * s.rows * s.stride {
         return false;
@@ -74,5 +75,8 @@ pub fn lengths_ok(
     if sqh.len() < cells {
         return false;
     }
-    cells <= qindex.len()
+    if qindex.len() < cells {
+        return false;
+    }
+    cells <= keep.len()
 }

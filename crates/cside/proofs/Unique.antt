@@ -1,19 +1,21 @@
 -- Two results that a statement of include/bihargesh.h allows are equal: answer, place, counts, and every other lent list that the function may write.
 -- Assumes nothing.
-use mathlib.Core.Path.{_≡_, sym, _∙_}
+use mathlib.Core.Path.{_≡_, sym, ap, _∙_}
 use mathlib.Core.List.{List}
 use Prim.Native.Nat.{ℕ}
 use lib.IntN.{ℤ}
 use Rattle.rules.specs.Plane.{Grid}
-use Rattle.rules.specs.TuGrid.{Marks, txGridCheck, txGridOf}
+use Rattle.rules.specs.TuGrid.{Marks}
 use Rattle.rules.specs.QindexGrid.{qGridCheck, qGridOf}
 use Rattle.rules.specs.Ccso.{ccsoCheck, ccsoOf}
 use Rattle.rules.specs.Frame.{Given, Lent}
 use Rattle.rules.specs.CSide.{cThresholds}
 use Rattle.answers.specs.Told.{listed, Reported}
 use Rattle.answers.proofs.Unique.{counted-unique, reported-unique, filter-told-unique}
-use Rattle.numbers.specs.Settings.{tuGridOf, qindexGridOf, offsetsOf}
+use Rattle.numbers.specs.Settings.{qindexGridOf, offsetsOf}
 use Rattle.entries.specs.Planes.{PlaneTold, ReplayTold, RecordTold}
+use Rattle.entries.specs.Grids.{GridTold}
+use Rattle.entries.specs.Rectangles.{RectangleTold}
 use Rattle.leaves.specs.declared.records.Leaf.{Leaf}
 use Rattle.leaves.specs.Records.{flat}
 use Rattle.frame_entry.specs.Listed.{FrameTold}
@@ -33,17 +35,20 @@ module _ {r s : ℤ} where
   segment-unique t u = (t .answer ∙ sym (u .answer), t .window-is ∙ sym (u .window-is), t .counts-are ∙ sym (u .counts-are))
 
   module _ (settings : List ℤ) {place p q : List ℕ} where
-    pub tx-grid-unique : (leaves skips : List ℕ) (g : Marks) {m n : Marks}
-        → Reported (listed 6 settings (txGridCheck (tuGridOf settings) leaves skips g)) g (txGridOf (tuGridOf settings) leaves skips g) place r m p
-        → Reported (listed 6 settings (txGridCheck (tuGridOf settings) leaves skips g)) g (txGridOf (tuGridOf settings) leaves skips g) place s n q
-        → (r ≡ s) × (m ≡ n) × (p ≡ q)
-    tx-grid-unique leaves skips g = reported-unique
+    pub tx-grid-unique : (leaves skips : List ℕ) (g : Marks) (k : List ℕ) {m n : Marks} {x y : List ℕ} → GridTold settings leaves skips g k place r m x p → GridTold settings leaves skips g k place s n y q
+        → (r ≡ s) × (m ≡ n) × (x ≡ y) × (p ≡ q)
+    tx-grid-unique leaves skips g k t u =
+        let e = reported-unique t u in
+        (e .0, ap (λ (l : Marks × List ℕ). l .0) (e .1), ap (λ (l : Marks × List ℕ). l .1) (e .1), e .2)
 
-    pub tx-grid-leaves-unique : (leaves skips : List Leaf) (g : Marks) {m n : Marks}
-        → Reported (listed 6 settings (txGridCheck (tuGridOf settings) (flat leaves) (flat skips) g)) g (txGridOf (tuGridOf settings) (flat leaves) (flat skips) g) place r m p
-        → Reported (listed 6 settings (txGridCheck (tuGridOf settings) (flat leaves) (flat skips) g)) g (txGridOf (tuGridOf settings) (flat leaves) (flat skips) g) place s n q
-        → (r ≡ s) × (m ≡ n) × (p ≡ q)
-    tx-grid-leaves-unique leaves skips g = reported-unique
+    pub tx-grid-leaves-unique : (leaves skips : List Leaf) (g : Marks) (k : List ℕ) {m n : Marks} {x y : List ℕ}
+        → GridTold settings (flat leaves) (flat skips) g k place r m x p
+        → GridTold settings (flat leaves) (flat skips) g k place s n y q
+        → (r ≡ s) × (m ≡ n) × (x ≡ y) × (p ≡ q)
+    tx-grid-leaves-unique leaves skips = tx-grid-unique (flat leaves) (flat skips)
+
+    pub keep-rectangle-unique : (k : List ℕ) {m n : List ℕ} → RectangleTold settings k place r m p → RectangleTold settings k place s n q → (r ≡ s) × (m ≡ n) × (p ≡ q)
+    keep-rectangle-unique k = reported-unique
 
     pub qindex-grid-unique : (sbq l : List ℕ) {m n : List ℕ}
         → Reported (listed 5 settings (qGridCheck (qindexGridOf settings) sbq l)) l (qGridOf (qindexGridOf settings) sbq l) place r m p
@@ -63,9 +68,9 @@ module _ {r s : ℤ} where
         → (r ≡ s) × (m ≡ n) × (p ≡ q) × (x ≡ y)
     plane-unique steps l g = filter-told-unique
 
-    pub replay-unique : (bytes l : List ℕ) {m n : List ℕ} → ReplayTold settings bytes l place counts r m p x → ReplayTold settings bytes l place counts s n q y
+    pub replay-unique : (bytes keep l : List ℕ) {m n : List ℕ} → ReplayTold settings bytes keep l place counts r m p x → ReplayTold settings bytes keep l place counts s n q y
         → (r ≡ s) × (m ≡ n) × (p ≡ q) × (x ≡ y)
-    replay-unique bytes l = filter-told-unique
+    replay-unique bytes keep l = filter-told-unique
 
     pub record-plane-unique : (steps l b : List ℕ) (g : Grid) {m n c d : List ℕ}
         → RecordTold settings steps g l b place counts r m c p x

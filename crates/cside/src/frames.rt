@@ -1,7 +1,7 @@
 // A whole frame for C: its answer as a number, with the place of a refusal and both counts.
 use answers::told_counts;
 use frame_entry::frames::filter;
-ghost use Rattle.rules.specs.Plane.{tiled};
+ghost use Rattle.rules.specs.Plane.{keeping};
 ghost use Rattle.rules.specs.Frame.{planes, grids, lent, given};
 ghost use Rattle.frame_entry.specs.Listed.{FrameTold};
 
@@ -28,6 +28,8 @@ pub extern "C" fn bihargesh_frame(
     skips: &[u16],
     tiles: &[u16],
     chromatiles: &[u16],
+    keep: &[u8],
+    chromakeep: &[u8],
     settings: &[i32],
     place: &mut [usize],
     counts: &mut [usize],
@@ -38,16 +40,16 @@ pub extern "C" fn bihargesh_frame(
         (lent
         (planes (now (y .entry)) (now (u .entry)) (now (v .entry)))
         (grids
-        (tiled (now (lv .entry)) (now (lh .entry)) (now (lw .entry)) (now (lt .entry)) (now (lq .entry)) (now (tiles .entry)))
-        (tiled (now (cv .entry)) (now (ch .entry)) (now (cw .entry)) (now (ct .entry)) (now (cq .entry)) (now (chromatiles .entry)))))
+        (keeping (now (lv .entry)) (now (lh .entry)) (now (lw .entry)) (now (lt .entry)) (now (lq .entry)) (now (tiles .entry)) (now (keep .entry)))
+        (keeping (now (cv .entry)) (now (ch .entry)) (now (cw .entry)) (now (ct .entry)) (now (cq .entry)) (now (chromatiles .entry)) (now (chromakeep .entry)))))
         (now (place .entry))
         (now (counts .entry))
         r
         (lent
         (planes (now (y .exit)) (now (u .exit)) (now (v .exit)))
         (grids
-        (tiled (now (lv .exit)) (now (lh .exit)) (now (lw .exit)) (now (lt .exit)) (now (lq .exit)) (now (tiles .entry)))
-        (tiled (now (cv .exit)) (now (ch .exit)) (now (cw .exit)) (now (ct .exit)) (now (cq .exit)) (now (chromatiles .entry)))))
+        (keeping (now (lv .exit)) (now (lh .exit)) (now (lw .exit)) (now (lt .exit)) (now (lq .exit)) (now (tiles .entry)) (now (keep .entry)))
+        (keeping (now (cv .exit)) (now (ch .exit)) (now (cw .exit)) (now (ct .exit)) (now (cq .exit)) (now (chromatiles .entry)) (now (chromakeep .entry)))))
         (now (place .exit))
         (now (counts .exit)) ⌝ }
 {
@@ -72,6 +74,8 @@ pub extern "C" fn bihargesh_frame(
         skips,
         tiles,
         chromatiles,
+        keep,
+        chromakeep,
         settings,
     );
     told_counts(a, place, counts)

@@ -26,6 +26,9 @@ pub mod qindex_grids;
 pub mod tx_grids;
 pub mod tx_records;
 
+// Keep marks over a rectangle of cells.
+pub mod rectangles;
+
 // The gated CCSO offsets.
 pub mod gated_offsets;
 

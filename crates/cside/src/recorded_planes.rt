@@ -1,7 +1,7 @@
 // A plane whose edges are recorded, for C: the record's bytes as the answer, or a refusal's number with its place, and both counts.
 use answers::told_record;
 use entries::recorded_planes::write_record;
-ghost use Rattle.rules.specs.Plane.{tiled};
+ghost use Rattle.rules.specs.Plane.{keeping};
 ghost use Rattle.entries.specs.Planes.{RecordTold};
 
 // How many bytes the record takes, or minus the refusal number with its place in the first entry of `place`; stored and changed samples in `counts`.
@@ -15,6 +15,7 @@ pub extern "C" fn bihargesh_record_plane(
     sqh: &[u8],
     qindex: &[u16],
     tiles: &[u16],
+    keep: &[u8],
     steps: &[u32],
     settings: &[i32],
     place: &mut [usize],
@@ -23,7 +24,7 @@ pub extern "C" fn bihargesh_record_plane(
     ensures { λ r. ⌜ RecordTold
         (now (settings .entry))
         (now (steps .entry))
-        (tiled (now (vedge .entry)) (now (hedge .entry)) (now (sqw .entry)) (now (sqh .entry)) (now (qindex .entry)) (now (tiles .entry)))
+        (keeping (now (vedge .entry)) (now (hedge .entry)) (now (sqw .entry)) (now (sqh .entry)) (now (qindex .entry)) (now (tiles .entry)) (now (keep .entry)))
         (now (plane .entry))
         (now (buffer .entry))
         (now (place .entry))
@@ -43,6 +44,7 @@ pub extern "C" fn bihargesh_record_plane(
         sqh,
         qindex,
         tiles,
+        keep,
         steps,
         settings,
     );

@@ -8,12 +8,13 @@ ghost use Rattle.entries.specs.Planes.{ReplayTold};
 pub extern "C" fn bihargesh_replay(
     plane: &mut [u16],
     bytes: &[u8],
+    keep: &[u8],
     settings: &[i32],
     place: &mut [usize],
     counts: &mut [usize],
 ) -> i32
-    ensures { λ r. ⌜ ReplayTold (now (settings .entry)) (now (bytes .entry)) (now (plane .entry)) (now (place .entry)) (now (counts .entry)) r (now (plane .exit)) (now (place .exit)) (now (counts .exit)) ⌝ }
+    ensures { λ r. ⌜ ReplayTold (now (settings .entry)) (now (bytes .entry)) (now (keep .entry)) (now (plane .entry)) (now (place .entry)) (now (counts .entry)) r (now (plane .exit)) (now (place .exit)) (now (counts .exit)) ⌝ }
 {
-    let a = run_again(plane, bytes, settings);
+    let a = run_again(plane, bytes, keep, settings);
     told_counts(a, place, counts)
 }

@@ -1,9 +1,8 @@
 // A TU grid for C: its answer as a number, with the place of a refusal.
 use answers::told;
 use entries::tx_grids::build;
-ghost use Rattle.rules.specs.TuGrid.{marks, txGridCheck, txGridOf};
-ghost use Rattle.answers.specs.Told.{listed, Reported};
-ghost use Rattle.numbers.specs.Settings.{tuGridOf};
+ghost use Rattle.rules.specs.TuGrid.{marks};
+ghost use Rattle.entries.specs.Grids.{GridTold};
 
 // 0, or minus the refusal number with its place in the first entry of `place`.
 #[no_mangle]
@@ -14,18 +13,22 @@ pub extern "C" fn bihargesh_tx_grid(
     hedge: &mut [u8],
     sqw: &mut [u8],
     sqh: &mut [u8],
+    keep: &mut [u8],
     settings: &[i32],
     place: &mut [usize],
 ) -> i32
-    ensures { λ r. ⌜ Reported
-        (listed 6 (now (settings .entry)) (txGridCheck (tuGridOf (now (settings .entry))) (now (leaves .entry)) (now (skips .entry)) (marks (now (vedge .entry)) (now (hedge .entry)) (now (sqw .entry)) (now (sqh .entry)))))
+    ensures { λ r. ⌜ GridTold
+        (now (settings .entry))
+        (now (leaves .entry))
+        (now (skips .entry))
         (marks (now (vedge .entry)) (now (hedge .entry)) (now (sqw .entry)) (now (sqh .entry)))
-        (txGridOf (tuGridOf (now (settings .entry))) (now (leaves .entry)) (now (skips .entry)) (marks (now (vedge .entry)) (now (hedge .entry)) (now (sqw .entry)) (now (sqh .entry))))
+        (now (keep .entry))
         (now (place .entry))
         r
         (marks (now (vedge .exit)) (now (hedge .exit)) (now (sqw .exit)) (now (sqh .exit)))
+        (now (keep .exit))
         (now (place .exit)) ⌝ }
 {
-    let a = build(leaves, skips, vedge, hedge, sqw, sqh, settings);
+    let a = build(leaves, skips, vedge, hedge, sqw, sqh, keep, settings);
     told(a, place)
 }

@@ -3,9 +3,8 @@ use entries::tx_records::read;
 use entries::tx_records::tell;
 use leaves::records::Leaf;
 use leaves::tx_grid::build_tx_grid;
-ghost use Rattle.rules.specs.TuGrid.{marks, txGridCheck, txGridOf};
-ghost use Rattle.answers.specs.Told.{listed, Reported};
-ghost use Rattle.numbers.specs.Settings.{tuGridOf};
+ghost use Rattle.rules.specs.TuGrid.{marks};
+ghost use Rattle.entries.specs.Grids.{GridTold};
 ghost use Rattle.leaves.specs.Records.{flat};
 
 // 0, or minus the refusal number with its place in the first entry of `place`.
@@ -17,19 +16,23 @@ pub extern "C" fn bihargesh_tx_grid_leaves(
     hedge: &mut [u8],
     sqw: &mut [u8],
     sqh: &mut [u8],
+    keep: &mut [u8],
     settings: &[i32],
     place: &mut [usize],
 ) -> i32
-    ensures { λ r. ⌜ Reported
-        (listed 6 (now (settings .entry)) (txGridCheck (tuGridOf (now (settings .entry))) (flat (now (leaves .entry))) (flat (now (skips .entry))) (marks (now (vedge .entry)) (now (hedge .entry)) (now (sqw .entry)) (now (sqh .entry)))))
+    ensures { λ r. ⌜ GridTold
+        (now (settings .entry))
+        (flat (now (leaves .entry)))
+        (flat (now (skips .entry)))
         (marks (now (vedge .entry)) (now (hedge .entry)) (now (sqw .entry)) (now (sqh .entry)))
-        (txGridOf (tuGridOf (now (settings .entry))) (flat (now (leaves .entry))) (flat (now (skips .entry))) (marks (now (vedge .entry)) (now (hedge .entry)) (now (sqw .entry)) (now (sqh .entry))))
+        (now (keep .entry))
         (now (place .entry))
         r
         (marks (now (vedge .exit)) (now (hedge .exit)) (now (sqw .exit)) (now (sqh .exit)))
+        (now (keep .exit))
         (now (place .exit)) ⌝ }
 {
     let s = read(settings);
-    let a = build_tx_grid(leaves, skips, vedge, hedge, sqw, sqh, s);
+    let a = build_tx_grid(leaves, skips, vedge, hedge, sqw, sqh, keep, s);
     tell(a, settings.len(), place)
 }

@@ -8,43 +8,48 @@ use Rattle.rules.specs.declared.settings.Frame.{Frame}
 use Rattle.rules.specs.declared.settings.Plane.{Plane}
 use Rattle.rules.specs.declared.settings.TuGrid.{TuGrid}
 use Rattle.rules.specs.declared.settings.QindexGrid.{QindexGrid}
+use Rattle.rules.specs.declared.refusals.Answer.{Answer}
 use Rattle.rules.specs.declared.refusals.RecordAnswer.{RecordAnswer}
-use Rattle.rules.specs.Plane.{Grid, tiled}
-use Rattle.rules.specs.TuGrid.{Marks, marks, txGridAfter}
+use Rattle.rules.specs.Plane.{Grid, keeping}
+use Rattle.rules.specs.TuGrid.{Marks, marks, txGridAfter, clearedAfter}
 use Rattle.rules.specs.QindexGrid.{qGridAfter}
 use Rattle.rules.specs.Frame.{withQ}
 use Rattle.rules.specs.Record.{recordedAnswer, recordedBuffer}
+use Rattle.grid.specs.Stated.{Stated as TxStated}
 use Rattle.recorded.specs.Stated.{Stated}
 use Rattle.asked.specs.declared.lists.Lists.{Lists}
-use Rattle.asked.specs.Lists.{listsAsked, stepsAsked}
+use Rattle.asked.specs.Lists.{listsAsked, stepsAsked, between}
 use Rattle.frame_checks.specs.Settings.{planeOf, tuOf, qOf}
 use Rattle.framed.specs.Deblocked.{zeros}
-use Rattle.framed.specs.Framed.{between, givenBy, givenAsked, startsBy, startsAsked}
+use Rattle.framed.specs.Framed.{givenBy, givenAsked, startsBy, startsAsked}
 use Rattle.edge_record.specs.Noted.{dark, gridBy, bytesOf, leavesFrom, leavesEnd, leavesBy, tilesFrom, tilesEnd, tilesBy, Noted, NotedBy}
 
-module _ (t : TuGrid) (q : QindexGrid) (leaves skips sbq ts : List ℕ) {v h w x i v' h' w' x' i' : List ℕ} where
+module _ (t : TuGrid) (q : QindexGrid) (leaves skips sbq ts : List ℕ) {r : Answer} {v h w x i o v' h' w' x' i' o' : List ℕ} where
   -- the grid that both entries leave of lists that were all zero
-  built : marks v' h' w' x' ≡ txGridAfter t leaves skips (marks v h w x) → i' ≡ qGridAfter q sbq i
-      → v ≡ zeros → h ≡ zeros → w ≡ zeros → x ≡ zeros → i ≡ zeros
-      → tiled v' h' w' x' i' ts ≡ gridBy t q leaves skips sbq ts
+  built : TxStated t leaves skips (marks v h w x) o r (marks v' h' w' x') o' → i' ≡ qGridAfter q sbq i
+      → v ≡ zeros → h ≡ zeros → w ≡ zeros → x ≡ zeros → o ≡ zeros → i ≡ zeros
+      → keeping v' h' w' x' i' ts o' ≡ gridBy t q leaves skips sbq ts
   unfolding gridBy
-  built e g z0 z1 z2 z3 z4 =
-      ap (λ (m : Marks). withQ m i' ts) (rw (z0, z1, z2, z3) at e)
-      ∙ ap (λ (l : List ℕ). withQ (txGridAfter t leaves skips (marks zeros zeros zeros zeros)) l ts) (rw z4 at g)
+  built e g z0 z1 z2 z3 z4 z5 =
+      let d = rw (z0, z1, z2, z3, z4) at e in
+      let m = txGridAfter t leaves skips (marks zeros zeros zeros zeros) zeros in
+      ap (λ (x : Marks). withQ x i' ts o') (d .lists)
+      ∙ ap (λ (l : List ℕ). withQ m l ts o') (rw z5 at g)
+      ∙ ap (λ (l : List ℕ). withQ m (qGridAfter q sbq zeros) ts l) (d .cleared)
 
   pub noted-by : (s : Plane) (steps b : List ℕ) {l m c : List ℕ} {a : RecordAnswer} {n : ℕ}
-      → marks v' h' w' x' ≡ txGridAfter t leaves skips (marks v h w x) → i' ≡ qGridAfter q sbq i
-      → v ≡ zeros → h ≡ zeros → w ≡ zeros → x ≡ zeros → i ≡ zeros → l ≡ dark
-      → Stated s steps (tiled v' h' w' x' i' ts) l b a m c → n ≡ bytesOf (a .«record»)
+      → TxStated t leaves skips (marks v h w x) o r (marks v' h' w' x') o' → i' ≡ qGridAfter q sbq i
+      → v ≡ zeros → h ≡ zeros → w ≡ zeros → x ≡ zeros → o ≡ zeros → i ≡ zeros → l ≡ dark
+      → Stated s steps (keeping v' h' w' x' i' ts o') l b a m c → n ≡ bytesOf (a .«record»)
       → Noted s steps (gridBy t q leaves skips sbq ts) b n c
-  noted-by s steps b {l = l} e g z0 z1 z2 z3 z4 is d k =
-      let r = built e g z0 z1 z2 z3 z4 in
+  noted-by s steps b {l = l} e g z0 z1 z2 z3 z4 z5 is d k =
+      let same = built e g z0 z1 z2 z3 z4 z5 in
       record {
         bytes = k ∙ ap bytesOf (d .answer)
-            ∙ ap (λ (y : Grid). bytesOf (recordedAnswer s steps y l (length b))) r
+            ∙ ap (λ (y : Grid). bytesOf (recordedAnswer s steps y l (length b))) same
             ∙ ap (λ (p : List ℕ). bytesOf (recordedAnswer s steps (gridBy t q leaves skips sbq ts) p (length b))) is;
         buffer = d .buffer
-            ∙ ap (λ (y : Grid). recordedBuffer s steps y l b) r
+            ∙ ap (λ (y : Grid). recordedBuffer s steps y l b) same
             ∙ ap (λ (p : List ℕ). recordedBuffer s steps (gridBy t q leaves skips sbq ts) p b) is;
       }
 

@@ -12,7 +12,7 @@ use Rattle.rules.specs.declared.settings.QindexGrid.{QindexGrid}
 use Rattle.rules.specs.declared.refusals.Recorded.{Recorded}
 use Rattle.rules.specs.declared.refusals.Recorded.the-variants.{Bytes, Refused}
 use Rattle.rules.specs.Plane.{Grid}
-use Rattle.rules.specs.TuGrid.{marks, txGridAfter}
+use Rattle.rules.specs.TuGrid.{marks, txGridAfter, clearedAfter}
 use Rattle.rules.specs.QindexGrid.{qGridAfter}
 use Rattle.rules.specs.Frame.{Given, withQ}
 use Rattle.rules.specs.Record.{recordedAnswer, recordedBuffer}
@@ -24,9 +24,11 @@ use Rattle.framed.specs.Deblocked.{Starts, zeros}
 unfoldable pub dark : List ℕ
 dark = replicate 16777216 0
 
--- both grids' entries over zeros, with the plane's tile starts
+-- both grids' entries over zeros, with the plane's tile starts; no cell is kept, and what a record says does not depend on it
 unfoldable pub gridBy : TuGrid → QindexGrid → List ℕ → List ℕ → List ℕ → List ℕ → Grid
-gridBy t q leaves skips sbq ts = withQ (txGridAfter t leaves skips (marks zeros zeros zeros zeros)) (qGridAfter q sbq zeros) ts
+gridBy t q leaves skips sbq ts =
+    withQ (txGridAfter t leaves skips (marks zeros zeros zeros zeros) zeros) (qGridAfter q sbq zeros) ts
+    (clearedAfter t leaves skips (marks zeros zeros zeros zeros) zeros)
 
 unfoldable pub bytesOf : Recorded → ℕ
 bytesOf (Bytes n) = n

@@ -45,7 +45,7 @@ fn bytes_of(a: Recorded) -> usize
     }
 }
 
-// The record of a dark plane whose grid comes from leaves, superblocks and tile starts; how long it is, 0 where the plane is refused.
+// The record of a dark plane without a kept cell, whose grid comes from leaves, superblocks and tile starts; how long it is, 0 where the plane is refused.
 fn noted(
     buffer: &mut [u8],
     leaves: &[u16],
@@ -64,8 +64,18 @@ fn noted(
     let mut hedge = marks();
     let mut sqw = marks();
     let mut sqh = marks();
+    let mut keep = marks();
     let mut qindex = indices();
-    build_tx_grid(leaves, skips, &mut vedge, &mut hedge, &mut sqw, &mut sqh, t);
+    build_tx_grid(
+        leaves,
+        skips,
+        &mut vedge,
+        &mut hedge,
+        &mut sqw,
+        &mut sqh,
+        &mut keep,
+        t,
+    );
     build_qindex_grid(sbq, &mut qindex, q);
     let a = record_plane(
         &mut plane,
@@ -76,6 +86,7 @@ fn noted(
         &sqh,
         &qindex,
         tiles,
+        &keep,
         steps,
         s,
     );

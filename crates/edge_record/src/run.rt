@@ -44,8 +44,8 @@ fn sized(f: Frame) -> bool
 }
 
 // Writes luma's record or chroma's, where its planes are deblocked; the outcome.
-fn kept(shorts: &[u16], steps: &[u32], places: &[usize; 23], f: Frame, chroma: bool, to: i32) -> u8
-    requires { ⌜ Listed (length (now shorts)) (length (now steps)) 23 × Sized f ⌝ }
+fn kept(shorts: &[u16], steps: &[u32], places: &[usize; 24], f: Frame, chroma: bool, to: i32) -> u8
+    requires { ⌜ Listed (length (now shorts)) (length (now steps)) 24 × Sized f ⌝ }
 {
     if !kind_on(f, chroma) {
         return 0;
@@ -68,7 +68,7 @@ fn told(text: &[u8], h: Header, chroma: bool, to: i32) -> u8 {
     let mut steps = ac_steps::steps();
     let mut flags = [1u8; 12288];
     let mut offsets = [0i8; 384];
-    let mut places = first_places(12589054);
+    let mut places = first_places(12605438);
     let fault = parse(
         text,
         &mut numbers,

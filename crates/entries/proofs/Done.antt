@@ -3,7 +3,7 @@
 use mathlib.Core.Path.{_≡_, refl, sym, ap, _∙_}
 use mathlib.Core.Bool.{Bool, true, false, not}
 use mathlib.Core.List.{List}
-use Prim.Native.Nat.{ℕ, _≤_, _<_}
+use Prim.Native.Nat.{ℕ, _*_, _≤_, _<_}
 use borrow.Author.Tests.{leb-true}
 use lib.ListN.{length}
 use lib.IntN.{ℤ}
@@ -12,6 +12,7 @@ use Rattle.rules.specs.declared.settings.Plane.{Plane}
 use Rattle.rules.specs.declared.settings.Replay.{Replay}
 use Rattle.rules.specs.declared.settings.TuGrid.{TuGrid}
 use Rattle.rules.specs.declared.settings.QindexGrid.{QindexGrid}
+use Rattle.rules.specs.declared.settings.Keep.{Keep}
 use Rattle.rules.specs.declared.settings.Ccso.{Ccso}
 use Rattle.rules.specs.declared.refusals.Refusal.{Refusal}
 use Rattle.rules.specs.declared.refusals.Refusal.the-variants.{Depth, Size, Length}
@@ -22,17 +23,22 @@ use Rattle.rules.specs.Numbers.{depthOk}
 use Rattle.rules.specs.Refusals.{settle}
 use Rattle.rules.specs.Plane.{Grid, planeAfter, planeStored, planeChanged}
 use Rattle.rules.specs.Replay.{replayAfter, replayStored, replayChanged}
-use Rattle.rules.specs.TuGrid.{Marks, txGridCheck, txGridOf, txGridAfter}
+use Rattle.rules.specs.TuGrid.{Marks, clearOf, txGridCheck, txGridOf, txGridAfter, clearedAfter}
 use Rattle.rules.specs.QindexGrid.{qGridCheck, qGridOf, qGridAfter}
+use Rattle.rules.specs.Keep.{keepAfter}
 use Rattle.rules.specs.Ccso.{ccsoCheck, ccsoOf, ccsoAfter}
 use Rattle.scan.proofs.Checks.{stop, stop-by, go-on, go-on-by, unless-bad, unless-good, unless-true, else-parts}
 use Rattle.plane.specs.Checked.{Stated as «PlaneStated»}
 use Rattle.replay.specs.Fit.{inWord, Replayed}
+use Rattle.grid.specs.Stated.{Stated as «GridStated»}
+use Rattle.rectangle.specs.Stated.{Stated as «RectangleStated»}
 use Rattle.ccso.specs.Stated.{Stated as «OffsetsStated»}
 use Rattle.answers.specs.Told.{listed, Handed}
-use Rattle.numbers.specs.Settings.{countAt, planeOf, replaySettings, tuGridOf, qindexGridOf, offsetsOf}
+use Rattle.numbers.specs.Settings.{countAt, planeOf, replaySettings, tuGridOf, qindexGridOf, rectangleOf, offsetsOf}
 use Rattle.entries.specs.Planes.{listCheck, cPlaneCheck, PlaneHanded, ReplayHanded}
-use Rattle.answers.proofs.Numbers.{none, long, long-is, filtered-refused, filtered-on}
+use Rattle.entries.specs.Grids.{GridHanded}
+use Rattle.entries.specs.Rectangles.{rectangleOk, rectangleCheck, cRectangleCheck, RectangleHanded}
+use Rattle.answers.proofs.Numbers.{none, handed-refused, handed-on, settled, long, long-is, filtered-refused, filtered-on}
 
 -- ---- a plane
 
@@ -83,8 +89,8 @@ module _ (settings : List ℤ) (steps : List ℕ) (g : Grid) (l : List ℕ) {a :
 
 -- ---- a record that is run again
 
-module _ (settings : List ℤ) (bytes l : List ℕ) where
-  pub replay-short : length settings < 4 → ReplayHanded settings bytes l (none Length) l
+module _ (settings : List ℤ) (bytes keep l : List ℕ) where
+  pub replay-short : length settings < 4 → ReplayHanded settings bytes keep l (none Length) l
   unfolding listed
   replay-short h = filtered-refused l _ _ _ (stop _ _ (unless-bad _ _ (not-le 4 (length settings) h)))
 
@@ -93,20 +99,24 @@ module _ (settings : List ℤ) (bytes l : List ℕ) where
   word-kept Accepted n = refl
   word-kept (Refused r) n = refl
 
-  pub replay-done : {s : Replay} {x : PlaneAnswer} {m : List ℕ} → 4 ≤ length settings → s ≡ replaySettings settings → Replayed s bytes l x m → ReplayHanded settings bytes l x m
+  pub replay-done : {s : Replay} {x : PlaneAnswer} {m : List ℕ} → 4 ≤ length settings → s ≡ replaySettings settings → Replayed s bytes keep l x m → ReplayHanded settings bytes keep l x m
   unfolding replayAfter replayStored replayChanged
   replay-done {s} {x} {m} enough read t =
-      let w : Replayed (replaySettings settings) bytes l x m = rw read at t in
+      let w : Replayed (replaySettings settings) bytes keep l x m = rw read at t in
       filtered-on l _ _ _ (long-is 4 settings _ l l enough) (w .answer) (w .plane) (w .stored ∙ word-kept _ _) (w .changed ∙ word-kept _ _)
 
 -- ---- the grids
 
-module _ (settings : List ℤ) (leaves skips : List ℕ) (g : Marks) (enough : 6 ≤ length settings) {s : TuGrid} (read : s ≡ tuGridOf settings) where
-  pub tx-done : {a : Answer} {m : Marks} → (a ≡ txGridCheck s leaves skips g) × (m ≡ txGridAfter s leaves skips g) → Handed (listed 6 settings (txGridCheck (tuGridOf settings) leaves skips g)) g (txGridOf (tuGridOf settings) leaves skips g) a m
-  unfolding txGridAfter
-  tx-done {a} {m} t =
-      let w : (a ≡ txGridCheck (tuGridOf settings) leaves skips g) × (m ≡ txGridAfter (tuGridOf settings) leaves skips g) = rw read at t in
-      long 6 settings _ g _ enough (w .0) (w .1)
+module _ (leaves skips : List ℕ) (g : Marks) (k : List ℕ) where
+  -- a grid's lists and its keep marks are left by one check
+  pub grid-left : {s : TuGrid} {a : Answer} {m : Marks} {n : List ℕ} → «GridStated» s leaves skips g k a m n → _≡_ {A = Marks × List ℕ} (m, n) (settle (txGridCheck s leaves skips g k) (g, k) (txGridOf s leaves skips g, clearOf (s .rows * s .cols) k))
+  unfolding txGridAfter clearedAfter
+  grid-left t = settled _ g _ k _ (t .lists) (t .cleared)
+
+  pub tx-done : (settings : List ℤ) {s : TuGrid} {a : Answer} {m : Marks} {n : List ℕ} → 6 ≤ length settings → s ≡ tuGridOf settings → «GridStated» s leaves skips g k a m n → GridHanded settings leaves skips g k a m n
+  tx-done settings {s} {a} {m} {n} enough read t =
+      let w : «GridStated» (tuGridOf settings) leaves skips g k a m n = rw read at t in
+      long 6 settings _ (g, k) _ enough (w .answer) (grid-left w)
 
 module _ (settings : List ℤ) (sbq q : List ℕ) (enough : 5 ≤ length settings) {s : QindexGrid} (read : s ≡ qindexGridOf settings) where
   pub q-done : {a : Answer} {m : List ℕ} → (a ≡ qGridCheck s sbq q) × (m ≡ qGridAfter s sbq q) → Handed (listed 5 settings (qGridCheck (qindexGridOf settings) sbq q)) q (qGridOf (qindexGridOf settings) sbq q) a m
@@ -114,6 +124,39 @@ module _ (settings : List ℤ) (sbq q : List ℕ) (enough : 5 ≤ length setting
   q-done {a} {m} t =
       let w : (a ≡ qGridCheck (qindexGridOf settings) sbq q) × (m ≡ qGridAfter (qindexGridOf settings) sbq q) = rw read at t in
       long 5 settings _ q _ enough (w .0) (w .1)
+
+-- ---- keep marks over a rectangle
+
+-- the list of settings, at each way out of its check
+module _ (settings : List ℤ) where
+  pub rectangle-short : length settings < 6 → Refused Length ≡ rectangleCheck settings
+  unfolding rectangleCheck listed
+  rectangle-short h = stop _ _ (unless-bad _ _ (not-le 6 (length settings) h))
+
+  module _ (enough : 6 ≤ length settings) {u : Bool} (asked : u ≡ rectangleOk settings) where
+    pub rectangle-below : not u ≡ true → Refused Size ≡ rectangleCheck settings
+    unfolding rectangleCheck listed
+    rectangle-below f = go-on _ _ _ (unless-good _ _ (is-le 6 (length settings) enough)) (unless-bad _ _ (told-no-not _ _ asked f))
+
+    pub rectangle-good : not u ≡ false → Accepted ≡ rectangleCheck settings
+    unfolding rectangleCheck listed
+    rectangle-good f = go-on _ _ _ (unless-good _ _ (is-le 6 (length settings) enough)) (unless-good _ _ (told-yes-not _ _ asked f))
+
+  -- a list that passes has its six numbers
+  pub rectangle-long : {a : Answer} → a ≡ rectangleCheck settings → a ≡ Accepted → 6 ≤ length settings
+  unfolding rectangleCheck listed
+  rectangle-long is e = leb-true 6 (length settings) (unless-true _ Length (else-parts _ _ (sym is ∙ e) .0))
+
+module _ (settings : List ℤ) (k : List ℕ) {a : Answer} (is : a ≡ rectangleCheck settings) where
+  pub rectangle-refused : {r : Refusal} → a ≡ Refused r → RectangleHanded settings k (Refused r) k
+  unfolding cRectangleCheck
+  rectangle-refused e = handed-refused k _ (stop-by _ _ _ is e)
+
+  pub rectangle-done : {s : Keep} {x : Answer} {n : List ℕ} → a ≡ Accepted → s ≡ rectangleOf settings → «RectangleStated» s k x n → RectangleHanded settings k x n
+  unfolding cRectangleCheck keepAfter
+  rectangle-done {s} {x} {n} e read t =
+      let w : «RectangleStated» (rectangleOf settings) k x n = rw read at t in
+      handed-on k _ (go-on-by _ _ _ _ is e refl) (w .answer) (w .marks)
 
 -- ---- the gated offsets
 

@@ -14,11 +14,14 @@ use Rattle.rules.specs.declared.refusals.Answer.{Answer}
 use Rattle.rules.specs.declared.refusals.Answer.the-variants.{Refused}
 use Rattle.rules.specs.Numbers.{inRange}
 use Rattle.rules.specs.Refusals.{orElse, unless, settle}
-use Rattle.rules.specs.TuGrid.{Marks, cellsOk, txGridCheck, txGridOf, txGridAfter}
+use Rattle.rules.specs.TuGrid.{Marks, cellsOk, txGridCheck}
 use Rattle.scan.proofs.Checks.{stop, go-on, unless-bad, unless-good}
-use Rattle.answers.specs.Told.{listed, Told, Reported}
+use Rattle.grid.specs.Stated.{Stated}
+use Rattle.answers.specs.Told.{listed, Told}
 use Rattle.numbers.specs.Settings.{tuGridOf}
+use Rattle.entries.specs.Grids.{GridTold}
 use Rattle.entries.specs.Records.{noGrid, tuGridRead, longEnough}
+use Rattle.entries.proofs.Done.{grid-left}
 
 -- ---- before the grid: too few settings, and enough
 
@@ -42,20 +45,20 @@ enough n m a h = go-on _ _ _ (unless-good _ _ (is-le n m h)) refl
 
 -- ---- what C is told is what it is told where its leaves are numbers
 
-module _ (settings : List ℤ) (leaves skips : List ℕ) (g : Marks) where
+module _ (settings : List ℤ) (leaves skips : List ℕ) (g : Marks) (k : List ℕ) where
   -- a grid of no cells is refused, whatever the leaves
-  none-refused : Refused Size ≡ txGridCheck noGrid leaves skips g
+  none-refused : Refused Size ≡ txGridCheck noGrid leaves skips g k
   unfolding txGridCheck cellsOk both inRange
   none-refused = stop _ _ (unless-bad _ _ refl)
 
-  module _ (s : TuGrid) {a : Answer} {m : Marks} {p q : List ℕ} {z : ℤ} (built : (a ≡ txGridCheck s leaves skips g) × (m ≡ txGridAfter s leaves skips g)) (t : Told (longEnough 6 (length settings) a) p z q) where
+  module _ (s : TuGrid) {a : Answer} {m : Marks} {n p q : List ℕ} {z : ℤ} (built : Stated s leaves skips g k a m n) (t : Told (longEnough 6 (length settings) a) p z q) where
     abbrev Reports : Type 0
-    Reports = Reported (listed 6 settings (txGridCheck (tuGridOf settings) leaves skips g)) g (txGridOf (tuGridOf settings) leaves skips g) p z m q
+    Reports = GridTold settings leaves skips g k p z m n q
 
     by-length : (b : Bool) → leb 6 (length settings) ≡ b → s ≡ pick b (tuGridOf settings) noGrid → Reports
-    unfolding pick listed longEnough txGridAfter orElse unless settle
-    by-length true l e = rw l (record { told = rw (l, built .0, e) at t; left-is = rw e at (built .1) })
-    by-length false l e = rw l (record { told = rw l at t; left-is = rw (e, ← none-refused) at (built .1) })
+    unfolding pick listed longEnough orElse unless settle
+    by-length true l e = rw l (record { told = rw (l, built .answer, e) at t; left-is = rw e at (grid-left leaves skips g k built) })
+    by-length false l e = rw l (record { told = rw l at t; left-is = rw (e, ← none-refused) at (grid-left leaves skips g k built) })
 
     pub records-told : s ≡ tuGridRead settings → Reports
     unfolding tuGridRead

@@ -1,6 +1,6 @@
 -- Two results that an entry's statement allows are equal.
 -- Assumes nothing.
-use mathlib.Core.Path.{_≡_, sym, _∙_}
+use mathlib.Core.Path.{_≡_, sym, ap, _∙_}
 use mathlib.Core.List.{List}
 use Prim.Native.Nat.{ℕ}
 use lib.IntN.{ℤ}
@@ -8,20 +8,25 @@ use Rattle.rules.specs.declared.refusals.Answer.{Answer}
 use Rattle.rules.specs.declared.refusals.PlaneAnswer.{PlaneAnswer}
 use Rattle.rules.specs.declared.refusals.RecordAnswer.{RecordAnswer}
 use Rattle.rules.specs.Plane.{Grid}
-use Rattle.rules.specs.TuGrid.{Marks, txGridCheck, txGridOf}
+use Rattle.rules.specs.TuGrid.{Marks}
 use Rattle.rules.specs.QindexGrid.{qGridCheck, qGridOf}
 use Rattle.rules.specs.Ccso.{ccsoCheck, ccsoOf}
 use Rattle.answers.specs.Told.{listed, Handed}
 use Rattle.answers.proofs.Unique.{handed-unique, filtered-unique}
-use Rattle.numbers.specs.Settings.{tuGridOf, qindexGridOf, offsetsOf}
+use Rattle.numbers.specs.Settings.{qindexGridOf, offsetsOf}
 use Rattle.entries.specs.Planes.{PlaneHanded, ReplayHanded, RecordHanded}
+use Rattle.entries.specs.Grids.{GridHanded}
+use Rattle.entries.specs.Rectangles.{RectangleHanded}
 
 module _ {a b : Answer} (settings : List ℤ) where
-  pub build-unique : (leaves skips : List ℕ) (g : Marks) {m n : Marks}
-      → Handed (listed 6 settings (txGridCheck (tuGridOf settings) leaves skips g)) g (txGridOf (tuGridOf settings) leaves skips g) a m
-      → Handed (listed 6 settings (txGridCheck (tuGridOf settings) leaves skips g)) g (txGridOf (tuGridOf settings) leaves skips g) b n
-      → (a ≡ b) × (m ≡ n)
-  build-unique leaves skips g = handed-unique
+  pub build-unique : (leaves skips : List ℕ) (g : Marks) (k : List ℕ) {m n : Marks} {x y : List ℕ} → GridHanded settings leaves skips g k a m x → GridHanded settings leaves skips g k b n y
+      → (a ≡ b) × (m ≡ n) × (x ≡ y)
+  build-unique leaves skips g k t u =
+      let e = handed-unique t u in
+      (e .0, ap (λ (p : Marks × List ℕ). p .0) (e .1), ap (λ (p : Marks × List ℕ). p .1) (e .1))
+
+  pub mark-unique : (k : List ℕ) {m n : List ℕ} → RectangleHanded settings k a m → RectangleHanded settings k b n → (a ≡ b) × (m ≡ n)
+  mark-unique k = handed-unique
 
   pub fill-unique : (sbq q : List ℕ) {m n : List ℕ}
       → Handed (listed 5 settings (qGridCheck (qindexGridOf settings) sbq q)) q (qGridOf (qindexGridOf settings) sbq q) a m
@@ -40,9 +45,9 @@ module _ (settings : List ℤ) {a b : PlaneAnswer} where
       → (a .answer ≡ b .answer) × (m ≡ n) × (a .stored ≡ b .stored) × (a .changed ≡ b .changed)
   deblock-unique steps l g = filtered-unique
 
-  pub run-again-unique : (bytes l : List ℕ) {m n : List ℕ} → ReplayHanded settings bytes l a m → ReplayHanded settings bytes l b n
+  pub run-again-unique : (bytes keep l : List ℕ) {m n : List ℕ} → ReplayHanded settings bytes keep l a m → ReplayHanded settings bytes keep l b n
       → (a .answer ≡ b .answer) × (m ≡ n) × (a .stored ≡ b .stored) × (a .changed ≡ b .changed)
-  run-again-unique bytes l = filtered-unique
+  run-again-unique bytes keep l = filtered-unique
 
 pub record-unique : {settings : List ℤ} {steps : List ℕ} {g : Grid} {l b : List ℕ} {x y : RecordAnswer} {m n c d : List ℕ}
     → RecordHanded settings steps g l b x m c

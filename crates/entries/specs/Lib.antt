@@ -1,2 +1,4 @@
 pub mod Planes
+pub mod Grids
 pub mod Records
+pub mod Rectangles

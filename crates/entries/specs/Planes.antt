@@ -12,6 +12,7 @@ use Rattle.rules.specs.declared.refusals.PlaneAnswer.{PlaneAnswer}
 use Rattle.rules.specs.declared.refusals.RecordAnswer.{RecordAnswer}
 use Rattle.rules.specs.Numbers.{depthOk, topOf}
 use Rattle.rules.specs.Refusals.{orElse, unless, settle}
+use Rattle.rules.specs.Segment.{keptIn}
 use Rattle.rules.specs.Counts.{storedBy, changedBy}
 use Rattle.rules.specs.Plane.{Grid, edgesOf, planeCheck, runPlane, runStored, runChanged}
 use Rattle.rules.specs.Record.{edgesIn, recordOf, bufferAfter, recordedCheck, answerBytes}
@@ -82,21 +83,22 @@ pub record RecordTold (settings : List ℤ) (steps : List ℕ) (g : Grid) (l b p
 -- ---- ticket 2: a record that is run again
 
 -- ticket 4: its stored and changed samples, in the machine's word
-abbrev pub replayCounts : List ℤ → List ℕ → List ℕ → ℕ × ℕ
-replayCounts settings bytes l =
+abbrev pub replayCounts : List ℤ → List ℕ → List ℕ → List ℕ → ℕ × ℕ
+replayCounts settings bytes keep l =
     let s = replaySettings settings in
-    (inWord (storedBy (topOf (s .depth)) (s .stride) (edgesIn bytes) l), inWord (changedBy (topOf (s .depth)) (s .stride) (edgesIn bytes) l))
+    let kept = keptIn (s .cols) (s .stride) keep in
+    (inWord (storedBy (topOf (s .depth)) (s .stride) kept (edgesIn bytes) l), inWord (changedBy (topOf (s .depth)) (s .stride) kept (edgesIn bytes) l))
 
 -- what is handed back: the answer a and the plane m
-abbrev pub ReplayHanded : List ℤ → List ℕ → List ℕ → PlaneAnswer → List ℕ → Type 0
-ReplayHanded settings bytes l a m =
+abbrev pub ReplayHanded : List ℤ → List ℕ → List ℕ → List ℕ → PlaneAnswer → List ℕ → Type 0
+ReplayHanded settings bytes keep l a m =
     let s = replaySettings settings in
-    let k = replayCounts settings bytes l in
-    Filtered (listed 4 settings (replayCheck s bytes l)) l (replayOf s bytes l) (k .0) (k .1) a m
+    let k = replayCounts settings bytes keep l in
+    Filtered (listed 4 settings (replayCheck s bytes keep l)) l (replayOf s bytes keep l) (k .0) (k .1) a m
 
 -- the same told to C
-abbrev pub ReplayTold : List ℤ → List ℕ → List ℕ → List ℕ → List ℕ → ℤ → List ℕ → List ℕ → List ℕ → Type 0
-ReplayTold settings bytes l place counts n m placed tally =
+abbrev pub ReplayTold : List ℤ → List ℕ → List ℕ → List ℕ → List ℕ → List ℕ → ℤ → List ℕ → List ℕ → List ℕ → Type 0
+ReplayTold settings bytes keep l place counts n m placed tally =
     let s = replaySettings settings in
-    let k = replayCounts settings bytes l in
-    FilterTold (listed 4 settings (replayCheck s bytes l)) l (replayOf s bytes l) (k .0) (k .1) place counts n m placed tally
+    let k = replayCounts settings bytes keep l in
+    FilterTold (listed 4 settings (replayCheck s bytes keep l)) l (replayOf s bytes keep l) (k .0) (k .1) place counts n m placed tally

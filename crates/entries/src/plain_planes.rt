@@ -4,7 +4,7 @@ use numbers::plane_of;
 use plain::deblock_plane_plain;
 use rules::refusals::Answer;
 use rules::refusals::PlaneAnswer;
-ghost use Rattle.rules.specs.Plane.{tiled};
+ghost use Rattle.rules.specs.Plane.{keeping};
 ghost use Rattle.entries.specs.Planes.{PlaneHanded};
 
 // Deblocks a plane in the plain order, and answers as `deblock` does.
@@ -16,10 +16,17 @@ pub fn deblock_plain(
     sqh: &[u8],
     qindex: &[u16],
     tiles: &[u16],
+    keep: &[u8],
     steps: &[u32],
     settings: &[i32],
 ) -> PlaneAnswer
-    ensures { λ a. ⌜ PlaneHanded (now (settings .entry)) (now (steps .entry)) (tiled (now (vedge .entry)) (now (hedge .entry)) (now (sqw .entry)) (now (sqh .entry)) (now (qindex .entry)) (now (tiles .entry))) (now (plane .entry)) a (now (plane .exit)) ⌝ }
+    ensures { λ a. ⌜ PlaneHanded
+        (now (settings .entry))
+        (now (steps .entry))
+        (keeping (now (vedge .entry)) (now (hedge .entry)) (now (sqw .entry)) (now (sqh .entry)) (now (qindex .entry)) (now (tiles .entry)) (now (keep .entry)))
+        (now (plane .entry))
+        a
+        (now (plane .exit)) ⌝ }
 {
     let a = list_check(settings);
     if let Answer::Refused(r) = a {
@@ -30,5 +37,5 @@ pub fn deblock_plain(
         };
     }
     let s = plane_of(settings);
-    deblock_plane_plain(plane, vedge, hedge, sqw, sqh, qindex, tiles, steps, s)
+    deblock_plane_plain(plane, vedge, hedge, sqw, sqh, qindex, tiles, keep, steps, s)
 }

@@ -7,7 +7,7 @@ use rules::refusals::Answer;
 use rules::refusals::PlaneAnswer;
 use rules::refusals::Refusal;
 ghost use mathlib.Core.Path.{_≡_};
-ghost use Rattle.rules.specs.Plane.{tiled};
+ghost use Rattle.rules.specs.Plane.{keeping};
 ghost use Rattle.entries.specs.Planes.{listCheck, PlaneHanded};
 
 // The first refusal that the list of settings itself gives: too few numbers, and a flag that is none after the depth.
@@ -35,10 +35,17 @@ pub fn deblock(
     sqh: &[u8],
     qindex: &[u16],
     tiles: &[u16],
+    keep: &[u8],
     steps: &[u32],
     settings: &[i32],
 ) -> PlaneAnswer
-    ensures { λ a. ⌜ PlaneHanded (now (settings .entry)) (now (steps .entry)) (tiled (now (vedge .entry)) (now (hedge .entry)) (now (sqw .entry)) (now (sqh .entry)) (now (qindex .entry)) (now (tiles .entry))) (now (plane .entry)) a (now (plane .exit)) ⌝ }
+    ensures { λ a. ⌜ PlaneHanded
+        (now (settings .entry))
+        (now (steps .entry))
+        (keeping (now (vedge .entry)) (now (hedge .entry)) (now (sqw .entry)) (now (sqh .entry)) (now (qindex .entry)) (now (tiles .entry)) (now (keep .entry)))
+        (now (plane .entry))
+        a
+        (now (plane .exit)) ⌝ }
 {
     let a = list_check(settings);
     if let Answer::Refused(r) = a {
@@ -49,5 +56,5 @@ pub fn deblock(
         };
     }
     let s = plane_of(settings);
-    deblock_plane(plane, vedge, hedge, sqw, sqh, qindex, tiles, steps, s)
+    deblock_plane(plane, vedge, hedge, sqw, sqh, qindex, tiles, keep, steps, s)
 }

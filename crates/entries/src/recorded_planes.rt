@@ -5,7 +5,7 @@ use recorded::record_plane;
 use rules::refusals::Answer;
 use rules::refusals::RecordAnswer;
 use rules::refusals::Recorded;
-ghost use Rattle.rules.specs.Plane.{tiled};
+ghost use Rattle.rules.specs.Plane.{keeping};
 ghost use Rattle.entries.specs.Planes.{RecordHanded};
 
 // Deblocks a plane, writes the record of its edges and tells how many samples were stored and changed; or refuses, leaves both as lent and tells of none.
@@ -18,10 +18,19 @@ pub fn write_record(
     sqh: &[u8],
     qindex: &[u16],
     tiles: &[u16],
+    keep: &[u8],
     steps: &[u32],
     settings: &[i32],
 ) -> RecordAnswer
-    ensures { λ a. ⌜ RecordHanded (now (settings .entry)) (now (steps .entry)) (tiled (now (vedge .entry)) (now (hedge .entry)) (now (sqw .entry)) (now (sqh .entry)) (now (qindex .entry)) (now (tiles .entry))) (now (plane .entry)) (now (buffer .entry)) a (now (plane .exit)) (now (buffer .exit)) ⌝ }
+    ensures { λ a. ⌜ RecordHanded
+        (now (settings .entry))
+        (now (steps .entry))
+        (keeping (now (vedge .entry)) (now (hedge .entry)) (now (sqw .entry)) (now (sqh .entry)) (now (qindex .entry)) (now (tiles .entry)) (now (keep .entry)))
+        (now (plane .entry))
+        (now (buffer .entry))
+        a
+        (now (plane .exit))
+        (now (buffer .exit)) ⌝ }
 {
     let a = list_check(settings);
     if let Answer::Refused(r) = a {
@@ -41,6 +50,7 @@ pub fn write_record(
         sqh,
         qindex,
         tiles,
+        keep,
         steps,
         s,
     )

@@ -7,8 +7,8 @@ use rules::refusals::Refusal;
 ghost use Rattle.entries.specs.Planes.{ReplayHanded};
 
 // Runs the record's edges on the plane and tells how many samples were stored and changed; or refuses, leaves it as lent and tells of none.
-pub fn run_again(plane: &mut [u16], bytes: &[u8], settings: &[i32]) -> PlaneAnswer
-    ensures { λ a. ⌜ ReplayHanded (now (settings .entry)) (now (bytes .entry)) (now (plane .entry)) a (now (plane .exit)) ⌝ }
+pub fn run_again(plane: &mut [u16], bytes: &[u8], keep: &[u8], settings: &[i32]) -> PlaneAnswer
+    ensures { λ a. ⌜ ReplayHanded (now (settings .entry)) (now (bytes .entry)) (now (keep .entry)) (now (plane .entry)) a (now (plane .exit)) ⌝ }
 {
     if settings.len() < 4 {
         return PlaneAnswer {
@@ -18,5 +18,5 @@ pub fn run_again(plane: &mut [u16], bytes: &[u8], settings: &[i32]) -> PlaneAnsw
         };
     }
     let s = replay_of(settings);
-    replay_plane(plane, bytes, s)
+    replay_plane(plane, bytes, keep, s)
 }

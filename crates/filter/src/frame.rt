@@ -120,6 +120,8 @@ fn work(
     flags: &[u8],
     offsets: &[i8],
     places: &[usize],
+    keep: &[u8],
+    chromakeep: &[u8],
     text: &[u8],
 ) -> Done
     requires { ⌜ Shaped j × Lent (length (now numbers)) (length (now shorts)) (length (now steps)) (length (now flags)) (length (now offsets)) (length (now places)) ⌝ }
@@ -139,6 +141,8 @@ fn work(
         flags,
         offsets,
         places,
+        keep,
+        chromakeep,
         text,
     );
     if !t.good {
@@ -164,6 +168,8 @@ pub fn next(
     flags: &[u8],
     offsets: &[i8],
     places: &[usize],
+    keep: &[u8],
+    chromakeep: &[u8],
     text: &[u8],
 ) -> Done
     requires { ⌜ Shaped j × Lent (length (now numbers)) (length (now shorts)) (length (now steps)) (length (now flags)) (length (now offsets)) (length (now places)) ⌝ }
@@ -191,6 +197,8 @@ pub fn next(
         flags,
         offsets,
         places,
+        keep,
+        chromakeep,
         text,
     )
 }

@@ -5,9 +5,6 @@
 // The answer.
 mod say;
 
-// The settings' file.
-mod load;
-
 // The filters over the planes.
 mod treat;
 

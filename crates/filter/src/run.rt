@@ -5,9 +5,10 @@ ghost use Rattle.streams.specs.Shaped.{Shaped};
 ghost use Rattle.filter.specs.Lent.{Lent};
 use crate::frame;
 use crate::frame::Told;
-use crate::load::take;
 use crate::say;
 use crate::treat::inside;
+use asked::kept::large_marks;
+use asked::kept::small_marks;
 use pictures::defaults;
 use pictures::files;
 use pictures::planes;
@@ -16,10 +17,13 @@ use pictures::shapes::luma_of;
 use settings::names::first_places;
 use streams::changes;
 use streams::job::Job;
+use streams::kept::mark;
 use streams::open::open;
 use streams::open::small;
 use streams::say::cannot;
 use streams::say::unwritten;
+use streams::take::read_on;
+use streams::take::take;
 use y4m::header::Header;
 
 // The answer after the last frame, by whether OUT could be closed; none where a frame was bad, which was answered.
@@ -50,6 +54,8 @@ fn frames(
     flags: &[u8],
     offsets: &[i8],
     places: &[usize],
+    keep: &[u8],
+    chromakeep: &[u8],
     text: &[u8],
 )
     requires { ⌜ Shaped j × Lent (length (now numbers)) (length (now shorts)) (length (now steps)) (length (now flags)) (length (now offsets)) (length (now places)) ⌝ }
@@ -75,6 +81,8 @@ fn frames(
             flags,
             offsets,
             places,
+            keep,
+            chromakeep,
             text,
         );
         if !d.more {
@@ -104,15 +112,18 @@ fn sized(
     steps: &[u32],
     flags: &[u8],
     offsets: &[i8],
-    places: &mut [usize; 23],
+    places: &mut [usize; 24],
+    keep: &mut [u8],
+    chromakeep: &mut [u8],
     text: &[u8],
 )
-    requires { ⌜ (24576 ≤ length (now shorts)) × Lent (length (now numbers)) (length (now shorts)) (length (now steps)) (length (now flags)) (length (now offsets)) 23 ⌝ }
+    requires { ⌜ (24576 ≤ length (now shorts)) × Lent (length (now numbers)) (length (now shorts)) (length (now steps)) (length (now flags)) (length (now offsets)) 24 ⌝ }
 {
     let l = luma_of(h);
     let c = chroma_of(h);
     defaults::complete(shorts, places, l.width, l.height);
     if inside(settings, text, shorts, places, l) {
+        mark(keep, chromakeep, shorts, places, h, l, c);
         let j = Job {
             from: fd,
             to: files::open_out(out),
@@ -135,6 +146,8 @@ fn sized(
             flags,
             offsets,
             places,
+            keep,
+            chromakeep,
             text,
         );
     }
@@ -155,6 +168,8 @@ fn told(
     h: Header,
     text: &[u8],
     shorts: &mut [u16],
+    keep: &mut [u8],
+    chromakeep: &mut [u8],
 )
     requires { ⌜ 24576 ≤ length (now shorts) ⌝ }
 {
@@ -191,6 +206,8 @@ fn told(
             &flags,
             &offsets,
             &mut places,
+            keep,
+            chromakeep,
             text,
         );
     }
@@ -204,6 +221,8 @@ fn light(name: &[u8], settings: &[u8], out: &[u8], fd: i32, head: &[u8], h: Head
     let mut v = planes::small_room();
     let mut was = changes::small_room();
     let mut luma = planes::small_room();
+    let mut keep = small_marks();
+    let mut chromakeep = small_marks();
     told(
         &mut y,
         &mut u,
@@ -218,16 +237,9 @@ fn light(name: &[u8], settings: &[u8], out: &[u8], fd: i32, head: &[u8], h: Head
         h,
         text,
         &mut shorts,
+        &mut keep,
+        &mut chromakeep,
     );
-}
-
-// A text whose front was read, and the rest of it from its file; how long it is.
-fn read_on(file: i32, front: &[u8], text: &mut [u8]) -> usize
-    requires { ⌜ length (now front) ≤ length (now text) ⌝ }
-    ensures { λ r. ⌜ r ≤ length (now (text .exit)) ⌝ }
-{
-    let m = bytes::copy(front, text);
-    m + io::read_full(file, &mut text[m..])
 }
 
 // Any picture, by a text of which the front was read.
@@ -255,6 +267,8 @@ fn heavy(
     let mut v = planes::large_room();
     let mut was = changes::large_room();
     let mut luma = planes::large_room();
+    let mut keep = large_marks();
+    let mut chromakeep = large_marks();
     told(
         &mut y,
         &mut u,
@@ -269,6 +283,8 @@ fn heavy(
         h,
         &text[..n],
         &mut shorts,
+        &mut keep,
+        &mut chromakeep,
     );
 }
 

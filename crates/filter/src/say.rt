@@ -1,15 +1,13 @@
 // The answer on standard output: the outcome as one byte (0 filtered, 1 refused, 2 a bad file, 3 not written), which stands before any name, and then a line.
-ghost use Prim.Native.Nat.{_≤_};
-ghost use lib.ListN.{length};
 use crate::frame::Told;
 use asked::places::Place;
 use rules::counts::Counts;
 use rules::refusals::Refusal;
-use streams::say::at_line;
 use streams::say::frames_of;
 use streams::say::number;
 use streams::say::words;
-use words::place::line_end;
+use streams::table::entry;
+use streams::take::setting;
 use y4m::header::Header;
 
 pub fn usage() {
@@ -19,121 +17,6 @@ pub fn usage() {
 // How many frames are done, on a terminal.
 pub fn count(k: usize, shown: bool) {
     streams::say::count(b"filtered", k, shown);
-}
-
-// A line that begins with an unknown name.
-pub fn unknown(name: &[u8], line: usize, word: &[u8]) {
-    at_line(name, line);
-    words(b"the name of a setting, and not '");
-    words(word);
-    words(b"'\n");
-}
-
-// The place after the line that begins at a place of a table.
-fn after_line(table: &[u8], at: usize) -> usize
-    requires { ⌜ at ≤ length (now table) ⌝ }
-    ensures { λ r. ⌜ r ≤ length (now (table .entry)) ⌝ }
-{
-    let n = table.len();
-    let end = line_end(table, at, n);
-    if end < n { end + 1 } else { n }
-}
-
-// Where line k of a table begins, counted from 0.
-fn start_of(table: &[u8], k: usize) -> usize
-    ensures { λ r. ⌜ r ≤ length (now (table .entry)) ⌝ }
-{
-    let mut at: usize = 0;
-    let mut left = k;
-    while 0 < left {
-        at = after_line(table, at);
-        left -= 1;
-    }
-    at
-}
-
-// Line k of a table, counted from 0.
-fn entry(table: &[u8], k: usize) {
-    let at = start_of(table, k);
-    let end = line_end(table, at, table.len());
-    words(&table[at..end]);
-}
-
-// A setting by its name.
-fn setting(kind: usize) {
-    entry(
-        b"
-settings
-qindex
-steps
-leaf
-leaf_uv
-skip
-delta_y
-delta_uv
-cap_y
-cap_uv
-chroma
-ccso_y
-ccso_u
-ccso_v
-flags_y
-flags_u
-flags_v
-offset_y
-offset_u
-offset_v
-tiles_y
-tiles_uv",
-        kind,
-    );
-}
-
-// Which numbers a setting has: a line of the table of `numbers`.
-fn sort_of(kind: usize) -> usize {
-    match kind {
-        2 => 0,
-        3 => 1,
-        4 | 5 | 6 => 2,
-        7 | 8 => 3,
-        9 | 10 => 4,
-        11 => 5,
-        12 | 13 | 14 => 6,
-        15 | 16 | 17 => 7,
-        21 | 22 => 9,
-        _ => 8,
-    }
-}
-
-// The numbers of a setting.
-fn numbers(kind: usize) {
-    entry(
-        b"numbers from 0 to 65535, one for each superblock, 4096 at most
-numbers from 0 to 4294967295, 352 at most
-four numbers: row, column, width, height, in cells; 1048576 leaves at most
-one number
-two numbers: width, height, in cells
-0 or 1
-eleven numbers, without which its plane's offsets say nothing
-flags, 0 or 1, 4096 at most
-offsets from -10 to 7, 128 at most
-numbers from 0 to 65535, one for each column of cells that starts a tile, 1023 at most",
-        sort_of(kind),
-    );
-}
-
-// What the settings file should have said.
-pub fn expected_setting(name: &[u8], line: usize, kind: usize) {
-    at_line(name, line);
-    words(b"'");
-    setting(kind);
-    if kind == 1 {
-        words(b" 1' before any other setting\n");
-        return;
-    }
-    words(b"' and ");
-    numbers(kind);
-    words(b"\n");
 }
 
 // Where leaves should begin.

@@ -48,7 +48,7 @@ fn list_inside(name: &[u8], text: &[u8], kind: usize, leaves: &[u16], s: Shape) 
 
 // Whether every leaf begins in the picture; else after the answer.
 pub fn inside(name: &[u8], text: &[u8], shorts: &[u16], places: &[usize], s: Shape) -> bool
-    requires { ⌜ (6142 ≤ length (now shorts)) × (23 ≤ length (now places)) ⌝ }
+    requires { ⌜ (22526 ≤ length (now shorts)) × (24 ≤ length (now places)) ⌝ }
 {
     let at = lists_of(places, shorts.len());
     let a = at.leaves;
@@ -68,7 +68,7 @@ pub fn inside(name: &[u8], text: &[u8], shorts: &[u16], places: &[usize], s: Sha
 
 // Whether luma's tile starts are good.
 fn starts_good(shorts: &[u16], places: &[usize], f: Frame) -> bool
-    requires { ⌜ (6142 ≤ length (now shorts)) × (23 ≤ length (now places)) ⌝ }
+    requires { ⌜ (22526 ≤ length (now shorts)) × (24 ≤ length (now places)) ⌝ }
 {
     let at = lists_of(places, shorts.len());
     let a = at.tiles;
@@ -107,7 +107,7 @@ fn ccso_kind(plane: usize) -> usize {
 
 // The answer on a setting outside its range, by its kind.
 fn say_setting(kind: usize, f: Frame, text: &[u8]) {
-    let mut lines = [0usize; 23];
+    let mut lines = [0usize; 24];
     lines_of(text, &mut lines);
     if kind < 21 {
         say::out_of_range(kind, lines[kind]);
@@ -215,13 +215,15 @@ pub fn treat(
     flags: &[u8],
     offsets: &[i8],
     places: &[usize],
+    keep: &[u8],
+    chromakeep: &[u8],
     text: &[u8],
 ) -> Treated
     requires { ⌜ Shaped j × Lent (length (now numbers)) (length (now shorts)) (length (now steps)) (length (now flags)) (length (now offsets)) (length (now places)) ⌝ }
 {
     let f = frame_by(j, numbers);
     let plain = plain_asked();
-    let o = deblock_asked(y, u, v, shorts, steps, places, f, plain);
+    let o = deblock_asked(y, u, v, shorts, steps, keep, chromakeep, places, f, plain);
     let counts = Counts {
         stored: o.stored,
         changed: o.changed,

@@ -11,16 +11,17 @@ use lib.Dec.{leb}
 use Rattle.laws.specs.Choose.{both, all, both-parts, all-parts}
 use Rattle.rules.specs.declared.settings.Frame.{Frame}
 use Rattle.rules.specs.declared.settings.Plane.{Plane}
-use Rattle.rules.specs.declared.refusals.Refusal.the-variants.{Depth, Length, Setting, Leaf}
+use Rattle.rules.specs.declared.refusals.Refusal.the-variants.{Depth, Length, Setting, Cell, Leaf}
 use Rattle.rules.specs.declared.refusals.Answer.the-variants.{Accepted}
+use Rattle.rules.specs.declared.refusals.Found.the-variants.{Nothing}
 use Rattle.rules.specs.Numbers.{depthOk, deltaOk}
 use Rattle.rules.specs.Refusals.{unless, onlyIf, found}
 use Rattle.rules.specs.Thresholds.{stepsCheck}
 use Rattle.rules.specs.declared.lent.GridLengths.{GridLengths}
 use Rattle.rules.specs.declared.lent.FrameLengths.{FrameLengths}
-use Rattle.rules.specs.Plane.{tilesCheck}
+use Rattle.rules.specs.Plane.{tilesCheck, badKeep}
 use Rattle.rules.specs.TuGrid.{capOk, foursOk}
-use Rattle.rules.specs.Frame.{Given, lumaPlane, chromaPlane, lumaTu, chromaTu, lumaQ, chromaQ, superblocks, chromaOn, samplesLong, gridLong, lumaLong, chromaLong, givenLong, frameSizes, frameLengths, frameShape, frameSettings, frameTiles, frameLeaves, frameGiven, frameEarly}
+use Rattle.rules.specs.Frame.{Given, lumaPlane, chromaPlane, lumaTu, chromaTu, lumaQ, chromaQ, superblocks, chromaOn, samplesLong, gridLong, lumaLong, chromaLong, givenLong, frameSizes, frameLengths, frameShape, frameSettings, frameTiles, frameLeaves, frameGiven, frameKeep, frameEarly}
 use Rattle.scan.proofs.Checks.{else-parts, unless-true, found-nothing, only-part}
 use Rattle.tiles.specs.Fit.{AllGood}
 use Rattle.tiles.proofs.Checked.{by-cap, all-good}
@@ -42,6 +43,7 @@ record Lists (n : ℕ) (g : GridLengths) : Type 0 where
   pub sqw : n ≤ g .sqw
   pub sqh : n ≤ g .sqh
   pub qindex : n ≤ g .qindex
+  pub keep : n ≤ g .keep
 
 lists : (s : Plane) (g : GridLengths) → gridLong s g ≡ true → Lists (s .rows * s .cols) g
 unfolding gridLong
@@ -51,7 +53,8 @@ lists s g e =
     let p3 = all-parts _ _ (p2 .1) in
     let p4 = all-parts _ _ (p3 .1) in
     let p5 = all-parts _ _ (p4 .1) in
-    record { vedge = leb-true _ _ (p1 .0); hedge = leb-true _ _ (p2 .0); sqw = leb-true _ _ (p3 .0); sqh = leb-true _ _ (p4 .0); qindex = leb-true _ _ (p5 .0) }
+    let p6 = all-parts _ _ (p5 .1) in
+    record { vedge = leb-true _ _ (p1 .0); hedge = leb-true _ _ (p2 .0); sqw = leb-true _ _ (p3 .0); sqh = leb-true _ _ (p4 .0); qindex = leb-true _ _ (p5 .0); keep = leb-true _ _ (p6 .0) }
 
 module _ (f : Frame) (leaves skips : List ℕ) (count : ℕ) (g : GridLengths) (z : Sized f) (a : AllGood leaves) (b : AllGood skips) (some : 1 ≤ count) where
   luma-buildable : Sizes (lumaPlane f) → capOk (f .capw) ≡ true → capOk (f .caph) ≡ true → Lists (lumaPlane f .rows * lumaPlane f .cols) g → Buildable f false leaves skips count (g .vedge) (g .hedge) (g .sqw) (g .sqh) (g .qindex)
@@ -99,9 +102,9 @@ settings f e =
     let p6 = all-parts _ _ (p5 .1) in
     record { deltay = p1 .0; capw = p2 .0; caph = p3 .0; deltauv = p4 .0; ccapw = p5 .0; ccaph = p6 .0 }
 
--- ---- a frame whose early checks accept, by the lengths k of its lists and the tile starts
+-- ---- a frame whose early checks accept, by the lengths k of its lists, the tile starts and the keep marks
 
-module _ (f : Frame) (k : FrameLengths) (ltiles ctiles : List ℕ) (n : Given) (ok : frameEarly f k ltiles ctiles n ≡ Accepted) where
+module _ (f : Frame) (k : FrameLengths) (ltiles ctiles lkeep ckeep : List ℕ) (n : Given) (ok : frameEarly f k ltiles ctiles lkeep ckeep n ≡ Accepted) where
   shape : (unless (depthOk (f .depth)) Depth ≡ Accepted) × (frameSizes f ≡ Accepted) × (frameLengths f k ≡ Accepted)
   unfolding frameEarly frameShape
   shape =
@@ -112,10 +115,14 @@ module _ (f : Frame) (k : FrameLengths) (ltiles ctiles : List ℕ) (n : Given) (
   rest : (stepsCheck (n .steps) ≡ Accepted) × (frameSettings f ≡ Accepted) × (frameTiles f ltiles ctiles ≡ Accepted) × (frameLeaves n ≡ Accepted)
   unfolding frameEarly frameGiven
   rest =
-      let e1 = else-parts _ _ (else-parts _ _ ok .1) in
+      let e1 = else-parts _ _ (else-parts _ _ (else-parts _ _ ok .1) .0) in
       let e2 = else-parts _ _ (e1 .1) in
       let e3 = else-parts _ _ (e2 .1) in
       (e1 .0, e2 .0, e3 .0, e3 .1)
+
+  marks : frameKeep f lkeep ckeep ≡ Accepted
+  unfolding frameEarly
+  marks = else-parts _ _ (else-parts _ _ ok .1) .1
 
   pub early-sized : Sized f
   early-sized = frame-sized f (shape .1)
@@ -162,6 +169,11 @@ module _ (f : Frame) (k : FrameLengths) (ltiles ctiles : List ℕ) (n : Given) (
   unfolding frameTiles
   luma-starts = else-parts _ _ (rest .2) .0
 
+  -- ticket 7: the lent marks are tested before the grids are built, and there is one for each cell
+  pub luma-marks : (lumaPlane f .rows * lumaPlane f .cols ≤ k .luma .keep) × (badKeep (lumaPlane f .rows * lumaPlane f .cols) lkeep ≡ Nothing)
+  unfolding frameKeep
+  luma-marks = (lists _ _ (luma-long .1) .keep, found-nothing _ Cell (else-parts _ _ marks .0))
+
   luma-deep : depthOk (lumaPlane f .depth) ≡ true
   unfolding lumaPlane
   luma-deep = deep
@@ -183,6 +195,10 @@ module _ (f : Frame) (k : FrameLengths) (ltiles ctiles : List ℕ) (n : Given) (
     pub chroma-starts : tilesCheck (chromaPlane f .cols) ctiles ≡ Accepted
     unfolding frameTiles
     chroma-starts = only-part _ _ (else-parts _ _ (rest .2) .1) on
+
+    pub chroma-marks : (chromaPlane f .rows * chromaPlane f .cols ≤ k .chroma .keep) × (badKeep (chromaPlane f .rows * chromaPlane f .cols) ckeep ≡ Nothing)
+    unfolding frameKeep
+    chroma-marks = (lists _ _ (chroma-long on .2) .keep, found-nothing _ Cell (only-part _ _ (else-parts _ _ marks .1) on))
 
     pub u-sampled : Sampled f true (k .u)
     u-sampled = record { sized = early-sized; depth = chroma-deep; sizes-ok = chroma-sizes f (shape .1) on; plane-long = leb-true _ _ (chroma-long on .0) }

@@ -72,9 +72,9 @@ module _ (f : Frame) (steps : List ℕ) (l c : Grid) (p : Planes) {a : Answer} (
 
 -- ---- the ways out of the entry
 
-module _ (f : Frame) (n : Given) (p : Planes) (l c : Grid) {a : Answer} {x y : GridLengths} (luma-long : x ≡ gridLengths l) (chroma-long : y ≡ gridLengths c) (by-lengths : a ≡ frameEarly f (lengthsFor n p x y) (l .tiles) (c .tiles) n) where
-  is : a ≡ frameEarly f (lengthsOf n (lent p (grids l c))) (l .tiles) (c .tiles) n
-  is = by-lengths ∙ ap₂ (λ (i j : GridLengths). frameEarly f (lengthsFor n p i j) (l .tiles) (c .tiles) n) luma-long chroma-long
+module _ (f : Frame) (n : Given) (p : Planes) (l c : Grid) {a : Answer} {x y : GridLengths} (luma-long : x ≡ gridLengths l) (chroma-long : y ≡ gridLengths c) (by-lengths : a ≡ frameEarly f (lengthsFor n p x y) (l .tiles) (c .tiles) (l .keep) (c .keep) n) where
+  is : a ≡ frameEarly f (lengthsOf n (lent p (grids l c))) (l .tiles) (c .tiles) (l .keep) (c .keep) n
+  is = by-lengths ∙ ap₂ (λ (i j : GridLengths). frameEarly f (lengthsFor n p i j) (l .tiles) (c .tiles) (l .keep) (c .keep) n) luma-long chroma-long
 
   refused-is : {r : Refusal} → a ≡ Refused r → frameOf f n (lent p (grids l c)) ≡ done (Refused r) (lent p (grids l c))
   unfolding frameOf orDone

@@ -31,8 +31,8 @@ pub record Gridded (f : Frame) (chroma : Bool) (g : Grid) (size : ℕ) : Type 0 
   pub cells : badCell (planeOf f chroma) g ≡ Nothing
 
 -- a grid's lists by their lengths
-abbrev pub lengthsBy : ℕ → ℕ → ℕ → ℕ → ℕ → GridLengths
-lengthsBy v h w t q = record { vedge = v; hedge = h; sqw = w; sqh = t; qindex = q }
+abbrev pub lengthsBy : ℕ → ℕ → ℕ → ℕ → ℕ → ℕ → GridLengths
+lengthsBy v h w t q k = record { vedge = v; hedge = h; sqw = w; sqh = t; qindex = q; keep = k }
 
 -- a frame's lists, luma's and chroma's grid by their lengths
 abbrev pub lengthsFor : Given → Planes → GridLengths → GridLengths → FrameLengths

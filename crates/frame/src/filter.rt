@@ -8,7 +8,7 @@ use rules::settings::Frame;
 ghost use mathlib.Core.Path.{_≡_};
 ghost use mathlib.Core.Bool.{true, false};
 ghost use lib.ListN.{length};
-ghost use Rattle.rules.specs.Plane.{tiled};
+ghost use Rattle.rules.specs.Plane.{keeping};
 ghost use Rattle.rules.specs.Frame.{planes, grids, chromaOn};
 ghost use Rattle.frame.specs.Fit.{Gridded, Stepped};
 ghost use Rattle.frame.specs.Stated.{refusedBy, Finished};
@@ -35,21 +35,27 @@ pub fn filter(
     lt: &[u8],
     lq: &[u16],
     ltiles: &[u16],
+    lkeep: &[u8],
     cv: &[u8],
     ch: &[u8],
     cw: &[u8],
     ct: &[u8],
     cq: &[u16],
     ctiles: &[u16],
+    ckeep: &[u8],
     steps: &[u32],
     f: Frame,
     plain: bool,
 ) -> PlaneAnswer
-    requires { ⌜ Stepped f false (now steps) × Gridded f false (tiled (now lv) (now lh) (now lw) (now lt) (now lq) (now ltiles)) (length (now y)) ⌝ }
-    requires { ⌜ (chromaOn f ≡ true → Stepped f true (now steps) × Gridded f true (tiled (now cv) (now ch) (now cw) (now ct) (now cq) (now ctiles)) (length (now u)) × Gridded f true (tiled (now cv) (now ch) (now cw) (now ct) (now cq) (now ctiles)) (length (now v))) ⌝ }
+    requires { ⌜ Stepped f false (now steps) × Gridded f false (keeping (now lv) (now lh) (now lw) (now lt) (now lq) (now ltiles) (now lkeep)) (length (now y)) ⌝ }
+    requires { ⌜ (chromaOn f ≡ true → Stepped f true (now steps)
+        × Gridded f true (keeping (now cv) (now ch) (now cw) (now ct) (now cq) (now ctiles) (now ckeep)) (length (now u))
+        × Gridded f true (keeping (now cv) (now ch) (now cw) (now ct) (now cq) (now ctiles) (now ckeep)) (length (now v))) ⌝ }
     ensures { λ a. ⌜ Finished f
         (now (steps .entry))
-        (grids (tiled (now (lv .entry)) (now (lh .entry)) (now (lw .entry)) (now (lt .entry)) (now (lq .entry)) (now (ltiles .entry))) (tiled (now (cv .entry)) (now (ch .entry)) (now (cw .entry)) (now (ct .entry)) (now (cq .entry)) (now (ctiles .entry))))
+        (grids
+        (keeping (now (lv .entry)) (now (lh .entry)) (now (lw .entry)) (now (lt .entry)) (now (lq .entry)) (now (ltiles .entry)) (now (lkeep .entry)))
+        (keeping (now (cv .entry)) (now (ch .entry)) (now (cw .entry)) (now (ct .entry)) (now (cq .entry)) (now (ctiles .entry)) (now (ckeep .entry))))
         (planes (now (y .entry)) (now (u .entry)) (now (v .entry)))
         a
         (planes (now (y .exit)) (now (u .exit)) (now (v .exit))) ⌝ }
@@ -68,12 +74,14 @@ pub fn filter(
         lt,
         lq,
         ltiles,
+        lkeep,
         cv,
         ch,
         cw,
         ct,
         cq,
         ctiles,
+        ckeep,
         steps,
         f,
         plain,

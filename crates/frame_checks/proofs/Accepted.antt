@@ -1,27 +1,29 @@
--- What a frame's accepted sizes give: its size in range, and both planes' sizes, chroma's where it is filtered.
+-- What a frame's accepted sizes and lengths give: its size in range, both planes' sizes and a keep mark for each of their cells, chroma's where it is filtered.
 -- Assumes nothing.
 use mathlib.Core.Path.{_≡_, refl, sym, _∙_}
 use mathlib.Core.Bool.{Bool, true, false, not}
 use mathlib.Core.List.{List, [], _∷_}
 use Prim.Native.Nat.{ℕ, _+_, _*_, _≤_, _<_}
 use native.Mathlib.Omega.{arith}
+use borrow.Author.Tests.{leb-true}
 use mir.Val.{Fits}
 use mir.Syntax.{w64}
-use Rattle.laws.specs.Choose.{both, all, all-parts, both-bad, both-ok, told-yes, told-yes-not}
+use Rattle.laws.specs.Choose.{both, all, all-parts, both-parts, both-bad, both-ok, told-yes, told-yes-not}
 use Rattle.rules.specs.declared.settings.Frame.{Frame}
 use Rattle.rules.specs.declared.settings.Plane.{Plane}
+use Rattle.rules.specs.declared.lent.GridLengths.{GridLengths}
 use Rattle.rules.specs.declared.lent.FrameLengths.{FrameLengths}
-use Rattle.rules.specs.declared.refusals.Refusal.the-variants.{Size}
+use Rattle.rules.specs.declared.refusals.Refusal.the-variants.{Size, Length}
 use Rattle.rules.specs.declared.refusals.Answer.{Answer}
 use Rattle.rules.specs.declared.refusals.Answer.the-variants.{Accepted}
 use Rattle.rules.specs.Numbers.{inRange, subsamplingOk}
 use Rattle.rules.specs.Refusals.{unless, onlyIf}
-use Rattle.rules.specs.Frame.{lumaPlane, chromaPlane, chromaOn, strideOk, frameSizes, frameShape}
+use Rattle.rules.specs.Frame.{lumaPlane, chromaPlane, chromaOn, strideOk, gridLong, lumaLong, chromaLong, frameSizes, frameLengths, frameShape}
 use Rattle.scan.proofs.Checks.{else-parts, unless-true, only-part}
 use Rattle.tiles.proofs.Checked.{ssx-most, ssy-most}
 use Rattle.cells.specs.Fit.{Sizes}
 use Rattle.scan.proofs.Ranges.{in-range}
-use Rattle.frame_checks.specs.Settings.{Sized, planeOf}
+use Rattle.frame_checks.specs.Settings.{Sized, KeepLong, planeOf}
 use Rattle.frame_checks.proofs.Ranges.{cells, blocks}
 
 -- the size and the subsampling
@@ -80,10 +82,39 @@ module _ (f : Frame) (ok : frameSizes f ≡ Accepted) where
   unfolding frameSizes
   chroma-sizes on = plane-sizes f true frame-sized (unless-true _ Size (only-part _ _ (else-parts _ _ ok .1) on))
 
--- by the checks 1, 2, 3
-pub shape-sized : (f : Frame) (k : FrameLengths) {a : Answer} → a ≡ frameShape f k → a ≡ Accepted → Sized f
-unfolding frameShape
-shape-sized f k is ok = frame-sized f (else-parts _ _ (else-parts _ _ (sym is ∙ ok) .1) .0)
+-- a grid that is long enough has a keep mark for each cell
+keep-long : (s : Plane) (g : GridLengths) → gridLong s g ≡ true → s .rows * s .cols ≤ g .keep
+unfolding gridLong
+keep-long s g e =
+    let p1 = all-parts _ _ e in
+    let p2 = all-parts _ _ (p1 .1) in
+    let p3 = all-parts _ _ (p2 .1) in
+    let p4 = all-parts _ _ (p3 .1) in
+    let p5 = all-parts _ _ (p4 .1) in
+    leb-true _ _ (all-parts _ _ (p5 .1) .0)
+
+-- by the checks 1, 2, 3, as the code has their answer
+module _ (f : Frame) (k : FrameLengths) {a : Answer} (is : a ≡ frameShape f k) (ok : a ≡ Accepted) where
+  shaped : (frameSizes f ≡ Accepted) × (frameLengths f k ≡ Accepted)
+  unfolding frameShape
+  shaped = else-parts _ _ (else-parts _ _ (sym is ∙ ok) .1)
+
+  pub shape-sized : Sized f
+  shape-sized = frame-sized f (shaped .0)
+
+  -- the keep marks, by their number
+  pub luma-keep : {n : ℕ} → k .luma .keep ≡ n → KeepLong f false n
+  unfolding frameLengths lumaLong
+  luma-keep e =
+      let long = keep-long (lumaPlane f) (k .luma) (both-parts _ _ (unless-true _ Length (else-parts _ _ (shaped .1) .0)) .1) in
+      record { sized = shape-sized; sizes-ok = luma-sizes f (shaped .0); long = rw (← e) long }
+
+  pub chroma-keep : {n : ℕ} → k .chroma .keep ≡ n → chromaOn f ≡ true → KeepLong f true n
+  unfolding frameLengths chromaLong
+  chroma-keep e on =
+      let p = all-parts _ _ (unless-true _ Length (only-part _ _ (else-parts _ _ (else-parts _ _ (shaped .1) .1) .0) on)) in
+      let long = keep-long (chromaPlane f) (k .chroma) (all-parts _ _ (all-parts _ _ (p .1) .1) .0) in
+      record { sized = shape-sized; sizes-ok = chroma-sizes f (shaped .0) on; long = rw (← e) long }
 
 -- four times a plane's columns fit a word, as the code has its settings
 pub four-cols-fit : (f : Frame) (chroma : Bool) {s : Plane} → s ≡ planeOf f chroma → Sized f → Fits w64 (4 * s .cols)

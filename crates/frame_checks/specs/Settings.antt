@@ -1,12 +1,13 @@
--- The settings of a frame's planes and grids by the kind of plane, and the sizes that a frame's check accepts.
+-- The settings of a frame's planes and grids by the kind of plane, and the sizes and keep marks that a frame's checks accept.
 -- Assumes nothing.
 use mathlib.Core.Bool.{Bool, true, false}
-use Prim.Native.Nat.{ℕ, _≤_}
+use Prim.Native.Nat.{ℕ, _*_, _≤_}
 use Rattle.rules.specs.declared.settings.Frame.{Frame}
 use Rattle.rules.specs.declared.settings.Plane.{Plane}
 use Rattle.rules.specs.declared.settings.TuGrid.{TuGrid}
 use Rattle.rules.specs.declared.settings.QindexGrid.{QindexGrid}
 use Rattle.rules.specs.Frame.{lumaPlane, chromaPlane, lumaTu, chromaTu, lumaQ, chromaQ, chromaOn}
+use Rattle.cells.specs.Fit.{Sizes}
 
 -- luma's or chroma's
 abbrev pub planeOf : Frame → Bool → Plane
@@ -34,3 +35,9 @@ pub record Sized (f : Frame) : Type 0 where
   pub height-most : f .height ≤ 4096
   pub ssx-most : f .ssx ≤ 1
   pub ssy-most : f .ssy ≤ 1
+
+-- n keep marks are enough for the cells of a plane
+pub record KeepLong (f : Frame) (chroma : Bool) (n : ℕ) : Type 0 where
+  pub sized : Sized f
+  pub sizes-ok : Sizes (planeOf f chroma)
+  pub long : planeOf f chroma .rows * planeOf f chroma .cols ≤ n

@@ -1,5 +1,6 @@
 // Document 01's checks of a frame before its grids are built, in their order.
 use super::deltas::frame_settings;
+use super::keep::frame_keep;
 use super::leaves::frame_leaves;
 use super::lengths::frame_lengths;
 use super::sizes::frame_sizes;
@@ -13,6 +14,7 @@ use thresholds::checks::steps_check;
 ghost use mathlib.Core.Path.{_≡_};
 ghost use mathlib.Core.List.{List};
 ghost use Prim.Native.Nat.{ℕ};
+ghost use lib.ListN.{length};
 ghost use Rattle.rules.specs.Frame.{given, frameShape, frameGiven, frameEarly};
 ghost use Rattle.frame_checks.specs.Settings.{Sized};
 
@@ -58,7 +60,7 @@ fn frame_given(
     frame_leaves(leaves, chromaleaves, skips)
 }
 
-// Order 1, 2, 3, 4, 5, 9.
+// Order 1, 2, 3, 4, 5, 9, 6, for keep marks as long as n has them.
 pub fn frame_early(
     steps: &[u32],
     leaves: &[u16],
@@ -66,14 +68,22 @@ pub fn frame_early(
     skips: &[u16],
     tiles: &[u16],
     chromatiles: &[u16],
+    keep: &[u8],
+    chromakeep: &[u8],
     f: Frame,
     n: FrameLengths,
 ) -> Answer
-    ensures { λ r. ⌜ ((q : List ℕ) → r ≡ frameEarly f n (now (tiles .entry)) (now (chromatiles .entry)) (given (now (steps .entry)) q (now (leaves .entry)) (now (chromaleaves .entry)) (now (skips .entry)))) ⌝ }
+    requires { ⌜ (n .luma .keep ≡ length (now keep)) × (n .chroma .keep ≡ length (now chromakeep)) ⌝ }
+    ensures { λ r. ⌜ ((q : List ℕ) → r
+        ≡ frameEarly f n (now (tiles .entry)) (now (chromatiles .entry)) (now (keep .entry)) (now (chromakeep .entry)) (given (now (steps .entry)) q (now (leaves .entry)) (now (chromaleaves .entry)) (now (skips .entry)))) ⌝ }
 {
     let a = frame_shape(f, n);
     if let Answer::Refused(r) = a {
         return Answer::Refused(r);
     }
-    frame_given(steps, leaves, chromaleaves, skips, tiles, chromatiles, f)
+    let b = frame_given(steps, leaves, chromaleaves, skips, tiles, chromatiles, f);
+    if let Answer::Refused(r) = b {
+        return Answer::Refused(r);
+    }
+    frame_keep(keep, chromakeep, f)
 }

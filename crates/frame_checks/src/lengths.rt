@@ -49,7 +49,10 @@ fn grid_long(s: Plane, g: GridLengths) -> bool
     if g.sqh < cells {
         return false;
     }
-    cells <= g.qindex
+    if g.qindex < cells {
+        return false;
+    }
+    cells <= g.keep
 }
 
 fn luma_long(f: Frame, n: FrameLengths) -> bool

@@ -18,5 +18,8 @@ mod starts;
 // Leaves: refusal 9.
 mod leaves;
 
-// The checks in their order: 1, 2, 3, 4, 5, 9.
+// Keep marks: refusal 6.
+mod keep;
+
+// The checks in their order: 1, 2, 3, 4, 5, 9, 6.
 pub mod early;

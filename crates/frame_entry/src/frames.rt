@@ -4,7 +4,7 @@ use super::listed::list_check;
 use frame::frame::deblock_frame;
 use rules::refusals::Answer;
 use rules::refusals::PlaneAnswer;
-ghost use Rattle.rules.specs.Plane.{tiled};
+ghost use Rattle.rules.specs.Plane.{keeping};
 ghost use Rattle.rules.specs.Frame.{planes, grids, lent, given};
 ghost use Rattle.frame_entry.specs.Listed.{FrameHanded};
 
@@ -30,6 +30,8 @@ pub fn filter(
     skips: &[u16],
     tiles: &[u16],
     chromatiles: &[u16],
+    keep: &[u8],
+    chromakeep: &[u8],
     settings: &[i32],
 ) -> PlaneAnswer
     ensures { λ a. ⌜ FrameHanded
@@ -38,14 +40,14 @@ pub fn filter(
         (lent
         (planes (now (y .entry)) (now (u .entry)) (now (v .entry)))
         (grids
-        (tiled (now (lv .entry)) (now (lh .entry)) (now (lw .entry)) (now (lt .entry)) (now (lq .entry)) (now (tiles .entry)))
-        (tiled (now (cv .entry)) (now (ch .entry)) (now (cw .entry)) (now (ct .entry)) (now (cq .entry)) (now (chromatiles .entry)))))
+        (keeping (now (lv .entry)) (now (lh .entry)) (now (lw .entry)) (now (lt .entry)) (now (lq .entry)) (now (tiles .entry)) (now (keep .entry)))
+        (keeping (now (cv .entry)) (now (ch .entry)) (now (cw .entry)) (now (ct .entry)) (now (cq .entry)) (now (chromatiles .entry)) (now (chromakeep .entry)))))
         a
         (lent
         (planes (now (y .exit)) (now (u .exit)) (now (v .exit)))
         (grids
-        (tiled (now (lv .exit)) (now (lh .exit)) (now (lw .exit)) (now (lt .exit)) (now (lq .exit)) (now (tiles .entry)))
-        (tiled (now (cv .exit)) (now (ch .exit)) (now (cw .exit)) (now (ct .exit)) (now (cq .exit)) (now (chromatiles .entry))))) ⌝ }
+        (keeping (now (lv .exit)) (now (lh .exit)) (now (lw .exit)) (now (lt .exit)) (now (lq .exit)) (now (tiles .entry)) (now (keep .entry)))
+        (keeping (now (cv .exit)) (now (ch .exit)) (now (cw .exit)) (now (ct .exit)) (now (cq .exit)) (now (chromatiles .entry)) (now (chromakeep .entry))))) ⌝ }
 {
     let a = list_check(settings);
     if let Answer::Refused(r) = a {
@@ -77,6 +79,8 @@ pub fn filter(
         skips,
         tiles,
         chromatiles,
+        keep,
+        chromakeep,
         f,
         false,
     )

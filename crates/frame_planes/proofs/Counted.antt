@@ -14,7 +14,7 @@ use Rattle.rules.specs.declared.counts.Counts.{Counts}
 use Rattle.rules.specs.declared.refusals.PlaneAnswer.{PlaneAnswer}
 use Rattle.rules.specs.Refusals.{settle}
 use Rattle.rules.specs.Numbers.{topOf}
-use Rattle.rules.specs.Plane.{Grid, edgesOf, runStored, runChanged, planeAfter, planeStored, planeChanged}
+use Rattle.rules.specs.Plane.{Grid, keptBy, edgesOf, runStored, runChanged, planeAfter, planeStored, planeChanged}
 use Rattle.rules.specs.Frame.{planes, grids, runFrame, runFrameStored, runFrameChanged}
 use Rattle.segment.proofs.Counts.{run-stored, run-changed}
 use Rattle.plane.specs.Checked.{Checked, Filtered, Stated}
@@ -36,11 +36,11 @@ module _ (s : Plane) (steps : List ℕ) (g : Grid) {size : ℕ} (k : Checked s s
       let z = k .sizes-ok in
       let twice : 2 * s .cols ≤ 2048 = omega (arith, z .cols-most) in
       omega
-      (arith, run-stored (topOf (s .depth)) (s .stride) (4 * s .cols) (4 * s .rows) size (edgesOf s steps g) (edges-inside s steps g size k) l, edges-most s steps g z, mul-le-mul twice (z .rows-most))
+      (arith, run-stored (topOf (s .depth)) (s .stride) (keptBy s g) (4 * s .cols) (4 * s .rows) size (edgesOf s steps g) (edges-inside s steps g size k) l, edges-most s steps g z, mul-le-mul twice (z .rows-most))
 
   changed-few : runChanged s steps g l ≤ 134217728
   unfolding runStored runChanged
-  changed-few = omega (arith, stored-few, run-changed (topOf (s .depth)) (s .stride) (edgesOf s steps g) l)
+  changed-few = omega (arith, stored-few, run-changed (topOf (s .depth)) (s .stride) (keptBy s g) (edgesOf s steps g) l)
 
 module _ {f : Frame} {chroma : Bool} {steps : List ℕ} {g : Grid} {l : List ℕ} where
   -- one that is not filtered

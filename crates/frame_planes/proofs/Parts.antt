@@ -12,20 +12,20 @@ use Rattle.rules.specs.declared.refusals.Refusal.the-variants.{Room, Sample}
 use Rattle.rules.specs.declared.refusals.Answer.{Answer}
 use Rattle.rules.specs.declared.refusals.Answer.the-variants.{Accepted, Refused}
 use Rattle.rules.specs.Refusals.{orElse, found, onlyIf}
-use Rattle.rules.specs.Plane.{Grid, tiled, noRoom, overPlane}
+use Rattle.rules.specs.Plane.{Grid, keeping, noRoom, overPlane}
 use Rattle.rules.specs.TuGrid.{marks, txGridOf}
 use Rattle.rules.specs.QindexGrid.{qGridOf}
 use Rattle.rules.specs.Frame.{Planes, grids, lumaPlane, chromaPlane, chromaOn, builtGrid, frameRoom, frameSamples, frameLate}
 
 -- ---- a grid
 
--- the grid as its two callees leave it, with its tile starts as lent
-grid-is : (tu : TuGrid) (qs : QindexGrid) (ls ks sbq v h w t q v' h' w' t' q' ts : List ℕ) → marks v' h' w' t' ≡ txGridOf tu ls ks (marks v h w t) → q' ≡ qGridOf qs sbq q → tiled v' h' w' t' q' ts ≡ builtGrid tu qs ls ks sbq (tiled v h w t q ts)
+-- the grid as its two callees leave it, with its tile starts and keep marks as lent
+grid-is : (tu : TuGrid) (qs : QindexGrid) (ls ks sbq v h w t q v' h' w' t' q' ts keep : List ℕ) → marks v' h' w' t' ≡ txGridOf tu ls ks (marks v h w t) → q' ≡ qGridOf qs sbq q → keeping v' h' w' t' q' ts keep ≡ builtGrid tu qs ls ks sbq (keeping v h w t q ts keep)
 unfolding builtGrid
-grid-is tu qs ls ks sbq v h w t q v' h' w' t' q' ts e f = rw (← e, f)
+grid-is tu qs ls ks sbq v h w t q v' h' w' t' q' ts keep e f = rw (← e, f)
 
-pub grid-by : {tu tu' : TuGrid} {qs qs' : QindexGrid} (ls ks sbq v h w t q v' h' w' t' q' ts : List ℕ) → tu ≡ tu' → qs ≡ qs' → marks v' h' w' t' ≡ txGridOf tu ls ks (marks v h w t) → q' ≡ qGridOf qs sbq q → tiled v' h' w' t' q' ts ≡ builtGrid tu' qs' ls ks sbq (tiled v h w t q ts)
-grid-by ls ks sbq v h w t q v' h' w' t' q' ts a b e f = rw (← a, ← b) (grid-is _ _ ls ks sbq v h w t q v' h' w' t' q' ts e f)
+pub grid-by : {tu tu' : TuGrid} {qs qs' : QindexGrid} (ls ks sbq v h w t q v' h' w' t' q' ts keep : List ℕ) → tu ≡ tu' → qs ≡ qs' → marks v' h' w' t' ≡ txGridOf tu ls ks (marks v h w t) → q' ≡ qGridOf qs sbq q → keeping v' h' w' t' q' ts keep ≡ builtGrid tu' qs' ls ks sbq (keeping v h w t q ts keep)
+grid-by ls ks sbq v h w t q v' h' w' t' q' ts keep a b e f = rw (← a, ← b) (grid-is _ _ ls ks sbq v h w t q v' h' w' t' q' ts keep e f)
 
 -- where a kind of plane is filtered, and where not
 pub where-on : {A : Type 0} {t : Bool} {x a : A} (b : A) → true ≡ t → x ≡ a → x ≡ pick t a b

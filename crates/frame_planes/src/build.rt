@@ -11,12 +11,12 @@ ghost use mathlib.Core.List.{List};
 ghost use Prim.Native.Nat.{ℕ};
 ghost use lib.ListN.{length};
 ghost use Rattle.laws.specs.Choose.{pick};
-ghost use Rattle.rules.specs.Plane.{tiled};
+ghost use Rattle.rules.specs.Plane.{keeping};
 ghost use Rattle.rules.specs.Frame.{builtGrid};
 ghost use Rattle.frame_checks.specs.Settings.{kindOn, tuOf, qOf};
 ghost use Rattle.frame_planes.specs.Fit.{Buildable};
 
-// Builds the grid where its planes are filtered, whatever its tile starts.
+// Builds the grid where its planes are filtered, whatever its tile starts and keep marks, neither of which it is lent.
 pub fn build(
     vedge: &mut [u8],
     hedge: &mut [u8],
@@ -30,11 +30,11 @@ pub fn build(
     chroma: bool,
 )
     requires { ⌜ (kindOn f chroma ≡ true → Buildable f chroma (now leaves) (now skips) (length (now sbq)) (length (now vedge)) (length (now hedge)) (length (now sqw)) (length (now sqh)) (length (now qindex))) ⌝ }
-    ensures { λ _. ⌜ ((ts : List ℕ) → tiled (now (vedge .exit)) (now (hedge .exit)) (now (sqw .exit)) (now (sqh .exit)) (now (qindex .exit)) ts
+    ensures { λ _. ⌜ ((ts ks : List ℕ) → keeping (now (vedge .exit)) (now (hedge .exit)) (now (sqw .exit)) (now (sqh .exit)) (now (qindex .exit)) ts ks
         ≡ pick
         (kindOn f chroma)
-        (builtGrid (tuOf f chroma) (qOf f chroma) (now (leaves .entry)) (now (skips .entry)) (now (sbq .entry)) (tiled (now (vedge .entry)) (now (hedge .entry)) (now (sqw .entry)) (now (sqh .entry)) (now (qindex .entry)) ts))
-        (tiled (now (vedge .entry)) (now (hedge .entry)) (now (sqw .entry)) (now (sqh .entry)) (now (qindex .entry)) ts)) ⌝ }
+        (builtGrid (tuOf f chroma) (qOf f chroma) (now (leaves .entry)) (now (skips .entry)) (now (sbq .entry)) (keeping (now (vedge .entry)) (now (hedge .entry)) (now (sqw .entry)) (now (sqh .entry)) (now (qindex .entry)) ts ks))
+        (keeping (now (vedge .entry)) (now (hedge .entry)) (now (sqw .entry)) (now (sqh .entry)) (now (qindex .entry)) ts ks)) ⌝ }
 {
     if !kind_on(f, chroma) {
         return;

@@ -14,12 +14,12 @@ ghost use Prim.Native.Nat.{ℕ};
 ghost use lib.ListN.{length};
 ghost use Rattle.rules.specs.declared.refusals.Refusal.the-variants.{Room, Sample};
 ghost use Rattle.rules.specs.Refusals.{found, onlyIf};
-ghost use Rattle.rules.specs.Plane.{tiled, noRoom, overPlane};
+ghost use Rattle.rules.specs.Plane.{keeping, noRoom, overPlane};
 ghost use Rattle.rules.specs.Frame.{planes, grids, chromaOn, frameSamples, frameLate};
 ghost use Rattle.frame_checks.specs.Settings.{kindOn, planeOf};
 ghost use Rattle.frame_planes.specs.Fit.{Sampled, Marked};
 
-// Refusal 7 of one kind of plane where it is filtered, whatever the qindex.
+// Refusal 7 of one kind of plane where it is filtered, whatever the qindex and the keep marks.
 pub fn room(
     vedge: &[u8],
     hedge: &[u8],
@@ -30,7 +30,7 @@ pub fn room(
     chroma: bool,
 ) -> Answer
     requires { ⌜ (kindOn f chroma ≡ true → Marked f chroma (now vedge) (now hedge) (now sqw) (now sqh)) ⌝ }
-    ensures { λ r. ⌜ ((q : List ℕ) → r ≡ onlyIf (kindOn f chroma) (found (noRoom (planeOf f chroma) (tiled (now (vedge .entry)) (now (hedge .entry)) (now (sqw .entry)) (now (sqh .entry)) q (now (tiles .entry)))) Room)) ⌝ }
+    ensures { λ r. ⌜ ((q ks : List ℕ) → r ≡ onlyIf (kindOn f chroma) (found (noRoom (planeOf f chroma) (keeping (now (vedge .entry)) (now (hedge .entry)) (now (sqw .entry)) (now (sqh .entry)) q (now (tiles .entry)) ks)) Room)) ⌝ }
 {
     if !kind_on(f, chroma) {
         return Answer::Accepted;
@@ -73,7 +73,7 @@ fn overs(y: &[u16], u: &[u16], v: &[u16], f: Frame) -> Answer
     over(v, f, true)
 }
 
-// Refusal 7 of luma and of chroma, then 8.
+// Refusal 7 of luma and of chroma, then 8, whatever the qindex and the keep marks.
 pub fn late(
     y: &[u16],
     u: &[u16],
@@ -92,7 +92,11 @@ pub fn late(
 ) -> Answer
     requires { ⌜ Sampled f false (length (now y)) × (chromaOn f ≡ true → Sampled f true (length (now u)) × Sampled f true (length (now v))) ⌝ }
     requires { ⌜ Marked f false (now lv) (now lh) (now lw) (now lt) × (chromaOn f ≡ true → Marked f true (now cv) (now ch) (now cw) (now ct)) ⌝ }
-    ensures { λ r. ⌜ ((q d : List ℕ) → r ≡ frameLate f (grids (tiled (now (lv .entry)) (now (lh .entry)) (now (lw .entry)) (now (lt .entry)) q (now (ltiles .entry))) (tiled (now (cv .entry)) (now (ch .entry)) (now (cw .entry)) (now (ct .entry)) d (now (ctiles .entry)))) (planes (now (y .entry)) (now (u .entry)) (now (v .entry)))) ⌝ }
+    ensures { λ r. ⌜ ((q d ks es : List ℕ) → r ≡ frameLate f
+        (grids
+        (keeping (now (lv .entry)) (now (lh .entry)) (now (lw .entry)) (now (lt .entry)) q (now (ltiles .entry)) ks)
+        (keeping (now (cv .entry)) (now (ch .entry)) (now (cw .entry)) (now (ct .entry)) d (now (ctiles .entry)) es))
+        (planes (now (y .entry)) (now (u .entry)) (now (v .entry)))) ⌝ }
 {
     let a = room(lv, lh, lw, lt, ltiles, f, false);
     if let Answer::Refused(r) = a {

@@ -1,4 +1,4 @@
--- A frame with chroma that is accepted, and whose three planes have edges that run, so that no statement on accepted frames is empty.
+-- A frame with chroma and a kept cell that is accepted, and whose three planes have edges that run, so that no statement on accepted frames is empty.
 -- Assumes nothing.
 use mathlib.Core.Path.{_≡_, refl, _∙_}
 use mathlib.Core.Bool.{true, false}
@@ -15,11 +15,11 @@ use Rattle.rules.specs.Refusals.{orElse, unless, found, onlyIf, sooner, first, 
 use Rattle.rules.specs.Thresholds.{stepGood, badStep, stepsCheck}
 use Rattle.rules.specs.Lengths.{reachBefore, reachAfter, reachOf, lengthBefore, lengthAfter, pairOf}
 use Rattle.rules.specs.Segment.{hasRoom}
-use Rattle.rules.specs.Plane.{Grid, grid, cellOf, cellBefore, marksOf, indicesOf, cappedOf, indexAt, shortenedAt, isEdge, edgeRoom, lacksRoom, lacksRow, lacksDir, noRoom, overPlane, badStart, tilesCheck}
+use Rattle.rules.specs.Plane.{Grid, keeping, cellOf, cellBefore, marksOf, indicesOf, cappedOf, indexAt, shortenedAt, isEdge, edgeRoom, lacksRoom, lacksRow, lacksDir, noRoom, overPlane, badStart, tilesCheck, badKeep}
 use Rattle.rules.specs.TuGrid.{flagOf, bareOf, isSize, log2Of, sizeOf, wholeOf, tileOf, markOf, storeCell, paintCell, paintRow, paintOf, leafOf, leavesOf, clearOf, txGridOf, capOk, foursOk, leafGood, leafGoodAt, badLeaf}
 use Rattle.rules.specs.QindexGrid.{superblockOf, qCell, qRow, qGridOf}
 use Rattle.rules.specs.Frame.{Planes, Grids, Given, given, planes, grids, lent, eighths, halved, superblocks, lumaPlane, chromaPlane, lumaTu, chromaTu, lumaQ, chromaQ, chromaOn, builtGrid, builtGrids}
-use Rattle.rules.specs.Frame.{frameSizes, gridLong, lumaLong, chromaLong, givenLong, frameLengths, frameShape, frameSettings, frameTiles, frameLeaves, frameGiven, frameEarly, frameRoom, frameSamples, frameLate, frameOf}
+use Rattle.rules.specs.Frame.{frameSizes, gridLong, lumaLong, chromaLong, givenLong, frameLengths, frameShape, frameSettings, frameTiles, frameLeaves, frameGiven, frameKeep, frameEarly, frameRoom, frameSamples, frameLate, frameOf}
 use Rattle.frame_promises.proofs.Answers.{earlyOf, answer-is}
 
 -- 8 by 8 samples of 4:2:0 at depth 8; TUs of one cell, so that the middle column and row of each plane are edges
@@ -55,23 +55,27 @@ blank n = replicate n 0
 abbrev samples : Planes
 samples = planes (blank 64) (blank 64) (blank 64)
 
+-- luma's first cell is kept
+abbrev kept : List ℕ
+kept = 1 ∷ blank 3
+
 abbrev cells : Grids
-cells = grids (grid (blank 4) (blank 4) (blank 4) (blank 4) (blank 4)) (grid (blank 4) (blank 4) (blank 4) (blank 4) (blank 4))
+cells = grids (keeping (blank 4) (blank 4) (blank 4) (blank 4) (blank 4) [] kept) (keeping (blank 4) (blank 4) (blank 4) (blank 4) (blank 4) [] (blank 4))
 
 early : earlyOf small lists (lent samples cells) ≡ Accepted
 unfolding pick either both all depthOk inRange inRangeZ deltaOk subsamplingOk down orElse unless found onlyIf sooner first foundUnless stepGood badStep stepsCheck flagOf bareOf isSize capOk foursOk leafGood leafGoodAt badLeaf eighths halved superblocks lumaPlane chromaPlane chromaOn frameSizes
-    gridLong lumaLong chromaLong givenLong frameLengths badStart tilesCheck frameShape frameSettings frameTiles frameLeaves frameGiven frameEarly
+    gridLong lumaLong chromaLong givenLong frameLengths badStart tilesCheck badKeep foundIf over frameShape frameSettings frameTiles frameLeaves frameGiven frameKeep frameEarly
 early = refl
 
 -- every cell is a TU with both its edges marked
-abbrev ones : Grid
-ones = grid (replicate 4 1) (replicate 4 1) (blank 4) (blank 4) (replicate 4 120)
+abbrev ones : List ℕ → Grid
+ones ks = keeping (replicate 4 1) (replicate 4 1) (blank 4) (blank 4) (replicate 4 120) [] ks
 
-built : builtGrids small lists cells ≡ grids ones ones
+built : builtGrids small lists cells ≡ grids (ones kept) (ones (blank 4))
 unfolding pick either both turns down up flagOf bareOf log2Of sizeOf wholeOf tileOf markOf storeCell paintCell paintRow paintOf leafOf leavesOf clearOf txGridOf superblockOf qCell qRow qGridOf eighths halved superblocks lumaPlane chromaPlane lumaTu chromaTu lumaQ chromaQ chromaOn builtGrid builtGrids
 built = refl
 
-room : frameRoom small (grids ones ones) ≡ Accepted
+room : frameRoom small (grids (ones kept) (ones (blank 4))) ≡ Accepted
 unfolding pick both all down orElse found onlyIf sooner first foundUnless pairOf reachBefore reachAfter reachOf lengthBefore lengthAfter hasRoom cellOf cellBefore marksOf indicesOf cappedOf indexAt shortenedAt isEdge edgeRoom lacksRoom lacksRow lacksDir noRoom eighths halved lumaPlane chromaPlane chromaOn frameRoom
 room = refl
 

@@ -9,7 +9,7 @@ use Rattle.rules.specs.declared.refusals.PlaneAnswer.{PlaneAnswer}
 use Rattle.rules.specs.Refusals.{orElse}
 use Rattle.rules.specs.Thresholds.{stepsCheck}
 use Rattle.rules.specs.Plane.{tilesCheck}
-use Rattle.rules.specs.Frame.{Given, Lent, lengthsOf, builtGrids, frameSizes, frameLengths, frameShape, frameSettings, frameTiles, frameLeaves, frameGiven, frameEarly, frameRoom, frameSamples, frameLate, frameBuilt, orDone, frameOf}
+use Rattle.rules.specs.Frame.{Given, Lent, Done, lengthsOf, builtGrids, frameSizes, frameLengths, frameShape, frameSettings, frameTiles, frameLeaves, frameGiven, frameKeep, frameEarly, frameRoom, frameSamples, frameLate, frameBuilt, orDone, frameOf}
 use Rattle.scan.specs.Exactly.{Exactly}
 use Rattle.scan.proofs.Exactly.{exactly, else-joined}
 use Rattle.frame.specs.Stated.{Stated}
@@ -17,23 +17,23 @@ use Rattle.frame_promises.specs.Exactly.{frameTests}
 
 -- the early checks of what a frame lends
 abbrev pub earlyOf : Frame → Given → Lent → Answer
-earlyOf f n l = frameEarly f (lengthsOf n l) (l .grids .luma .tiles) (l .grids .chroma .tiles) n
+earlyOf f n l = frameEarly f (lengthsOf n l) (l .grids .luma .tiles) (l .grids .chroma .tiles) (l .grids .luma .keep) (l .grids .chroma .keep) n
 
 -- the early checks, then the late ones
-answer-by : (f : Frame) (n : Given) (l : Lent) (a : Answer) → orDone a l (frameBuilt f (n .steps) (builtGrids f n (l .grids)) (l .planes)) .answer ≡ orElse a (frameLate f (builtGrids f n (l .grids)) (l .planes))
-unfolding orDone orElse frameBuilt
-answer-by f n l Accepted = refl
-answer-by f n l (Refused r) = refl
+pub answer-by : (a : Answer) (l : Lent) (d : Done) → orDone a l d .answer ≡ orElse a (d .answer)
+unfolding orDone orElse
+answer-by Accepted l d = refl
+answer-by (Refused r) l d = refl
 
 pub answer-is : (f : Frame) (n : Given) (l : Lent) → frameOf f n l .answer ≡ orElse (earlyOf f n l) (frameLate f (builtGrids f n (l .grids)) (l .planes))
-unfolding frameOf
-answer-is f n l = answer-by f n l (earlyOf f n l)
+unfolding frameOf frameBuilt
+answer-is f n l = answer-by (earlyOf f n l) l _
 
 -- in one row, both checks of 5 together
-in-one : (a1 a2 a3 a4 a5 b5 a9 a7 a8 : Answer) → orElse (orElse (orElse a1 (orElse a2 a3)) (orElse a4 (orElse a5 (orElse b5 a9)))) (orElse a7 a8) ≡ orElse a1 (orElse a2 (orElse a3 (orElse a4 (orElse (orElse a5 b5) (orElse a9 (orElse a7 a8))))))
-in-one a1 a2 a3 a4 a5 b5 a9 a7 a8 = simp else-joined
+in-one : (a1 a2 a3 a4 a5 b5 a9 a6 a7 a8 : Answer) → orElse (orElse (orElse a1 (orElse a2 a3)) (orElse (orElse a4 (orElse a5 (orElse b5 a9))) a6)) (orElse a7 a8) ≡ orElse a1 (orElse a2 (orElse a3 (orElse a4 (orElse (orElse a5 b5) (orElse a9 (orElse a6 (orElse a7 a8)))))))
+in-one a1 a2 a3 a4 a5 b5 a9 a6 a7 a8 = simp else-joined
 
 -- every result that the entry's statement allows
 pub frame-exactly : (f : Frame) (n : Given) (l : Lent) {a : PlaneAnswer} {m : Lent} → Stated f n l a m → Exactly (a .answer) (frameTests f n l)
-unfolding frameEarly frameShape frameSizes frameLengths frameGiven frameSettings frameTiles tilesCheck frameLeaves stepsCheck frameLate frameRoom frameSamples
-frame-exactly f n l e = exactly (frameTests f n l) refl (e .answer ∙ answer-is f n l ∙ in-one _ _ _ _ _ _ _ _ _)
+unfolding frameEarly frameShape frameSizes frameLengths frameGiven frameSettings frameTiles tilesCheck frameLeaves frameKeep stepsCheck frameLate frameRoom frameSamples
+frame-exactly f n l e = exactly (frameTests f n l) refl (e .answer ∙ answer-is f n l ∙ in-one _ _ _ _ _ _ _ _ _ _)

@@ -7,3 +7,5 @@ pub mod Edges
 pub mod Counts
 pub mod Accepts
 pub mod OneTile
+pub mod Kept
+pub mod NoneKept

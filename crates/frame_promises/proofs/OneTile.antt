@@ -1,4 +1,4 @@
--- Ticket 5 of a frame: with two empty lists of tile starts its checks and planes are those of one tile, and where it does not filter chroma, chroma's list is not looked at.
+-- Ticket 5 of a frame: with two empty lists of tile starts its checks and planes are those of one tile; and where it does not filter chroma, chroma's list is not looked at, nor are ticket 7's keep marks of chroma.
 -- Assumes nothing.
 use mathlib.Core.Path.{_≡_, refl, sym, ap, subst, _∙_}
 use mathlib.Core.Bool.{Bool, true, false}
@@ -12,8 +12,8 @@ use Rattle.rules.specs.declared.refusals.Answer.the-variants.{Accepted, Refused
 use Rattle.rules.specs.declared.refusals.PlaneAnswer.{PlaneAnswer}
 use Rattle.rules.specs.Refusals.{orElse, found, onlyIf, first}
 use Rattle.rules.specs.Thresholds.{stepsCheck}
-use Rattle.rules.specs.Plane.{grid, tiled, badStart, tilesCheck}
-use Rattle.rules.specs.Frame.{Planes, Given, Lent, Done, grids, lent, done, chromaOn, builtGrids, frameShape, frameSettings, frameTiles, frameLeaves, frameGiven, frameEarly, frameRoom, frameLate, runFrame, runFrameStored, runFrameChanged, frameBuilt, orDone, frameOf, frameStored, frameChanged}
+use Rattle.rules.specs.Plane.{keeping, badStart, tilesCheck}
+use Rattle.rules.specs.Frame.{Planes, Given, Lent, Done, grids, lent, done, chromaOn, builtGrids, frameShape, frameLengths, lumaLong, givenLong, frameSettings, frameTiles, frameLeaves, frameGiven, frameKeep, frameEarly, frameRoom, frameLate, runFrame, runFrameStored, runFrameChanged, frameBuilt, orDone, frameOf, frameStored, frameChanged}
 use Rattle.frame.specs.Stated.{Stated}
 use Rattle.frame_promises.proofs.Answers.{earlyOf}
 
@@ -29,58 +29,58 @@ no-starts : (f : Frame) → frameTiles f [] [] ≡ Accepted
 unfolding frameTiles tilesCheck badStart first found orElse
 no-starts f = only-accepted (chromaOn f)
 
--- the early checks are document 01's alone
-pub checks-alone : (f : Frame) (k : FrameLengths) (n : Given) → frameEarly f k [] [] n ≡ orElse (frameShape f k) (orElse (stepsCheck (n .steps)) (orElse (frameSettings f) (frameLeaves n)))
+-- the early checks are those without
+pub checks-alone : (f : Frame) (k : FrameLengths) (ks es : List ℕ) (n : Given) → frameEarly f k [] [] ks es n ≡ orElse (frameShape f k) (orElse (orElse (stepsCheck (n .steps)) (orElse (frameSettings f) (frameLeaves n))) (frameKeep f ks es))
 unfolding frameEarly frameGiven orElse
-checks-alone f k n = rw (no-starts f)
+checks-alone f k ks es n = rw (no-starts f)
 
 -- of whatever the entry may answer and leave with two empty lists: answer, lists and counts are those of one tile
-pub empty-lists : (f : Frame) (n : Given) (p : Planes) (v h w t q v' h' w' t' q' ts us : List ℕ) → ts ≡ [] → us ≡ [] → {a : PlaneAnswer} {m : Lent}
-    → Stated f n (lent p (grids (tiled v h w t q ts) (tiled v' h' w' t' q' us))) a m → Stated f n (lent p (grids (grid v h w t q) (grid v' h' w' t' q'))) a m
-empty-lists f n p v h w t q v' h' w' t' q' ts us e g {a} {m} done =
-    subst (λ (xs : List ℕ). Stated f n (lent p (grids (grid v h w t q) (tiled v' h' w' t' q' xs))) a m) g
-    (subst (λ (xs : List ℕ). Stated f n (lent p (grids (tiled v h w t q xs) (tiled v' h' w' t' q' us))) a m) e done)
+pub empty-lists : (f : Frame) (n : Given) (p : Planes) (v h w t q ks v' h' w' t' q' es ts us : List ℕ) → ts ≡ [] → us ≡ [] → {a : PlaneAnswer} {m : Lent}
+    → Stated f n (lent p (grids (keeping v h w t q ts ks) (keeping v' h' w' t' q' us es))) a m → Stated f n (lent p (grids (keeping v h w t q [] ks) (keeping v' h' w' t' q' [] es))) a m
+empty-lists f n p v h w t q ks v' h' w' t' q' es ts us e g {a} {m} done =
+    subst (λ (xs : List ℕ). Stated f n (lent p (grids (keeping v h w t q [] ks) (keeping v' h' w' t' q' xs es))) a m) g
+    (subst (λ (xs : List ℕ). Stated f n (lent p (grids (keeping v h w t q xs ks) (keeping v' h' w' t' q' us es))) a m) e done)
 
 -- ---- a frame that does not filter chroma
 
--- lent with another list of chroma's tile starts
-abbrev pub relisted : List ℕ → Lent → Lent
-relisted us l = let g = l .grids .chroma in lent (l .planes) (grids (l .grids .luma) (tiled (g .vedge) (g .hedge) (g .sqw) (g .sqh) (g .qindex) us))
+-- lent with other lists of chroma's tile starts and keep marks
+abbrev pub relisted : List ℕ → List ℕ → Lent → Lent
+relisted us es l = let g = l .grids .chroma in lent (l .planes) (grids (l .grids .luma) (keeping (g .vedge) (g .hedge) (g .sqw) (g .sqh) (g .qindex) us es))
 
-module _ (f : Frame) (n : Given) (l : Lent) (us : List ℕ) (off : chromaOn f ≡ false) where
-  early-same : earlyOf f n (relisted us l) ≡ earlyOf f n l
-  unfolding frameEarly frameGiven frameTiles onlyIf
+module _ (f : Frame) (n : Given) (l : Lent) (us es : List ℕ) (off : chromaOn f ≡ false) where
+  early-same : earlyOf f n (relisted us es l) ≡ earlyOf f n l
+  unfolding frameEarly frameShape frameLengths lumaLong givenLong frameGiven frameTiles frameKeep onlyIf
   early-same = rw off
 
   abbrev builtOf : Lent → Done
   builtOf k = frameBuilt f (n .steps) (builtGrids f n (k .grids)) (k .planes)
 
-  built-same : builtOf (relisted us l) ≡ done (builtOf l .answer) (relisted us (builtOf l .lists))
+  built-same : builtOf (relisted us es l) ≡ done (builtOf l .answer) (relisted us es (builtOf l .lists))
   unfolding frameBuilt frameLate frameRoom runFrame builtGrids onlyIf pick
   built-same = rw off
 
-  same-by : (a : Answer) → orDone a (relisted us l) (builtOf (relisted us l)) ≡ done (orDone a l (builtOf l) .answer) (relisted us (orDone a l (builtOf l) .lists))
+  same-by : (a : Answer) → orDone a (relisted us es l) (builtOf (relisted us es l)) ≡ done (orDone a l (builtOf l) .answer) (relisted us es (orDone a l (builtOf l) .lists))
   unfolding orDone
   same-by (Refused r) = refl
   same-by Accepted = built-same
 
-  frame-same : frameOf f n (relisted us l) ≡ done (frameOf f n l .answer) (relisted us (frameOf f n l .lists))
+  frame-same : frameOf f n (relisted us es l) ≡ done (frameOf f n l .answer) (relisted us es (frameOf f n l .lists))
   unfolding frameOf
   frame-same = rw early-same (same-by (earlyOf f n l))
 
-  stored-same : frameStored f n (relisted us l) ≡ frameStored f n l
+  stored-same : frameStored f n (relisted us es l) ≡ frameStored f n l
   unfolding frameStored runFrameStored builtGrids pick
   stored-same = rw (frame-same, off)
 
-  changed-same : frameChanged f n (relisted us l) ≡ frameChanged f n l
+  changed-same : frameChanged f n (relisted us es l) ≡ frameChanged f n l
   unfolding frameChanged runFrameChanged builtGrids pick
   changed-same = rw (frame-same, off)
 
-  -- what the entry may answer and leave, it may with any list of chroma's: the same answer and counts, and the same lists but for that one
-  pub chroma-unread : {a : PlaneAnswer} {m : Lent} → Stated f n l a m → Stated f n (relisted us l) a (relisted us m)
+  -- what the entry may answer and leave, it may with any such lists of chroma's: the same answer and counts, and the same lists but for those two
+  pub chroma-unread : {a : PlaneAnswer} {m : Lent} → Stated f n l a m → Stated f n (relisted us es l) a (relisted us es m)
   chroma-unread x = record {
     answer = x .answer ∙ sym (ap (λ (d : Done). d .answer) frame-same);
-    lists = ap (relisted us) (x .lists) ∙ sym (ap (λ (d : Done). d .lists) frame-same);
+    lists = ap (relisted us es) (x .lists) ∙ sym (ap (λ (d : Done). d .lists) frame-same);
     stored = x .stored ∙ sym stored-same;
     changed = x .changed ∙ sym changed-same;
   }

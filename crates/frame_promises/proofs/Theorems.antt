@@ -1,8 +1,8 @@
--- What the entry's equation says, read off: one result; a refusal before 7 leaves every list as lent; refusals 7 and 8 leave the planes
+-- What the entry's equation says, read off: one result; a refusal other than 7 and 8 leaves every list as lent; refusals 7 and 8 leave the planes
 -- as lent and the grids built; a frame without chroma leaves chroma's lists as lent.
 -- Assumes nothing.
 use mathlib.Core.Path.{_≡_, refl, sym, ap, _∙_}
-use mathlib.Core.Bool.{Bool, true, false}
+use mathlib.Core.Bool.{Bool, true, false, not}
 use mathlib.Core.List.{List}
 use Prim.Native.Nat.{ℕ}
 use native.Mathlib.Omega.{arith}
@@ -19,7 +19,7 @@ use Rattle.rules.specs.declared.refusals.Found.the-variants.{At, Nothing}
 use Rattle.rules.specs.Refusals.{orElse, unless, found, onlyIf, settle}
 use Rattle.rules.specs.Thresholds.{stepsCheck}
 use Rattle.rules.specs.Plane.{tilesCheck}
-use Rattle.rules.specs.Frame.{Planes, Grids, Given, Lent, Done, lent, done, lengthsOf, chromaOn, builtGrids, frameSizes, frameLengths, frameShape, frameSettings, frameTiles, frameLeaves, frameGiven, frameEarly, frameLate, runFrame, frameBuilt, orDone, frameOf}
+use Rattle.rules.specs.Frame.{Planes, Grids, Given, Lent, Done, lent, done, lengthsOf, chromaOn, builtGrids, frameSizes, frameLengths, frameShape, frameSettings, frameTiles, frameLeaves, frameGiven, frameKeep, frameEarly, frameRoom, frameSamples, frameLate, runFrame, frameBuilt, orDone, frameOf}
 use Rattle.frame.specs.Stated.{Stated}
 use Rattle.frame_promises.proofs.Answers.{earlyOf}
 
@@ -30,7 +30,7 @@ one-result x y = (x .answer ∙ sym (y .answer), x .lists ∙ sym (y .lists), x 
 
 -- ---- 7 and 8 are not among the early checks
 
-abbrev before7 : Refusal → Bool
+abbrev pub before7 : Refusal → Bool
 before7 Depth = true
 before7 Size = true
 before7 Length = true
@@ -45,53 +45,75 @@ before7 Header = false
 before7 (Cut k) = false
 before7 (Entry k) = false
 
-abbrev early : Answer → Bool
-early Accepted = true
-early (Refused r) = before7 r
+-- an answer whose refusal, where it has one, is of a kind
+abbrev Of : (Refusal → Bool) → Answer → Bool
+Of kind Accepted = true
+Of kind (Refused r) = kind r
 
-else-early : (a b : Answer) → early a ≡ true → early b ≡ true → early (orElse a b) ≡ true
-unfolding orElse
-else-early Accepted b e g = g
-else-early (Refused r) b e g = e
+module _ (kind : Refusal → Bool) where
+  else-of : (a b : Answer) → Of kind a ≡ true → Of kind b ≡ true → Of kind (orElse a b) ≡ true
+  unfolding orElse
+  else-of Accepted b e g = g
+  else-of (Refused r) b e g = e
 
-unless-early : (t : Bool) (r : Refusal) → before7 r ≡ true → early (unless t r) ≡ true
-unfolding unless
-unless-early true r e = refl
-unless-early false r e = e
+  unless-of : (t : Bool) (r : Refusal) → kind r ≡ true → Of kind (unless t r) ≡ true
+  unfolding unless
+  unless-of true r e = refl
+  unless-of false r e = e
 
-found-early : (m : Found) (r : ℕ → Refusal) → ((k : ℕ) → before7 (r k) ≡ true) → early (found m r) ≡ true
-unfolding found
-found-early (At k) r e = e k
-found-early Nothing r e = refl
+  found-of : (m : Found) (r : ℕ → Refusal) → ((k : ℕ) → kind (r k) ≡ true) → Of kind (found m r) ≡ true
+  unfolding found
+  found-of (At k) r e = e k
+  found-of Nothing r e = refl
 
-only-early : (t : Bool) (a : Answer) → early a ≡ true → early (onlyIf t a) ≡ true
-unfolding onlyIf
-only-early true a e = e
-only-early false a e = refl
+  only-of : (t : Bool) (a : Answer) → Of kind a ≡ true → Of kind (onlyIf t a) ≡ true
+  unfolding onlyIf
+  only-of true a e = e
+  only-of false a e = refl
 
-early-sizes : (f : Frame) → early (frameSizes f) ≡ true
+  both-found : (t : Bool) (a b : Found) (r : ℕ → Refusal) → ((k : ℕ) → kind (r k) ≡ true) → Of kind (orElse (found a r) (onlyIf t (found b r))) ≡ true
+  both-found t a b r e = else-of _ _ (found-of a r e) (only-of t _ (found-of b r e))
+
+early-sizes : (f : Frame) → Of before7 (frameSizes f) ≡ true
 unfolding frameSizes
-early-sizes f = else-early _ _ (unless-early _ Size refl) (only-early _ _ (unless-early _ Size refl))
+early-sizes f = else-of before7 _ _ (unless-of before7 _ Size refl) (only-of before7 _ _ (unless-of before7 _ Size refl))
 
-early-lengths : (f : Frame) (k : FrameLengths) → early (frameLengths f k) ≡ true
+early-lengths : (f : Frame) (k : FrameLengths) → Of before7 (frameLengths f k) ≡ true
 unfolding frameLengths
 early-lengths f k =
-    else-early _ _ (unless-early _ Length refl) (else-early _ _ (only-early _ _ (unless-early _ Length refl)) (unless-early _ Length refl))
+    else-of before7 _ _ (unless-of before7 _ Length refl)
+    (else-of before7 _ _ (only-of before7 _ _ (unless-of before7 _ Length refl)) (unless-of before7 _ Length refl))
 
-early-leaves : (n : Given) → early (frameLeaves n) ≡ true
+early-leaves : (n : Given) → Of before7 (frameLeaves n) ≡ true
 unfolding frameLeaves
 early-leaves n =
-    else-early _ _ (found-early _ Leaf (λ _. refl)) (else-early _ _ (found-early _ Leaf (λ _. refl)) (found-early _ Leaf (λ _. refl)))
+    else-of before7 _ _ (found-of before7 _ Leaf (λ _. refl))
+    (else-of before7 _ _ (found-of before7 _ Leaf (λ _. refl)) (found-of before7 _ Leaf (λ _. refl)))
 
-early-tiles : (f : Frame) (ts us : List ℕ) → early (frameTiles f ts us) ≡ true
+early-tiles : (f : Frame) (ts us : List ℕ) → Of before7 (frameTiles f ts us) ≡ true
 unfolding frameTiles tilesCheck
-early-tiles f ts us = else-early _ _ (found-early _ (λ k. Setting) (λ _. refl)) (only-early _ _ (found-early _ (λ k. Setting) (λ _. refl)))
+early-tiles f ts us = both-found before7 _ _ _ (λ k. Setting) (λ _. refl)
 
-early-checks : (f : Frame) (k : FrameLengths) (ts us : List ℕ) (n : Given) → early (frameEarly f k ts us n) ≡ true
+early-keep : (f : Frame) (ks es : List ℕ) → Of before7 (frameKeep f ks es) ≡ true
+unfolding frameKeep
+early-keep f ks es = both-found before7 _ _ _ Cell (λ _. refl)
+
+early-checks : (f : Frame) (k : FrameLengths) (ts us ks es : List ℕ) (n : Given) → Of before7 (frameEarly f k ts us ks es n) ≡ true
 unfolding frameEarly frameShape frameGiven stepsCheck frameSettings
-early-checks f k ts us n =
-    else-early _ _ (else-early _ _ (unless-early _ Depth refl) (else-early _ _ (early-sizes f) (early-lengths f k)))
-    (else-early _ _ (found-early _ Steps (λ _. refl)) (else-early _ _ (unless-early _ Setting refl) (else-early _ _ (early-tiles f ts us) (early-leaves n))))
+early-checks f k ts us ks es n =
+    else-of before7 _ _ (else-of before7 _ _ (unless-of before7 _ Depth refl) (else-of before7 _ _ (early-sizes f) (early-lengths f k)))
+    (else-of before7 _ _
+    (else-of before7 _ _ (found-of before7 _ Steps (λ _. refl)) (else-of before7 _ _ (unless-of before7 _ Setting refl) (else-of before7 _ _ (early-tiles f ts us) (early-leaves n))))
+    (early-keep f ks es))
+
+abbrev from7 : Refusal → Bool
+from7 r = not (before7 r)
+
+late-checks : (f : Frame) (g : Grids) (p : Planes) → Of from7 (frameLate f g p) ≡ true
+unfolding frameLate frameRoom frameSamples
+late-checks f g p =
+    else-of from7 _ _ (both-found from7 _ _ _ Room (λ _. refl))
+    (else-of from7 _ _ (found-of from7 _ Sample (λ _. refl)) (only-of from7 _ _ (else-of from7 _ _ (found-of from7 _ Sample (λ _. refl)) (found-of from7 _ Sample (λ _. refl)))))
 
 module _ (f : Frame) (n : Given) (l : Lent) where
   pub kept-early : {r : Refusal} → earlyOf f n l ≡ Refused r → frameOf f n l ≡ done (Refused r) l
@@ -155,11 +177,30 @@ module _ (f : Frame) (n : Given) (l : Lent) where
 
   -- ---- one by 7 has passed every early check
 
-  room-by : (a : Answer) {k : ℕ} → early a ≡ true → orDone a l built .answer ≡ Refused (Room k) → a ≡ Accepted
+  room-by : (a : Answer) {k : ℕ} → Of before7 a ≡ true → orDone a l built .answer ≡ Refused (Room k) → a ≡ Accepted
   unfolding orDone
   room-by Accepted h g = refl
-  room-by (Refused x) h g = let z : true ≡ false = sym h ∙ ap early g in absurd (let y : _≡_ {A = ℕ} 0 1 = cc in omega arith)
+  room-by (Refused x) h g = let z : true ≡ false = sym h ∙ ap (Of before7) g in absurd (let y : _≡_ {A = ℕ} 0 1 = cc in omega arith)
 
   pub room-early : {k : ℕ} → frameOf f n l .answer ≡ Refused (Room k) → earlyOf f n l ≡ Accepted
   unfolding frameOf
-  room-early e = room-by (earlyOf f n l) (early-checks f (lengthsOf n l) _ _ n) e
+  room-early e = room-by (earlyOf f n l) (early-checks f (lengthsOf n l) _ _ _ _ n) e
+
+  -- ---- one before 7 leaves every list as lent, the grids too
+
+  not-both : {X : Type 0} (b : Bool) → b ≡ true → not b ≡ true → X
+  not-both true e g = absurd (let y : _≡_ {A = ℕ} 0 1 = cc in omega arith)
+  not-both false e g = absurd (let y : _≡_ {A = ℕ} 0 1 = cc in omega arith)
+
+  as-lent : (a : Answer) {r : Refusal} → before7 r ≡ true → orDone a l built .answer ≡ Refused r → orDone a l built ≡ done (Refused r) l
+  unfolding orDone frameBuilt
+  as-lent (Refused x) h e = ap (λ (b : Answer). done b l) e
+  as-lent Accepted {r} h e = not-both (before7 r) h (sym (ap (Of from7) e) ∙ late-checks f (builtGrids f n (l .grids)) (l .planes))
+
+  pub refused-early : {r : Refusal} → before7 r ≡ true → frameOf f n l .answer ≡ Refused r → frameOf f n l ≡ done (Refused r) l
+  unfolding frameOf
+  refused-early h e = as-lent (earlyOf f n l) h e
+
+  -- ticket 7: so does one for a keep mark
+  pub mark-refused : {k : ℕ} → frameOf f n l .answer ≡ Refused (Cell k) → frameOf f n l ≡ done (Refused (Cell k)) l
+  mark-refused e = refused-early refl e

@@ -18,7 +18,7 @@ use Rattle.asked.specs.declared.lists.Lists.{Lists}
 use Rattle.asked.specs.Lists.{listsAsked, stepsAsked}
 use Rattle.asked.specs.Places.{placeIn, samplePlace, leavesPlace}
 use Rattle.framed.specs.declared.listed.Outcome.{Outcome}
-use Rattle.framed.specs.Deblocked.{Starts, overZeros, deblocked, Deblocked, LumaFit, roomPlace}
+use Rattle.framed.specs.Deblocked.{Starts, Keeps, overZeros, deblocked, Deblocked, LumaFit, roomPlace}
 use Rattle.framed.specs.Framed.{givenBy, givenAsked, startsBy, startsAsked, refusalPlace, answerPlace, Told}
 
 module _ (f : Frame) (n : Given) (ts : List ℕ) (p : Planes) (r : Refusal) {x : Place} where
@@ -78,33 +78,33 @@ pub ruleset refusing = (needs, at-sample, at-room, at-leaf, at-step, of-depth, o
 
 -- ---- what a deblocked frame tells
 
-module _ {f : Frame} {n : Given} {t : Starts} {p left : Planes} {a : PlaneAnswer} (d : Deblocked f n t p a left) where
+module _ {f : Frame} {n : Given} {t : Starts} {k : Keeps} {p left : Planes} {a : PlaneAnswer} (d : Deblocked f n t k p a left) where
   -- a frame that lacks room has passed its early checks
-  pub luma-fit : {r : Refusal} {k : ℕ} → a .answer ≡ Refused r → r ≡ Room k → LumaFit f (n .leaves) (n .skips) (length (n .sbq))
+  pub luma-fit : {r : Refusal} {i : ℕ} → a .answer ≡ Refused r → r ≡ Room i → LumaFit f (n .leaves) (n .skips) (length (n .sbq))
   unfolding deblocked
   luma-fit e is =
-      let ok = room-early f n (overZeros t p) (sym (d .answer) ∙ e ∙ ap Refused is) in
-      record { size = length (p .y); sampled = luma-sampled _ _ _ _ _ ok; built = luma-built _ _ _ _ _ ok }
+      let ok = room-early f n (overZeros t k p) (sym (d .answer) ∙ e ∙ ap Refused is) in
+      record { size = length (p .y); sampled = luma-sampled _ _ _ _ _ _ _ ok; built = luma-built _ _ _ _ _ _ _ ok }
 
   -- a refused one has its planes as lent
   kept : {r : Refusal} → a .answer ≡ Refused r → left ≡ p
   unfolding deblocked
-  kept e = d .samples ∙ refused-kept f n (overZeros t p) (sym (d .answer) ∙ e)
+  kept e = d .samples ∙ refused-kept f n (overZeros t k p) (sym (d .answer) ∙ e)
 
-  as-told : {x : Answer} → a .answer ≡ x → Deblocked f n t p (record { answer = x; stored = a .stored; changed = a .changed }) left
+  as-told : {x : Answer} → a .answer ≡ x → Deblocked f n t k p (record { answer = x; stored = a .stored; changed = a .changed }) left
   as-told e = record { answer = sym e ∙ d .answer; samples = d .samples; stored = d .stored; changed = d .changed }
 
-  pub told-refused : {r : Refusal} {x : Place} → a .answer ≡ Refused r → x ≡ refusalPlace f n (t .luma) left r → Told f n t p (record { answer = Refused r; place = x; stored = a .stored; changed = a .changed }) left
+  pub told-refused : {r : Refusal} {x : Place} → a .answer ≡ Refused r → x ≡ refusalPlace f n (t .luma) left r → Told f n t k p (record { answer = Refused r; place = x; stored = a .stored; changed = a .changed }) left
   unfolding answerPlace
   told-refused e g = record { deblocked = as-told e; place = rw (kept e) at g }
 
-  pub told-accepted : {x : Place} → a .answer ≡ Accepted → x ≡ placeIn 8 0 0 → Told f n t p (record { answer = Accepted; place = x; stored = a .stored; changed = a .changed }) left
+  pub told-accepted : {x : Place} → a .answer ≡ Accepted → x ≡ placeIn 8 0 0 → Told f n t k p (record { answer = Accepted; place = x; stored = a .stored; changed = a .changed }) left
   unfolding answerPlace
   told-accepted e g = record { deblocked = as-told e; place = g }
 
 -- the lists l and m steps, as the settings have them
-pub told-so : (f : Frame) (shorts steps places : List ℕ) (p : Planes) (l : Lists) (m : ℕ) → l ≡ listsAsked (length shorts) places → m ≡ stepsAsked (getD places 3 0) → {o : Outcome} {left : Planes} → Told f (givenBy l m shorts steps) (startsBy l shorts) p o left → Told f (givenAsked shorts steps places) (startsAsked shorts places) p o left
+pub told-so : (f : Frame) (shorts steps places : List ℕ) (k : Keeps) (p : Planes) (l : Lists) (m : ℕ) → l ≡ listsAsked (length shorts) places → m ≡ stepsAsked (getD places 3 0) → {o : Outcome} {left : Planes} → Told f (givenBy l m shorts steps) (startsBy l shorts) k p o left → Told f (givenAsked shorts steps places) (startsAsked shorts places) k p o left
 unfolding givenAsked startsAsked
-told-so f shorts steps places p l m is-l is-m d = rw (is-l, is-m) at d
+told-so f shorts steps places k p l m is-l is-m d = rw (is-l, is-m) at d
 
 pub ruleset settled = (needs, told-so)

@@ -1,8 +1,10 @@
 -- A frame deblocked over lists that are all zero, and luma asked for room over them. Assumes nothing.
 use mathlib.Core.Path.{_≡_, refl, sym, ap, _∙_}
-use mathlib.Core.Bool.{true}
+use mathlib.Core.Bool.{true, false}
 use mathlib.Core.List.{List, []}
-use Prim.Native.Nat.{ℕ, _/_}
+use Prim.Native.Nat.{ℕ, zero, suc, _*_, _/_, _≤_}
+use native.Mathlib.Omega.{arith}
+use lib.ListN.{length, getD, replicate}
 use Rattle.laws.specs.Choose.{pick}
 use borrow.Author.Needs.{needs}
 use Rattle.rules.specs.declared.settings.Frame.{Frame}
@@ -14,23 +16,43 @@ use Rattle.rules.specs.declared.refusals.Refusal.the-variants.{Room}
 use Rattle.rules.specs.declared.refusals.Found.{Found}
 use Rattle.rules.specs.declared.refusals.Found.the-variants.{At, Nothing}
 use Rattle.rules.specs.Refusals.{found, onlyIf, first}
-use Rattle.rules.specs.Plane.{tiled, badStart, tilesCheck, noRoom}
+use Rattle.rules.specs.Plane.{keeping, tiled, badStart, tilesCheck, badKeep, noRoom}
 use Rattle.rules.specs.Frame.{Planes, Grids, Given, Lent, grids, lent, lumaPlane, lumaTu, lumaQ, builtGrid}
 use Rattle.scan.proofs.Checks.{refused-not, found-nothing}
+use Rattle.scan.proofs.First.{all-nothing, over-good}
+use Rattle.frame_planes.specs.Fit.{Buildable}
 use Rattle.frame.specs.Stated.{Stated}
 use Rattle.asked.specs.declared.places.Place.{Place}
 use Rattle.asked.specs.Places.{placeIn, ifFound}
-use Rattle.framed.specs.Deblocked.{zeros, starts, deblocked, Deblocked, lumaGrid, roomPlace}
+use Rattle.framed.specs.Deblocked.{zeros, starts, keeps, deblocked, Deblocked, lumaGrid, roomPlace}
 
-module _ (f : Frame) (n : Given) (p : Planes) {a : PlaneAnswer} {left : Planes} {g : Grids} {lv lh lw lt lq ls cv ch cw ct cq cs : List ℕ} where
-  pub by-zeros : Stated f n (lent p (grids (tiled lv lh lw lt lq ls) (tiled cv ch cw ct cq cs))) a (lent left g)
+module _ (f : Frame) (n : Given) (p : Planes) {a : PlaneAnswer} {left : Planes} {g : Grids} {lv lh lw lt lq ls lk cv ch cw ct cq cs ck : List ℕ} where
+  pub by-zeros : Stated f n (lent p (grids (keeping lv lh lw lt lq ls lk) (keeping cv ch cw ct cq cs ck))) a (lent left g)
       → lv ≡ zeros → lh ≡ zeros → lw ≡ zeros → lt ≡ zeros → lq ≡ zeros
       → cv ≡ zeros → ch ≡ zeros → cw ≡ zeros → ct ≡ zeros → cq ≡ zeros
-      → Deblocked f n (starts ls cs) p a left
+      → Deblocked f n (starts ls cs) (keeps lk ck) p a left
   unfolding deblocked
   by-zeros d e0 e1 e2 e3 e4 e5 e6 e7 e8 e9 =
       let w = rw (e0, e1, e2, e3, e4, e5, e6, e7, e8, e9) at d in
       record { answer = w .answer; samples = ap (λ (x : Lent). x .planes) (w .lists); stored = w .stored; changed = w .changed }
+
+-- ---- zeros as keep marks: no cell is kept, and no mark is bad
+
+zero-at : (m i : ℕ) → _≡_ {A = ℕ} (getD (replicate m 0) i 0) 0
+zero-at zero i = refl
+zero-at (suc m) zero = refl
+zero-at (suc m) (suc i) = zero-at m i
+
+pub zeros-good : (n : ℕ) → badKeep n zeros ≡ Nothing
+unfolding badKeep zeros
+zeros-good n = all-nothing _ n (λ i h. sym (over-good 1 (replicate 1048576 0) i (rw (zero-at 1048576 i) (omega arith))))
+
+-- there is one for each of luma's cells
+pub zeros-kept : (f : Frame) {leaves skips : List ℕ} {count : ℕ}
+    → Buildable f false leaves skips count (length zeros) (length zeros) (length zeros) (length zeros) (length zeros)
+    → (lumaPlane f .rows * lumaPlane f .cols ≤ length zeros) × (badKeep (lumaPlane f .rows * lumaPlane f .cols) zeros ≡ Nothing)
+unfolding lumaQ
+zeros-kept f b = (b .q-fit .long, zeros-good _)
 
 -- ---- where an edge lacks room
 

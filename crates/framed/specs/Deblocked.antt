@@ -1,13 +1,13 @@
--- A frame deblocked over grids that are all zero, and where an edge of it lacks room.
+-- A frame deblocked over grids that are all zero but for the tile starts and the keep marks, and where an edge of it lacks room.
 -- Assumes nothing.
 use mathlib.Core.Path.{_≡_}
 use mathlib.Core.Bool.{false}
-use mathlib.Core.List.{List}
+use mathlib.Core.List.{List, []}
 use Prim.Native.Nat.{ℕ, _/_}
 use lib.ListN.{length, replicate}
 use Rattle.rules.specs.declared.settings.Frame.{Frame}
 use Rattle.rules.specs.declared.refusals.PlaneAnswer.{PlaneAnswer}
-use Rattle.rules.specs.Plane.{Grid, tiled, noRoom}
+use Rattle.rules.specs.Plane.{Grid, keeping, noRoom}
 use Rattle.rules.specs.Frame.{Planes, Given, Lent, Done, grids, lent, lumaPlane, lumaTu, lumaQ, builtGrid, frameOf, frameStored, frameChanged}
 use Rattle.frame_planes.specs.Fit.{Sampled, Buildable}
 use Rattle.asked.specs.declared.places.Place.{Place}
@@ -25,26 +25,34 @@ pub record Starts : Type 0 where
 abbrev pub starts : List ℕ → List ℕ → Starts
 starts luma chroma = record { luma = luma; chroma = chroma }
 
--- by the tile starts of its plane
-abbrev pub zeroGrid : List ℕ → Grid
-zeroGrid ts = tiled zeros zeros zeros zeros zeros ts
+-- luma's keep marks, and chroma's
+pub record Keeps : Type 0 where
+  pub luma : List ℕ
+  pub chroma : List ℕ
 
-abbrev pub overZeros : Starts → Planes → Lent
-overZeros t p = lent p (grids (zeroGrid (t .luma)) (zeroGrid (t .chroma)))
+abbrev pub keeps : List ℕ → List ℕ → Keeps
+keeps luma chroma = record { luma = luma; chroma = chroma }
+
+-- by the tile starts and the keep marks of its plane
+abbrev pub zeroGrid : List ℕ → List ℕ → Grid
+zeroGrid ts ks = keeping zeros zeros zeros zeros zeros ts ks
+
+abbrev pub overZeros : Starts → Keeps → Planes → Lent
+overZeros t k p = lent p (grids (zeroGrid (t .luma) (k .luma)) (zeroGrid (t .chroma) (k .chroma)))
 
 -- the frame's answer and lists by rules' frameOf
-unfoldable pub deblocked : Frame → Given → Starts → Planes → Done
-deblocked f n t p = frameOf f n (overZeros t p)
+unfoldable pub deblocked : Frame → Given → Starts → Keeps → Planes → Done
+deblocked f n t k p = frameOf f n (overZeros t k p)
 
-pub record Deblocked (f : Frame) (n : Given) (t : Starts) (lent : Planes) (a : PlaneAnswer) (left : Planes) : Type 0 where
-  pub answer : a .answer ≡ deblocked f n t lent .answer
-  pub samples : left ≡ deblocked f n t lent .lists .planes
-  pub stored : a .stored ≡ frameStored f n (overZeros t lent)
-  pub changed : a .changed ≡ frameChanged f n (overZeros t lent)
+pub record Deblocked (f : Frame) (n : Given) (t : Starts) (k : Keeps) (lent : Planes) (a : PlaneAnswer) (left : Planes) : Type 0 where
+  pub answer : a .answer ≡ deblocked f n t k lent .answer
+  pub samples : left ≡ deblocked f n t k lent .lists .planes
+  pub stored : a .stored ≡ frameStored f n (overZeros t k lent)
+  pub changed : a .changed ≡ frameChanged f n (overZeros t k lent)
 
--- luma's grid over zeros, from leaves, skip leaves, superblocks and luma's tile starts
+-- luma's grid over zeros, from leaves, skip leaves, superblocks and luma's tile starts; room does not depend on keep marks
 unfoldable pub lumaGrid : Frame → List ℕ → List ℕ → List ℕ → List ℕ → Grid
-lumaGrid f leaves skips sbq ts = builtGrid (lumaTu f) (lumaQ f) leaves skips sbq (zeroGrid ts)
+lumaGrid f leaves skips sbq ts = builtGrid (lumaTu f) (lumaQ f) leaves skips sbq (zeroGrid ts [])
 
 -- what building it and asking it for room want
 pub record LumaFit (f : Frame) (leaves skips : List ℕ) (count : ℕ) : Type 0 where

@@ -2,8 +2,8 @@
 -- Assumes nothing.
 use mathlib.Core.Path.{_≡_}
 use mathlib.Core.List.{List}
-use Prim.Native.Nat.{ℕ, _-_, _≤_}
-use lib.ListN.{length, getD, take, drop}
+use Prim.Native.Nat.{ℕ, _≤_}
+use lib.ListN.{length, getD}
 use Rattle.rules.specs.declared.settings.Frame.{Frame}
 use Rattle.rules.specs.declared.refusals.Refusal.{Refusal}
 use Rattle.rules.specs.declared.refusals.Refusal.the-variants.{Depth, Size, Length, Steps, Setting, Cell, Room, Sample, Leaf, Buffer, Header, Cut, Entry}
@@ -12,20 +12,16 @@ use Rattle.rules.specs.declared.refusals.Answer.the-variants.{Accepted, Refused
 use Rattle.rules.specs.Frame.{Planes, Given, given}
 use Rattle.asked.specs.declared.places.Place.{Place}
 use Rattle.asked.specs.declared.lists.Lists.{Lists}
-use Rattle.asked.specs.Lists.{listsAsked, stepsAsked}
+use Rattle.asked.specs.Lists.{listsAsked, stepsAsked, between}
 use Rattle.asked.specs.Places.{placeIn, samplePlace, leavesPlace}
-use Rattle.framed.specs.Deblocked.{Starts, starts, Deblocked, roomPlace}
+use Rattle.framed.specs.Deblocked.{Starts, Keeps, starts, Deblocked, roomPlace}
 use Rattle.framed.specs.declared.listed.Outcome.{Outcome}
 
 -- how long the short numbers, the steps and the places are at least
 pub record Listed (shorts steps places : ℕ) : Type 0 where
-  pub shorts-long : 6142 ≤ shorts
+  pub shorts-long : 22526 ≤ shorts
   pub steps-long : 352 ≤ steps
-  pub places-long : 23 ≤ places
-
--- the numbers from a place to another
-abbrev pub between : List ℕ → ℕ → ℕ → List ℕ
-between xs from end = take (end - from) (drop from xs)
+  pub places-long : 24 ≤ places
 
 -- the lists of a frame among the short numbers, and n steps
 abbrev pub givenBy : Lists → ℕ → List ℕ → List ℕ → Given
@@ -67,6 +63,6 @@ answerPlace f n ts p Accepted = placeIn 8 0 0
 answerPlace f n ts p (Refused r) = refusalPlace f n ts p r
 
 -- the answer with the counts, its place, and the planes afterwards
-pub record Told (f : Frame) (n : Given) (t : Starts) (lent : Planes) (o : Outcome) (left : Planes) : Type 0 where
-  pub deblocked : Deblocked f n t lent (record { answer = o .answer; stored = o .stored; changed = o .changed }) left
+pub record Told (f : Frame) (n : Given) (t : Starts) (k : Keeps) (lent : Planes) (o : Outcome) (left : Planes) : Type 0 where
+  pub deblocked : Deblocked f n t k lent (record { answer = o .answer; stored = o .stored; changed = o .changed }) left
   pub place : o .place ≡ answerPlace f n (t .luma) lent (o .answer)

@@ -1,7 +1,7 @@
-// A frame deblocked over grids of its own.
+// A frame deblocked over grids of its own, by lent tile starts and keep marks.
 ghost use mathlib.Core.Path.{_≡_};
 ghost use Rattle.rules.specs.Frame.{planes, given};
-ghost use Rattle.framed.specs.Deblocked.{zeros, starts, Deblocked};
+ghost use Rattle.framed.specs.Deblocked.{zeros, starts, keeps, Deblocked};
 use frame::frame::deblock_frame;
 use rules::refusals::PlaneAnswer;
 use rules::settings::Frame;
@@ -32,10 +32,18 @@ pub fn deblock(
     skips: &[u16],
     tiles: &[u16],
     chromatiles: &[u16],
+    keep: &[u8],
+    chromakeep: &[u8],
     f: Frame,
     plain: bool,
 ) -> PlaneAnswer
-    ensures { λ a. ⌜ Deblocked f (given (now (steps .entry)) (now (sbq .entry)) (now (leaves .entry)) (now (chromaleaves .entry)) (now (skips .entry))) (starts (now (tiles .entry)) (now (chromatiles .entry))) (planes (now (y .entry)) (now (u .entry)) (now (v .entry))) a (planes (now (y .exit)) (now (u .exit)) (now (v .exit))) ⌝ }
+    ensures { λ a. ⌜ Deblocked f
+        (given (now (steps .entry)) (now (sbq .entry)) (now (leaves .entry)) (now (chromaleaves .entry)) (now (skips .entry)))
+        (starts (now (tiles .entry)) (now (chromatiles .entry)))
+        (keeps (now (keep .entry)) (now (chromakeep .entry)))
+        (planes (now (y .entry)) (now (u .entry)) (now (v .entry)))
+        a
+        (planes (now (y .exit)) (now (u .exit)) (now (v .exit))) ⌝ }
 {
     let mut lv = marks();
     let mut lh = marks();
@@ -68,6 +76,8 @@ pub fn deblock(
         skips,
         tiles,
         chromatiles,
+        keep,
+        chromakeep,
         f,
         plain,
     )

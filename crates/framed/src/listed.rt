@@ -1,7 +1,7 @@
 // The frame by the settings' own lists: deblocked, and where it was refused.
 ghost use lib.ListN.{length};
 ghost use Rattle.rules.specs.Frame.{planes, given};
-ghost use Rattle.framed.specs.Deblocked.{starts};
+ghost use Rattle.framed.specs.Deblocked.{starts, keeps};
 ghost use Rattle.framed.specs.Framed.{Listed, givenAsked, startsAsked, Told};
 use crate::deblocking::deblock;
 use crate::places::place_of;
@@ -32,10 +32,18 @@ fn deblock_given(
     skips: &[u16],
     tiles: &[u16],
     chromatiles: &[u16],
+    keep: &[u8],
+    chromakeep: &[u8],
     f: Frame,
     plain: bool,
 ) -> Outcome
-    ensures { λ o. ⌜ Told f (given (now (steps .entry)) (now (sbq .entry)) (now (leaves .entry)) (now (chromaleaves .entry)) (now (skips .entry))) (starts (now (tiles .entry)) (now (chromatiles .entry))) (planes (now (y .entry)) (now (u .entry)) (now (v .entry))) o (planes (now (y .exit)) (now (u .exit)) (now (v .exit))) ⌝ }
+    ensures { λ o. ⌜ Told f
+        (given (now (steps .entry)) (now (sbq .entry)) (now (leaves .entry)) (now (chromaleaves .entry)) (now (skips .entry)))
+        (starts (now (tiles .entry)) (now (chromatiles .entry)))
+        (keeps (now (keep .entry)) (now (chromakeep .entry)))
+        (planes (now (y .entry)) (now (u .entry)) (now (v .entry)))
+        o
+        (planes (now (y .exit)) (now (u .exit)) (now (v .exit))) ⌝ }
 {
     let a = deblock(
         y,
@@ -48,6 +56,8 @@ fn deblock_given(
         skips,
         tiles,
         chromatiles,
+        keep,
+        chromakeep,
         f,
         plain,
     );
@@ -68,19 +78,27 @@ fn deblock_given(
     }
 }
 
-// The same by the lists among the settings' numbers.
+// The same by the lists among the settings' numbers, and the keep marks that they ask for.
 pub fn deblock_asked(
     y: &mut [u16],
     u: &mut [u16],
     v: &mut [u16],
     shorts: &[u16],
     steps: &[u32],
+    keep: &[u8],
+    chromakeep: &[u8],
     places: &[usize],
     f: Frame,
     plain: bool,
 ) -> Outcome
     requires { ⌜ Listed (length (now shorts)) (length (now steps)) (length (now places)) ⌝ }
-    ensures { λ o. ⌜ Told f (givenAsked (now (shorts .entry)) (now (steps .entry)) (now (places .entry))) (startsAsked (now (shorts .entry)) (now (places .entry))) (planes (now (y .entry)) (now (u .entry)) (now (v .entry))) o (planes (now (y .exit)) (now (u .exit)) (now (v .exit))) ⌝ }
+    ensures { λ o. ⌜ Told f
+        (givenAsked (now (shorts .entry)) (now (steps .entry)) (now (places .entry)))
+        (startsAsked (now (shorts .entry)) (now (places .entry)))
+        (keeps (now (keep .entry)) (now (chromakeep .entry)))
+        (planes (now (y .entry)) (now (u .entry)) (now (v .entry)))
+        o
+        (planes (now (y .exit)) (now (u .exit)) (now (v .exit))) ⌝ }
 {
     let at = lists_of(places, shorts.len());
     let n = steps_of(places[3]);
@@ -106,6 +124,8 @@ pub fn deblock_asked(
         &shorts[e..g],
         &shorts[h..i],
         &shorts[j..k],
+        keep,
+        chromakeep,
         f,
         plain,
     )

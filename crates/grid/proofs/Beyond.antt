@@ -1,4 +1,4 @@
--- "what lies beyond is kept": an entry past the plane's cells is as it was lent, in all four lists of a TU grid.
+-- "what lies beyond is kept": an entry past the plane's cells is as it was lent, in all four lists of a TU grid and in the keep marks.
 -- Assumes nothing.
 use mathlib.Core.Path.{_≡_, refl, sym, ap, _∙_}
 use mathlib.Core.List.{List}
@@ -16,7 +16,7 @@ use Rattle.rules.specs.declared.settings.Tile.{Tile}
 use Rattle.rules.specs.declared.refusals.Answer.{Answer}
 use Rattle.rules.specs.declared.refusals.Answer.the-variants.{Accepted, Refused}
 use Rattle.rules.specs.Refusals.{settle}
-use Rattle.rules.specs.TuGrid.{Marks, marks, markOf, log2Of, storeCell, paintCell, paintRow, paintOf, leafOf, leavesOf, clearOf, blankOf, txGridOf, txGridCheck, txGridAfter}
+use Rattle.rules.specs.TuGrid.{Marks, marks, markOf, log2Of, storeCell, paintCell, paintRow, paintOf, leafOf, leavesOf, clearOf, blankOf, txGridOf, txGridCheck, txGridAfter, clearedAfter}
 use Rattle.tiles.proofs.Places.{place-below}
 
 module _ (s : TuGrid) (i : ℕ) (far : s .rows * s .cols ≤ i) (v h w t : ℕ) where
@@ -71,10 +71,19 @@ alike : (g : Marks) (i : ℕ) → Alike g g i
 alike g i = record { at-vedge = refl; at-hedge = refl; at-sqw = refl; at-sqh = refl }
 
 -- the same of the entry, whatever it answers
-pub entry-beyond : (s : TuGrid) (ls skips : List ℕ) (g : Marks) (i : ℕ) → s .rows * s .cols ≤ i → Alike (txGridAfter s ls skips g) g i
+pub entry-beyond : (s : TuGrid) (ls skips : List ℕ) (g : Marks) (keep : List ℕ) (i : ℕ) → s .rows * s .cols ≤ i → Alike (txGridAfter s ls skips g keep) g i
 unfolding txGridAfter settle
-entry-beyond s ls skips g i far = by (txGridCheck s ls skips g)
+entry-beyond s ls skips g keep i far = by (txGridCheck s ls skips g keep)
   where
     by : (a : Answer) → Alike (settle a g (txGridOf s ls skips g)) g i
     by Accepted = tx-beyond s ls skips g i far
     by (Refused r) = alike g i
+
+-- and of the keep marks
+pub cleared-beyond : (s : TuGrid) (ls skips : List ℕ) (g : Marks) (keep : List ℕ) (i : ℕ) → s .rows * s .cols ≤ i → getD (clearedAfter s ls skips g keep) i 0 ≡ getD keep i 0
+unfolding clearedAfter settle
+cleared-beyond s ls skips g keep i far = by (txGridCheck s ls skips g keep)
+  where
+    by : (a : Answer) → getD (settle a keep (clearOf (s .rows * s .cols) keep)) i 0 ≡ getD keep i 0
+    by Accepted = clear-keeps _ i _ keep far refl
+    by (Refused r) = refl

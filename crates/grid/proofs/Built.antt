@@ -1,4 +1,4 @@
--- What a built TU grid holds: marks 0 or 1 and size indices 0..6 at every cell, so that none of its cells is bad.
+-- What a built TU grid holds: marks 0 or 1 and size indices 0..6 at every cell, so that none of its cells is bad; and its entry's keep marks, 0 at every cell.
 -- Assumes nothing.
 use mathlib.Core.Path.{_≡_, refl, sym, _∙_}
 use mathlib.Core.List.{List, [], _∷_}
@@ -14,23 +14,18 @@ use Rattle.laws.specs.Loops.{turns-keep}
 use Rattle.rules.specs.declared.settings.TuGrid.{TuGrid}
 use Rattle.rules.specs.declared.settings.Tile.{Tile}
 use Rattle.rules.specs.declared.settings.Plane.{Plane}
+use Rattle.rules.specs.declared.refusals.Answer.the-variants.{Accepted}
 use Rattle.rules.specs.declared.refusals.Found.the-variants.{Nothing}
+use Rattle.rules.specs.Refusals.{settle}
 use Rattle.rules.specs.Plane.{grid, cellGood, badCell}
-use Rattle.rules.specs.TuGrid.{Marks, markOf, log2Of, paintCell, paintRow, paintOf, leafOf, leavesOf, clearOf, txGridOf}
+use Rattle.rules.specs.TuGrid.{Marks, markOf, log2Of, paintCell, paintRow, paintOf, leafOf, leavesOf, clearOf, txGridOf, clearedAfter}
 use Rattle.scan.proofs.First.{all-nothing, found-unless-not}
-use Rattle.tiles.proofs.Turns.{turns-hit}
+use Rattle.tiles.proofs.Turns.{turns-hit, set-keeps}
 use Rattle.tiles.proofs.Places.{same-row, same-col}
+use Rattle.grid.specs.Stated.{Stated}
 use Rattle.grid.proofs.Covers.{Column, stored, vedge-column, hedge-column, sqw-column, sqh-column}
 
 -- ---- stores in a list, at one of its places
-
--- a property of what is stored and of what was there is one of what is there then
-set-keeps : (P : ℕ → Type 0) (l : List ℕ) (at x i : ℕ) → P x → P (getD l i 0) → P (getD (set l at x) i 0)
-set-keeps P [] at x i p q = q
-set-keeps P (y ∷ l) zero x zero p q = p
-set-keeps P (y ∷ l) zero x (suc i) p q = q
-set-keeps P (y ∷ l) (suc at) x zero p q = q
-set-keeps P (y ∷ l) (suc at) x (suc i) p q = set-keeps P l at x i p q
 
 set-none : (l : List ℕ) (i : ℕ) → getD (set l i 0) i 0 ≡ 0
 set-none [] i = refl
@@ -107,3 +102,8 @@ pub no-bad-cell : (p : Plane) (s : TuGrid) (ls skips : List ℕ) (g : Marks) (q 
 unfolding badCell
 no-bad-cell p s ls skips g q er ec =
     rw (er, ec) (all-nothing _ (s .rows * s .cols) (λ k h. sym (found-unless-not _ k (sym (cell-good s ls skips g q k h)))))
+
+-- ticket 7, "The TU grid alone clears the mark": no cell of an accepted grid is kept, whatever its mark was
+pub none-kept : {s : TuGrid} {ls skips : List ℕ} {g : Marks} {k : List ℕ} {m : Marks} {n : List ℕ} → Stated s ls skips g k Accepted m n → (i : ℕ) → i < s .rows * s .cols → getD n i 0 ≡ 0
+unfolding clearedAfter settle
+none-kept {s} {k = k} p i h = rw (p .cleared, ← p .answer) (clear-none (s .rows * s .cols) i k h)

@@ -17,13 +17,14 @@ pub record Fit (s : TuGrid) (v h w t : ℕ) : Type 0 where
   pub long-w : s .rows * s .cols ≤ w
   pub long-t : s .rows * s .cols ≤ t
 
--- the lengths of four lists
-pub record Measures (g : Marks) (v h w t : ℕ) : Type 0 where
+-- the lengths of the four lists and of the keep marks
+pub record Measures (g : Marks) (keep : List ℕ) (v h w t k : ℕ) : Type 0 where
   pub of-v : length (g .vedge) ≡ v
   pub of-h : length (g .hedge) ≡ h
   pub of-w : length (g .sqw) ≡ w
   pub of-t : length (g .sqh) ≡ t
+  pub of-k : length keep ≡ k
 
 -- an answer is that of the checks for any lists of these lengths
-pub record TxChecked (s : TuGrid) (leaves skips : List ℕ) (v h w t : ℕ) (r : Answer) : Type 0 where
-  pub of : (g : Marks) → Measures g v h w t → r ≡ txGridCheck s leaves skips g
+pub record TxChecked (s : TuGrid) (leaves skips : List ℕ) (v h w t k : ℕ) (r : Answer) : Type 0 where
+  pub of : (g : Marks) (keep : List ℕ) → Measures g keep v h w t k → r ≡ txGridCheck s leaves skips g keep

@@ -1,3 +1,4 @@
--- The words in which the grid's functions speak of what the checks have passed, and its tests in their order.
+-- The words in which the grid's functions speak of what the checks have passed, what its entry states, and its tests in their order.
 pub mod Fit
+pub mod Stated
 pub mod Exactly

@@ -196,7 +196,8 @@ pub fn leaves(
     }
 }
 
-fn clear(xs: &mut [u8], n: usize)
+// The first n entries 0, the others kept.
+pub fn clear(xs: &mut [u8], n: usize)
     requires { ⌜ n ≤ length (now xs) ⌝ }
     ensures { λ _. ⌜ now (xs .exit) ≡ clearOf n (now (xs .entry)) ⌝ }
 {

@@ -1,15 +1,17 @@
-// The TU grid and its entry: the checks in document 01's order, then four lists that start at 0, the leaves, and the skip leaves over them.
+// The TU grid and its entry: the checks in document 01's order, then four lists that start at 0, the leaves, and the skip leaves over them; the entry alone clears the keep marks.
 ghost use mathlib.Core.Path.{_≡_};
 ghost use mathlib.Core.Bool.{true, false};
 ghost use lib.ListN.{length};
 ghost use Rattle.laws.specs.Choose.{both};
 ghost use Rattle.rules.specs.Numbers.{subsamplingOk};
 ghost use Rattle.rules.specs.Refusals.{orElse, found};
-ghost use Rattle.rules.specs.TuGrid.{marks, cellsOk, capOk, badLeaf, txGridOf, txGridCheck, txGridAfter};
+ghost use Rattle.rules.specs.TuGrid.{marks, cellsOk, capOk, badLeaf, txGridOf};
 ghost use Rattle.rules.specs.declared.refusals.Refusal.the-variants.{Leaf};
 ghost use Rattle.tiles.specs.Fit.{Cut, AllGood};
 ghost use Rattle.grid.specs.Fit.{Fit, TxChecked};
+ghost use Rattle.grid.specs.Stated.{Stated};
 use super::paint::blank;
+use super::paint::clear;
 use super::paint::leaves;
 use rules::refusals::Answer;
 use rules::refusals::Found;
@@ -75,14 +77,23 @@ fn leaves_ok(ls: &[u16], skips: &[u16]) -> Answer
     Answer::Accepted
 }
 
-// The checks, for four lists of these lengths.
-fn tx_check(ls: &[u16], skips: &[u16], v: usize, h: usize, w: usize, t: usize, s: TuGrid) -> Answer
-    ensures { λ r. ⌜ TxChecked s (now (ls .entry)) (now (skips .entry)) v h w t r ⌝ }
+// The checks, for four lists and keep marks of these lengths.
+fn tx_check(
+    ls: &[u16],
+    skips: &[u16],
+    v: usize,
+    h: usize,
+    w: usize,
+    t: usize,
+    k: usize,
+    s: TuGrid,
+) -> Answer
+    ensures { λ r. ⌜ TxChecked s (now (ls .entry)) (now (skips .entry)) v h w t k r ⌝ }
 {
     if !sizes_ok(s) {
         return Answer::Refused(Refusal::Size);
     }
-    if !lists_ok(s.rows * s.cols, v, h, w, t, ls.len(), skips.len()) {
+    if !lists_ok(s.rows * s.cols, v, h, w, t, k, ls.len(), skips.len()) {
         return Answer::Refused(Refusal::Length);
     }
     if !caps_ok(s) {
@@ -91,7 +102,7 @@ fn tx_check(ls: &[u16], skips: &[u16], v: usize, h: usize, w: usize, t: usize, s
     leaves_ok(ls, skips)
 }
 
-// The TU grid of any settings and lists, or why there is none.
+// The TU grid of any settings and lists, with no cell kept, or why there is none.
 pub fn build_tx_grid(
     ls: &[u16],
     skips: &[u16],
@@ -99,15 +110,26 @@ pub fn build_tx_grid(
     hedge: &mut [u8],
     sqw: &mut [u8],
     sqh: &mut [u8],
+    keep: &mut [u8],
     s: TuGrid,
 ) -> Answer
-    ensures { λ r. ⌜ (r ≡ txGridCheck s (now (ls .entry)) (now (skips .entry)) (marks (now (vedge .entry)) (now (hedge .entry)) (now (sqw .entry)) (now (sqh .entry))))
-        × (marks (now (vedge .exit)) (now (hedge .exit)) (now (sqw .exit)) (now (sqh .exit)) ≡ txGridAfter s (now (ls .entry)) (now (skips .entry)) (marks (now (vedge .entry)) (now (hedge .entry)) (now (sqw .entry)) (now (sqh .entry)))) ⌝ }
+    ensures { λ r. ⌜ Stated s (now (ls .entry)) (now (skips .entry)) (marks (now (vedge .entry)) (now (hedge .entry)) (now (sqw .entry)) (now (sqh .entry))) (now (keep .entry))
+        r (marks (now (vedge .exit)) (now (hedge .exit)) (now (sqw .exit)) (now (sqh .exit))) (now (keep .exit)) ⌝ }
 {
-    let a = tx_check(ls, skips, vedge.len(), hedge.len(), sqw.len(), sqh.len(), s);
+    let a = tx_check(
+        ls,
+        skips,
+        vedge.len(),
+        hedge.len(),
+        sqw.len(),
+        sqh.len(),
+        keep.len(),
+        s,
+    );
     if let Answer::Refused(r) = a {
         return Answer::Refused(r);
     }
     tx_grid(ls, skips, vedge, hedge, sqw, sqh, s);
+    clear(keep, s.rows * s.cols);
     Answer::Accepted
 }

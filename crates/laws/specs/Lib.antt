@@ -9,6 +9,7 @@ pub mod Largest
 pub mod Lists
 pub mod Stores
 pub mod Changes
+pub mod Outside
 pub mod Footprints
 pub mod Boxes
 pub mod Trace

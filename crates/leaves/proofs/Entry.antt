@@ -16,15 +16,17 @@ use Rattle.rules.specs.declared.refusals.Answer.the-variants.{Accepted, Refused
 use Rattle.rules.specs.declared.refusals.Found.{Found}
 use Rattle.rules.specs.declared.refusals.Found.the-variants.{At, Nothing}
 use Rattle.rules.specs.Refusals.{orElse, found, settle, first, foundIf, foundUnless}
-use Rattle.rules.specs.TuGrid.{Marks, foursOk, marksLong, leafGoodAt, badLeaf, leavesOf, blankOf, txGridOf, txGridCheck, txGridAfter}
+use Rattle.rules.specs.declared.refusals.Refusal.{Refusal}
+use Rattle.rules.specs.TuGrid.{Marks, marks, foursOk, listsLong, leafGoodAt, badLeaf, leavesOf, clearOf, blankOf, txGridCheck, txGridAfter, clearedAfter}
 use Rattle.scan.proofs.First.{at-first, at-not-nothing, found-if, found-if-not}
-use Rattle.scan.proofs.Checks.{else-parts, unless-true}
+use Rattle.scan.proofs.Checks.{else-parts, unless-true, refused-by, accepted-by, settle-refused-by, settle-accepted-by}
 use Rattle.grid.specs.Fit.{Fit}
+use Rattle.grid.specs.Stated.{Stated}
 use Rattle.grid.proofs.Painted.{grid-built}
 use Rattle.tiles.proofs.Checked.{cols-most, rows-most}
 use Rattle.grid.proofs.Checked.{long-fit}
 use Rattle.leaves.specs.declared.records.Leaf.{Leaf}
-use Rattle.leaves.specs.Records.{flat, placeOr, goodOf, refusedOf, badAfter, leavesCheck, recordCheck}
+use Rattle.leaves.specs.Records.{flat, placeOr, goodOf, refusedOf, badAfter, leavesCheck, recordCheck, Checked, Started}
 use Rattle.leaves.proofs.Flat.{flat-length, flat-count}
 
 -- ---- refusal 9
@@ -69,17 +71,31 @@ three false = refl
 -- ---- the whole
 
 -- what accepted checks leave in hand for the lists to start at 0
-pub record-fit : (s : TuGrid) (n good m sound : ℕ) (g : Marks) → recordCheck s n good m sound g ≡ Accepted → Fit s (length (g .vedge)) (length (g .hedge)) (length (g .sqw)) (length (g .sqh))
+pub record-fit : (s : TuGrid) (n good m sound : ℕ) (g : Marks) (keep : List ℕ) → recordCheck s n good m sound g keep ≡ Accepted → Fit s (length (g .vedge)) (length (g .hedge)) (length (g .sqw)) (length (g .sqh)) × (s .rows * s .cols ≤ length keep)
 unfolding recordCheck
-record-fit s n good m sound g e =
+record-fit s n good m sound g keep e =
     let p1 = else-parts _ _ e in
     let p2 = else-parts _ _ (p1 .1) in
     let sizes = both-parts _ _ (unless-true _ _ (p1 .0)) in
-    long-fit s g (cols-most _ _ (sizes .0)) (rows-most _ _ (sizes .0)) (unless-true _ _ (p2 .0))
+    long-fit s g keep (cols-most _ _ (sizes .0)) (rows-most _ _ (sizes .0)) (unless-true _ _ (p2 .0))
 
-pub check-is : (s : TuGrid) (ls skips : List Leaf) (g : Marks) → recordCheck s (length ls) (goodOf false ls) (length skips) (goodOf true skips) g ≡ txGridCheck s (flat ls) (flat skips) g
+-- the ways out of `start`, by the answer a of its checks
+module _ (s : TuGrid) (n good m sound : ℕ) (v h w t keep : List ℕ) {a : Answer} (made : Checked s n good m sound (length v) (length h) (length w) (length t) (length keep) a) where
+  by-checks : a ≡ recordCheck s n good m sound (marks v h w t) keep
+  by-checks = made .of (marks v h w t) keep (record { of-v = refl; of-h = refl; of-w = refl; of-t = refl; of-k = refl })
+
+  pub start-refused : {r : Refusal} → a ≡ Refused r → Started s n good m sound (marks v h w t) keep (Refused r) (marks v h w t) keep
+  start-refused e = record { answer = refused-by _ _ by-checks e; lists = settle-refused-by _ _ _ _ by-checks e; cleared = settle-refused-by _ _ _ _ by-checks e }
+
+  pub start-fit : a ≡ Accepted → Fit s (length v) (length h) (length w) (length t) × (s .rows * s .cols ≤ length keep)
+  start-fit e = record-fit s n good m sound (marks v h w t) keep (sym by-checks ∙ e)
+
+  pub start-done : a ≡ Accepted → {g : Marks} {k : List ℕ} → g ≡ blankOf (s .rows * s .cols) (marks v h w t) → k ≡ clearOf (s .rows * s .cols) keep → Started s n good m sound (marks v h w t) keep Accepted g k
+  start-done e f b = record { answer = accepted-by _ _ by-checks e; lists = settle-accepted-by _ _ _ _ _ by-checks e f; cleared = settle-accepted-by _ _ _ _ _ by-checks e b }
+
+pub check-is : (s : TuGrid) (ls skips : List Leaf) (g : Marks) (keep : List ℕ) → recordCheck s (length ls) (goodOf false ls) (length skips) (goodOf true skips) g keep ≡ txGridCheck s (flat ls) (flat skips) g keep
 unfolding recordCheck leavesCheck txGridCheck
-check-is s ls skips g = rw (bad-after false ls, bad-after true skips, fours ls, fours skips, three (marksLong (s .rows * s .cols) g))
+check-is s ls skips g keep = rw (bad-after false ls, bad-after true skips, fours ls, fours skips, three (listsLong (s .rows * s .cols) g keep))
 
 -- what an answer that is no refusal leaves
 pub accepted-is : (a : Answer) → refusedOf a ≡ false → a ≡ Accepted
@@ -87,18 +103,22 @@ unfolding refusedOf
 accepted-is Accepted e = refl
 accepted-is (Refused r) e = absurd (let z : _≡_ {A = ℕ} 0 1 = cc in omega arith)
 
--- refused: the lists are as they were lent
-pub after-refused : (s : TuGrid) (ls skips : List Leaf) (g g1 : Marks) (a c : Answer) → a ≡ c → c ≡ txGridCheck s (flat ls) (flat skips) g → refusedOf a ≡ true → g1 ≡ settle c g (blankOf (s .rows * s .cols) g) → g1 ≡ txGridAfter s (flat ls) (flat skips) g
-unfolding txGridAfter settle refusedOf
-after-refused s ls skips g g1 Accepted c e h f k = absurd (let z : _≡_ {A = ℕ} 0 1 = cc in omega arith)
-after-refused s ls skips g g1 (Refused r) c e h f k = rw (← h, ← e) (rw (← e) at k)
+-- ---- the entry's ways out, where `start` left the answer a, the lists g1 and the keep marks k1
 
--- accepted: they start at 0
-pub started : (g g0 g1 : Marks) (a c : Answer) → a ≡ c → a ≡ Accepted → g1 ≡ settle c g g0 → g1 ≡ g0
-unfolding settle
-started g g0 g1 a c e f k = rw (← e, f) at k
+module _ (s : TuGrid) (n good m sound : ℕ) (ls skips : List Leaf) (g g1 : Marks) (k k1 : List ℕ) (same : recordCheck s n good m sound g k ≡ txGridCheck s (flat ls) (flat skips) g k) where
+  -- refused: all lists are as they were lent
+  pub after-refused : (a : Answer) → refusedOf a ≡ true → Started s n good m sound g k a g1 k1 → Stated s (flat ls) (flat skips) g k a g1 k1
+  unfolding txGridAfter clearedAfter settle refusedOf
+  after-refused Accepted f p = absurd (let z : _≡_ {A = ℕ} 0 1 = cc in omega arith)
+  after-refused (Refused r) f p = let e = p .answer ∙ same in record { answer = e; lists = rw (← e) (rw (← p .answer) at (p .lists)); cleared = rw (← e) (rw (← p .answer) at (p .cleared)) }
 
--- and hold the leaves, then the skip leaves
-pub after-accepted : (s : TuGrid) (ls skips : List Leaf) (g g1 g2 : Marks) {g3 : Marks} → txGridCheck s (flat ls) (flat skips) g ≡ Accepted → g1 ≡ blankOf (s .rows * s .cols) g → g2 ≡ leavesOf s false (flat ls) g1 → g3 ≡ leavesOf s true (flat skips) g2 → g3 ≡ txGridAfter s (flat ls) (flat skips) g
-unfolding txGridAfter settle
-after-accepted s ls skips g g1 g2 e a b c = rw e (grid-built s (flat ls) (flat skips) g g1 g2 a b c)
+  module _ (a : Answer) (acc : a ≡ Accepted) (p : Started s n good m sound g k a g1 k1) where
+    pub all-accepted : txGridCheck s (flat ls) (flat skips) g k ≡ Accepted
+    all-accepted = sym (p .answer ∙ same) ∙ acc
+
+    -- accepted: the lists start at 0, and hold the leaves, then the skip leaves
+    pub after-accepted : (g2 : Marks) {g3 : Marks} → g2 ≡ leavesOf s false (flat ls) g1 → g3 ≡ leavesOf s true (flat skips) g2 → Stated s (flat ls) (flat skips) g k a g3 k1
+    unfolding txGridAfter clearedAfter settle
+    after-accepted g2 b c =
+        let e = sym (p .answer) ∙ acc in
+        record { answer = p .answer ∙ same; lists = rw all-accepted (grid-built s (flat ls) (flat skips) g g1 g2 (rw e at (p .lists)) b c); cleared = rw all-accepted (rw e at (p .cleared)) }

@@ -2,6 +2,7 @@
 -- Assumes nothing.
 use mathlib.Core.Path.{_≡_, refl}
 use mathlib.Core.List.{List, [], _∷_}
+use Prim.Native.Nat.{ℕ}
 use Rattle.rules.specs.declared.settings.TuGrid.{TuGrid}
 use Rattle.rules.specs.declared.refusals.Answer.{Answer}
 use Rattle.rules.specs.declared.refusals.Answer.the-variants.{Accepted}
@@ -12,9 +13,9 @@ use Rattle.grid.proofs.Exactly.{tx-exactly, tx-accepts}
 use Rattle.leaves.specs.declared.records.Leaf.{Leaf}
 use Rattle.leaves.specs.Records.{flat}
 
-pub record-exactly : (s : TuGrid) (ls skips : List Leaf) (g : Marks) {r : Answer} → r ≡ txGridCheck s (flat ls) (flat skips) g → Exactly r (txTests s (flat ls) (flat skips) g)
-record-exactly s ls skips g e = tx-exactly s (flat ls) (flat skips) g e
+pub record-exactly : (s : TuGrid) (ls skips : List Leaf) (g : Marks) (keep : List ℕ) {r : Answer} → r ≡ txGridCheck s (flat ls) (flat skips) g keep → Exactly r (txTests s (flat ls) (flat skips) g keep)
+record-exactly s ls skips g keep e = tx-exactly s (flat ls) (flat skips) g keep e
 
-pub record-accepts : txGridCheck record { cols = 2; rows = 1; ssx = 0; ssy = 0; capw = 8; caph = 8 } (flat (record { row = 0; col = 0; w = 1; h = 1 } ∷ [])) (flat (record { row = 0; col = 1; w = 1; h = 1 } ∷ [])) (marks (0 ∷ 0 ∷ []) (0 ∷ 0 ∷ []) (0 ∷ 0 ∷ []) (0 ∷ 0 ∷ [])) ≡ Accepted
+pub record-accepts : txGridCheck record { cols = 2; rows = 1; ssx = 0; ssy = 0; capw = 8; caph = 8 } (flat (record { row = 0; col = 0; w = 1; h = 1 } ∷ [])) (flat (record { row = 0; col = 1; w = 1; h = 1 } ∷ [])) (marks (0 ∷ 0 ∷ []) (0 ∷ 0 ∷ []) (0 ∷ 0 ∷ []) (0 ∷ 0 ∷ [])) (1 ∷ 2 ∷ []) ≡ Accepted
 unfolding flat
 record-accepts = tx-accepts

@@ -2,7 +2,7 @@
 --     Lane             one lent list: its lifetime and share, its place, its name and its machine count.        Lent L zs      what a function has of it while it holds zs: the lifetime's token, and the list
 --     relent L n       the same list as a callee has it, at a lifetime and a name n.        Kept L n zs      what is kept of it meanwhile.        Last n zs ws     what the callee says of it: its last value ws, which is as long
 --     lends, comes     of one list:   Lent L zs  ⊢ ⇛ ∃ n. Lent (relent L n) zs ∗ Kept L n zs,   and back
---     Lents, Kepts, Lasts4, lends-four, comes-four       the same of four lists, whose values are one `Marks`
+--     Lents, Kepts, Lasts4, lends-four, comes-four       the same of four lists, whose values are one `Marks`.        comes-with       and what a callee says of its other parameters, handed on
 --     toks, owns4      the four tokens, and the four lists, as a signature has them before what belongs to its other parameters.        hands, takes       of `Lents` these two, and back
 -- Assumes `Given`.
 use mathlib.Core.Path.{_≡_, refl, sym, _∙_, subst}
@@ -78,7 +78,7 @@ module _ {M : Type 1} (𝓤 : URA M) (H : Heap 𝓤) (A : Atoms 𝓤) (W : Given
       -- [the new slice; what is kept; the lifetime's token]
       at-once ! $ show ! (Lending (counted L (length zs)) zs) (ν, δ) $ move ! (2 ∷ 0 ∷ []) $ fjoin ! $ frame ! $ done !))
 
-  lends : (L : Lane) (zs : List ℕ) → length zs ≡ L .m → ent 𝓤 (sem 𝓤 H A (Lent L zs)) (H .⇛ (ex 𝓤 (Lending L zs)))
+  pub lends : (L : Lane) (zs : List ℕ) → length zs ≡ L .m → ent 𝓤 (sem 𝓤 H A (Lent L zs)) (H .⇛ (ex 𝓤 (Lending L zs)))
   lends L zs e = subst (λ (m : ℕ). ent 𝓤 (sem 𝓤 H A (Lent (counted L m) zs)) (H .⇛ (ex 𝓤 (Lending (counted L m) zs)))) e (lends-at L zs)
 
   comes-at : (L : Lane) (n : Call) (zs ws : List ℕ) → Room u8 (length zs) → Coming (counted L (length zs)) n zs ws
@@ -89,7 +89,7 @@ module _ {M : Type 1} (𝓤 : URA M) (H : Heap 𝓤) (A : Atoms 𝓤) (W : Given
       use3 W (later (‵ (own-at (counted L (length zs)) ws) ⊛ ‵ (flft (L .κ) (L .q)))) (comes-back u8 (L .κ) (n .0 ∷ []) (L .q) (L .γ) (L .b) (L .o) 𝓤 H A W (named 0) (named 0) zs (n .1) ws room e) $ await ! tt $ split ! $
       at-once ! $ show ! (λ (e : length ws ≡ length zs). sem 𝓤 H A (Lent (counted L (length zs)) ws)) e $ move ! (1 ∷ 0 ∷ []) $ fjoin ! $ done !)
 
-  comes : (L : Lane) (n : Call) (zs ws : List ℕ) → Room u8 (L .m) → length zs ≡ L .m → Coming L n zs ws
+  pub comes : (L : Lane) (n : Call) (zs ws : List ℕ) → Room u8 (L .m) → length zs ≡ L .m → Coming L n zs ws
   comes L n zs ws room e = subst (λ (m : ℕ). Coming (counted L m) n zs ws) e (comes-at L n zs ws (subst (Room u8) (sym e) room))
 
 -- ---- four of them
@@ -177,9 +177,10 @@ module _ {M : Type 1} (𝓤 : URA M) (H : Heap 𝓤) (A : Atoms 𝓤) (W : Given
         -- [kept of vedge, hedge, sqh, sqw]
         move ! (3 ∷ 2 ∷ []) $ fjoin ! $ move ! (2 ∷ 0 ∷ []) $ fjoin ! $ move ! (1 ∷ 0 ∷ []) $ fjoin ! $ done !))))
 
-    pub comes-four : (P : SProp 𝓤) (F : Fml) (n : Calls4) (g g' : Marks) → Rooms L → Long L g
-        → ent 𝓤 (sep 𝓤 (toks (relents L n) P) (sep 𝓤 (sem 𝓤 H A (Kepts L n g)) (sem 𝓤 H A (Lasts4 n g g' F)))) (H .⇛ (ex 𝓤 (λ (l : Long L g'). sep 𝓤 (sem 𝓤 H A (Lents L g')) P)))
-    comes-four P F n g g' room e =
+    -- with what belongs to other parameters
+    pub comes-with : (P : SProp 𝓤) (F : Fml) (n : Calls4) (g g' : Marks) → Rooms L → Long L g
+        → ent 𝓤 (sep 𝓤 (toks (relents L n) P) (sep 𝓤 (sem 𝓤 H A (Kepts L n g)) (sem 𝓤 H A (Lasts4 n g g' F)))) (H .⇛ (ex 𝓤 (λ (l : Long L g'). sep 𝓤 (sem 𝓤 H A (Lents L g')) (sep 𝓤 P (sem 𝓤 H A F)))))
+    comes-with P F n g g' room e =
         qed W ((‵ (flft (n .nv .0 ∷ []) fullShare) ⊛ ‵ (flft (n .nh .0 ∷ []) fullShare) ⊛ ‵ (flft (n .nw .0 ∷ []) fullShare) ⊛ ‵ (flft (n .nt .0 ∷ []) fullShare) ⊛ raw P) ∷ ‵ (Kepts L n g) ∷ ‵ (Lasts4 n g g' F) ∷ []) ∵ updating ! $
         split ! $ move ! (1 ∷ []) $ split ! $ move ! (1 ∷ []) $ split ! $ move ! (1 ∷ []) $ split ! $
         -- [the token of sqh; P; the tokens of sqw, hedge, vedge; what was kept; what is last]
@@ -199,5 +200,13 @@ module _ {M : Type 1} (𝓤 : URA M) (H : Heap 𝓤) (A : Atoms 𝓤) (W : Given
         move ! (7 ∷ 5 ∷ 4 ∷ []) $
         use3 W (later (some (λ (l : length (g' .vedge) ≡ L .lv .m). ‵ (Lent (L .lv) (g' .vedge))))) (comes 𝓤 H A W (L .lv) (n .nv) (g .vedge) (g' .vedge) (room .room-v) (e .long-v)) $ await ! tt $ pick ! (λ lv.
         -- [vedge; hedge; sqw; sqh; F; P]
-        at-once ! $ show ! (λ (l : Long L g'). sep 𝓤 (sem 𝓤 H A (Lents L g')) P) (record { long-v = lv; long-h = lh; long-w = lw; long-t = lt }) $
-        move ! (4 ∷ []) $ drop ! $ move ! (2 ∷ 3 ∷ []) $ fjoin ! $ move ! (2 ∷ 0 ∷ []) $ fjoin ! $ move ! (1 ∷ 0 ∷ []) $ fjoin ! $ frame ! $ done !))))
+        at-once ! $ show ! (λ (l : Long L g'). sep 𝓤 (sem 𝓤 H A (Lents L g')) (sep 𝓤 P (sem 𝓤 H A F))) (record { long-v = lv; long-h = lh; long-w = lw; long-t = lt }) $
+        move ! (2 ∷ 3 ∷ []) $ fjoin ! $ move ! (2 ∷ 0 ∷ []) $ fjoin ! $ move ! (1 ∷ 0 ∷ []) $ fjoin ! $ frame ! $ move ! (1 ∷ 0 ∷ []) $ done !))))
+
+    -- nothing of them
+    pub comes-four : (P : SProp 𝓤) (F : Fml) (n : Calls4) (g g' : Marks) → Rooms L → Long L g
+        → ent 𝓤 (sep 𝓤 (toks (relents L n) P) (sep 𝓤 (sem 𝓤 H A (Kepts L n g)) (sem 𝓤 H A (Lasts4 n g g' F)))) (H .⇛ (ex 𝓤 (λ (l : Long L g'). sep 𝓤 (sem 𝓤 H A (Lents L g')) P)))
+    comes-four P F n g g' room e =
+        qed W (raw (toks (relents L n) P) ∷ ‵ (Kepts L n g) ∷ ‵ (Lasts4 n g g' F) ∷ []) ∵ updating ! $
+        use3 W (later (some (λ (l : Long L g'). ‵ (Lents L g') ⊛ raw P ⊛ ‵ F))) (comes-with P F n g g' room e) $ await ! tt $ pick ! (λ l. split3 ! $ move ! (2 ∷ []) $ drop ! $
+        at-once ! $ show ! (λ (l : Long L g'). sep 𝓤 (sem 𝓤 H A (Lents L g')) P) l $ frame ! $ done !)

@@ -14,8 +14,8 @@ use Rattle.rules.specs.declared.refusals.Answer.the-variants.{Accepted, Refused
 use Rattle.rules.specs.declared.refusals.Found.{Found}
 use Rattle.rules.specs.declared.refusals.Found.the-variants.{At, Nothing}
 use Rattle.rules.specs.Numbers.{subsamplingOk}
-use Rattle.rules.specs.Refusals.{orElse, unless, found, foundIf}
-use Rattle.rules.specs.TuGrid.{Marks, cellsOk, capOk, marksLong, badLeaf}
+use Rattle.rules.specs.Refusals.{orElse, unless, found, foundIf, settle}
+use Rattle.rules.specs.TuGrid.{Marks, cellsOk, capOk, badLeaf, clearOf, blankOf, listsLong}
 use Rattle.grid.specs.Fit.{Measures}
 use Rattle.leaves.specs.declared.records.Leaf.{Leaf}
 
@@ -50,13 +50,19 @@ unfoldable pub leavesCheck : ℕ → ℕ → ℕ → ℕ → Answer
 leavesCheck n good m sound = orElse (found (badAfter n good) BadLeaf) (found (badAfter m sound) BadLeaf)
 
 -- the checks in the order 2, 3, 5, 9; a list of records is never cut short
-unfoldable pub recordCheck : TuGrid → ℕ → ℕ → ℕ → ℕ → Marks → Answer
-recordCheck s n good m sound g =
+unfoldable pub recordCheck : TuGrid → ℕ → ℕ → ℕ → ℕ → Marks → List ℕ → Answer
+recordCheck s n good m sound g keep =
     orElse (unless (both (cellsOk (s .cols) (s .rows)) (subsamplingOk (s .ssx) (s .ssy))) Size)
-    (orElse (unless (marksLong (s .rows * s .cols) g) Length)
+    (orElse (unless (listsLong (s .rows * s .cols) g keep) Length)
     (orElse (unless (both (capOk (s .capw)) (capOk (s .caph))) Setting)
     (leavesCheck n good m sound)))
 
 -- an answer is that of the checks for any lists of these lengths
-pub record Checked (s : TuGrid) (n good m sound v h w t : ℕ) (r : Answer) : Type 0 where
-  pub of : (g : Marks) → Measures g v h w t → r ≡ recordCheck s n good m sound g
+pub record Checked (s : TuGrid) (n good m sound v h w t k : ℕ) (r : Answer) : Type 0 where
+  pub of : (g : Marks) (keep : List ℕ) → Measures g keep v h w t k → r ≡ recordCheck s n good m sound g keep
+
+-- the answer a of the checks, and the four lists g' and the keep marks k' then, of lists g and keep marks k: they start at 0 where nothing is refused
+pub record Started (s : TuGrid) (n good m sound : ℕ) (g : Marks) (k : List ℕ) (a : Answer) (g' : Marks) (k' : List ℕ) : Type 0 where
+  pub answer : a ≡ recordCheck s n good m sound g k
+  pub lists : g' ≡ settle (recordCheck s n good m sound g k) g (blankOf (s .rows * s .cols) g)
+  pub cleared : k' ≡ settle (recordCheck s n good m sound g k) k (clearOf (s .rows * s .cols) k)

@@ -1,6 +1,6 @@
-// The TU grid from lists of leaf records: the checks, then four lists that start at 0, the leaves, and the skip leaves over them.
-ghost use mathlib.Core.Path.{_≡_};
-ghost use Rattle.rules.specs.TuGrid.{marks, txGridCheck, txGridAfter};
+// The TU grid from lists of leaf records: the checks, then four lists and keep marks that start at 0, the leaves, and the skip leaves over them.
+ghost use Rattle.rules.specs.TuGrid.{marks};
+ghost use Rattle.grid.specs.Stated.{Stated};
 ghost use Rattle.leaves.specs.Records.{flat};
 use super::records::Leaf;
 use super::records::good_leaves;
@@ -10,7 +10,7 @@ use super::start::start;
 use rules::refusals::Answer;
 use rules::settings::TuGrid;
 
-// The TU grid of any settings and lists, or why there is none.
+// The TU grid of any settings and lists, with no cell kept, or why there is none.
 pub fn build_tx_grid(
     ls: &[Leaf],
     skips: &[Leaf],
@@ -18,11 +18,11 @@ pub fn build_tx_grid(
     hedge: &mut [u8],
     sqw: &mut [u8],
     sqh: &mut [u8],
+    keep: &mut [u8],
     s: TuGrid,
 ) -> Answer
-    ensures { λ r. ⌜ (r ≡ txGridCheck s (flat (now (ls .entry))) (flat (now (skips .entry))) (marks (now (vedge .entry)) (now (hedge .entry)) (now (sqw .entry)) (now (sqh .entry))))
-        × (marks (now (vedge .exit)) (now (hedge .exit)) (now (sqw .exit)) (now (sqh .exit))
-        ≡ txGridAfter s (flat (now (ls .entry))) (flat (now (skips .entry))) (marks (now (vedge .entry)) (now (hedge .entry)) (now (sqw .entry)) (now (sqh .entry)))) ⌝ }
+    ensures { λ r. ⌜ Stated s (flat (now (ls .entry))) (flat (now (skips .entry))) (marks (now (vedge .entry)) (now (hedge .entry)) (now (sqw .entry)) (now (sqh .entry))) (now (keep .entry))
+        r (marks (now (vedge .exit)) (now (hedge .exit)) (now (sqw .exit)) (now (sqh .exit))) (now (keep .exit)) ⌝ }
 {
     let good = good_leaves(ls, false);
     let sound = good_leaves(skips, true);
@@ -31,6 +31,7 @@ pub fn build_tx_grid(
         hedge,
         sqw,
         sqh,
+        keep,
         s,
         ls.len(),
         good,

@@ -21,7 +21,7 @@ use Rattle.rules.specs.declared.refusals.Refusal.the-variants.{Setting, Room, S
 use Rattle.rules.specs.Numbers.{depthOk, topOf}
 use Rattle.rules.specs.Refusals.{orElse, unless, found, overBox}
 use Rattle.rules.specs.Lengths.{reachBefore, reachAfter}
-use Rattle.rules.specs.Segment.{rangesOk, hasRoom, widthAt, segmentOf}
+use Rattle.rules.specs.Segment.{rangesOk, hasRoom, widthAt, noneKept, segmentOf}
 use Rattle.rules.specs.Counts.{storedAt, changedAt}
 use Rattle.rules.specs.Lone.{edgeOf, sizesOk, settingsOk, overEdge, loneCheck, lonePlane, answerWidth, loneWidth, loneStored, loneChanged}
 use Rattle.lengths.proofs.Lengths.{pair-facts}
@@ -158,14 +158,14 @@ module _ (s : Lone) (l : List ℕ) (a : Answer) (h : a ≡ loneCheck s l) where
     plane = settle-refused-by (loneCheck s l) a l _ h e;
   }
 
-  pub lone-accepted : {e : Edge} {top : ℕ} {o : Outcome} {m : List ℕ} → a ≡ Accepted → e ≡ edgeOf s → top ≡ topOf (s .depth) → EdgeFiltered top (s .stride) e l o m
+  pub lone-accepted : {e : Edge} {top : ℕ} {o : Outcome} {m : List ℕ} → a ≡ Accepted → e ≡ edgeOf s → top ≡ topOf (s .depth) → EdgeFiltered top (s .stride) noneKept e l o m
       → Stated s l record { width = Samples (o .width); stored = o .stored; changed = o .changed } m
   unfolding loneWidth answerWidth lonePlane loneStored loneChanged
   lone-accepted {e} {top} {o} {m} q he ht f =
       let w : o .width ≡ widthAt (s .stride) (edgeOf s) l = cc (f .width) in
-      let t : o .stored ≡ storedAt (topOf (s .depth)) (s .stride) (edgeOf s) l = cc (f .stored) in
-      let d : o .changed ≡ changedAt (topOf (s .depth)) (s .stride) (edgeOf s) l = cc (f .changed) in
-      let k : m ≡ segmentOf (topOf (s .depth)) (s .stride) (edgeOf s) l = cc (f .plane) in
+      let t : o .stored ≡ storedAt (topOf (s .depth)) (s .stride) noneKept (edgeOf s) l = cc (f .stored) in
+      let d : o .changed ≡ changedAt (topOf (s .depth)) (s .stride) noneKept (edgeOf s) l = cc (f .changed) in
+      let k : m ≡ segmentOf (topOf (s .depth)) (s .stride) noneKept (edgeOf s) l = cc (f .plane) in
       record {
         width = rw (← h, q) (ap Samples w);
         stored = settle-accepted-by (loneCheck s l) a 0 _ _ h q t;

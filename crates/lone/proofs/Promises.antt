@@ -6,6 +6,7 @@ use mathlib.Core.List.{List}
 use Prim.Native.Nat.{ℕ, _+_, _*_, _≤_, _<_}
 use native.Mathlib.Omega.{arith}
 use lib.ListN.{getD, length}
+use Rattle.laws.specs.Outside.{outside}
 use Rattle.laws.specs.Stores.{puts, puts-agree-in}
 use Rattle.rules.specs.declared.edge.Edge.{Edge}
 use Rattle.rules.specs.declared.edge.Place.{Place}
@@ -19,7 +20,7 @@ use Rattle.rules.specs.declared.refusals.LoneAnswer.{LoneAnswer}
 use Rattle.rules.specs.Numbers.{topOf}
 use Rattle.rules.specs.Refusals.{settle}
 use Rattle.rules.specs.Lengths.{reachBefore, reachAfter}
-use Rattle.rules.specs.Segment.{placeOf, windowOf, chosenOf, storesOf, widthAt, segmentOf}
+use Rattle.rules.specs.Segment.{placeOf, windowOf, chosenOf, storesOf, widthAt, noneKept, openStores, segmentOf}
 use Rattle.rules.specs.Counts.{storedAt, changedAt}
 use Rattle.rules.specs.Lone.{edgeOf, loneCheck, lonePlane, answerWidth, loneWidth, loneStored, loneChanged}
 use Rattle.segment.specs.Fit.{Fit, InPlane, Within}
@@ -33,7 +34,7 @@ use Rattle.lone.specs.Stated.{Stated}
 use Rattle.lone.proofs.Accepted.{passed}
 
 -- ---- the plane afterwards
-lone-new : (s : Lone) (l : List ℕ) → loneCheck s l ≡ Accepted → lonePlane s l ≡ segmentOf (topOf (s .depth)) (s .stride) (edgeOf s) l
+lone-new : (s : Lone) (l : List ℕ) → loneCheck s l ≡ Accepted → lonePlane s l ≡ segmentOf (topOf (s .depth)) (s .stride) noneKept (edgeOf s) l
 unfolding lonePlane settle
 lone-new s l h = rw h
 
@@ -42,40 +43,41 @@ unfolding loneWidth
 lone-width s l h = rw h
 
 module _ (s : Lone) (l : List ℕ) (h : loneCheck s l ≡ Accepted) where
-  pub lone-demand-3 : Demand3 (topOf (s .depth)) (s .stride) (edgeOf s) l (lonePlane s l)
-  lone-demand-3 = rw (lone-new s l h) (demand-3 (topOf (s .depth)) (s .stride) (edgeOf s) l (passed s l h .inside))
+  pub lone-demand-3 : Demand3 (topOf (s .depth)) (s .stride) noneKept (edgeOf s) l (lonePlane s l)
+  lone-demand-3 = rw (lone-new s l h) (demand-3 (topOf (s .depth)) (s .stride) noneKept (edgeOf s) l (passed s l h .inside))
 
   pub lone-kept : (i : ℕ) → Outside (s .stride) (edgeOf s) l i → getD (lonePlane s l) i 0 ≡ getD l i 0
-  lone-kept i o = rw (lone-new s l h) (edge-kept (topOf (s .depth)) (s .stride) (edgeOf s) l i o)
+  lone-kept i o = rw (lone-new s l h) (edge-kept (topOf (s .depth)) (s .stride) noneKept (edgeOf s) l i o)
 
 -- accepted or refused
 pub lone-most : (s : Lone) (l : List ℕ) (i : ℕ) → getD l i 0 ≤ topOf (s .depth) → getD (lonePlane s l) i 0 ≤ topOf (s .depth)
 unfolding lonePlane settle
 lone-most s l i b = go (loneCheck s l)
   where
-    go : (a : Answer) → getD (settle a l (segmentOf (topOf (s .depth)) (s .stride) (edgeOf s) l)) i 0 ≤ topOf (s .depth)
-    go Accepted = edge-most (topOf (s .depth)) (s .stride) (edgeOf s) l i b
+    go : (a : Answer) → getD (settle a l (segmentOf (topOf (s .depth)) (s .stride) noneKept (edgeOf s) l)) i 0 ≤ topOf (s .depth)
+    go Accepted = edge-most (topOf (s .depth)) (s .stride) noneKept (edgeOf s) l i b
     go (Refused r) = b
 
 pub lone-length : (s : Lone) (l : List ℕ) → length (lonePlane s l) ≡ length l
 unfolding lonePlane settle
 lone-length s l = go (loneCheck s l)
   where
-    go : (a : Answer) → length (settle a l (segmentOf (topOf (s .depth)) (s .stride) (edgeOf s) l)) ≡ length l
-    go Accepted = edge-length (topOf (s .depth)) (s .stride) (edgeOf s) l
+    go : (a : Answer) → length (settle a l (segmentOf (topOf (s .depth)) (s .stride) noneKept (edgeOf s) l)) ≡ length l
+    go Accepted = edge-length (topOf (s .depth)) (s .stride) noneKept (edgeOf s) l
     go (Refused r) = refl
 
--- ---- "Two accepted lone segments with the same settings, whose planes are equal within an edge's reach on its four lines, get equal new samples there."
+-- ---- "Two accepted lone segments with the same settings, whose planes are equal within an edge's reach on its four lines, get equal new samples there.";
+-- ticket 7: "01's claim on two lone segments asks equal marks too where a segment takes any", and none takes any
 module _ (top stride : ℕ) (e : Edge) (l m : List ℕ) (h : Within (placeOf stride e) l m) where
   same-width : widthAt stride e l ≡ widthAt stride e m
   unfolding widthAt
   same-width = ap (λ (ls : List Line). chosenOf (placeOf stride e) ls) (window-agree (placeOf stride e) l m h)
 
-  same-sample : (i : ℕ) → i < length l → i < length m → getD l i 0 ≡ getD m i 0 → getD (segmentOf top stride e l) i 0 ≡ getD (segmentOf top stride e m) i 0
+  same-sample : (i : ℕ) → i < length l → i < length m → getD l i 0 ≡ getD m i 0 → getD (segmentOf top stride noneKept e l) i 0 ≡ getD (segmentOf top stride noneKept e m) i 0
   unfolding segmentOf
   same-sample i hl hm eq =
-      ap (λ (ls : List Line). getD (puts (storesOf top (placeOf stride e) ls) l) i 0) (window-agree (placeOf stride e) l m h)
-      ∙ puts-agree-in (storesOf top (placeOf stride e) (windowOf (placeOf stride e) m)) l m i hl hm eq
+      ap (λ (ls : List Line). getD (puts (outside noneKept (storesOf top (placeOf stride e) ls)) l) i 0) (window-agree (placeOf stride e) l m h)
+      ∙ puts-agree-in (openStores top stride noneKept e m) l m i hl hm eq
 
 -- the samples within the reach lie in the plane
 module _ (g : Place) {size : ℕ} (fit : Fit g size) where
@@ -116,23 +118,23 @@ lone-unique s l {r} {t} a b =
 
 -- ---- document 02, ticket 4: stored is 4(n+w), 0 where no sample after the edge is filtered, at most 64; and changed is never more
 module _ (s : Lone) (l : List ℕ) (h : loneCheck s l ≡ Accepted) where
-  lone-counts : (loneStored s l ≡ storedAt (topOf (s .depth)) (s .stride) (edgeOf s) l) × (loneChanged s l ≡ changedAt (topOf (s .depth)) (s .stride) (edgeOf s) l)
+  lone-counts : (loneStored s l ≡ storedAt (topOf (s .depth)) (s .stride) noneKept (edgeOf s) l) × (loneChanged s l ≡ changedAt (topOf (s .depth)) (s .stride) noneKept (edgeOf s) l)
   unfolding loneStored loneChanged settle
   lone-counts = (rw h, rw h)
 
   pub lone-stored : loneStored s l ≡ 4 * (narrowAt (s .stride) (edgeOf s) l + widthAt (s .stride) (edgeOf s) l)
-  lone-stored = lone-counts .0 ∙ stored-is (topOf (s .depth)) (s .stride) (edgeOf s) l
+  lone-stored = lone-counts .0 ∙ stored-is (topOf (s .depth)) (s .stride) noneKept (edgeOf s) l (λ k. refl)
 
   pub lone-stored-most : loneStored s l ≤ 64
-  lone-stored-most = omega (arith, lone-counts .0, stored-most (topOf (s .depth)) (s .stride) (edgeOf s) l (passed s l h .inside .pair-is))
+  lone-stored-most = omega (arith, lone-counts .0, stored-most (topOf (s .depth)) (s .stride) noneKept (edgeOf s) l (passed s l h .inside .pair-is))
 
 -- accepted or refused
 pub lone-changed-most : (s : Lone) (l : List ℕ) → loneChanged s l ≤ loneStored s l
 unfolding loneStored loneChanged settle
 lone-changed-most s l = go (loneCheck s l)
   where
-    go : (a : Answer) → settle a 0 (changedAt (topOf (s .depth)) (s .stride) (edgeOf s) l) ≤ settle a 0 (storedAt (topOf (s .depth)) (s .stride) (edgeOf s) l)
-    go Accepted = changed-most (topOf (s .depth)) (s .stride) (edgeOf s) l
+    go : (a : Answer) → settle a 0 (changedAt (topOf (s .depth)) (s .stride) noneKept (edgeOf s) l) ≤ settle a 0 (storedAt (topOf (s .depth)) (s .stride) noneKept (edgeOf s) l)
+    go Accepted = changed-most (topOf (s .depth)) (s .stride) noneKept (edgeOf s) l
     go (Refused r) = omega arith
 
 pub lone-refused-none : (s : Lone) (l : List ℕ) {r : Refusal} → loneCheck s l ≡ Refused r → (loneStored s l ≡ 0) × (loneChanged s l ≡ 0)

@@ -1,5 +1,6 @@
 -- An entry's settings as C lends them: a list of numbers, in the order of the settings' fields.
 -- Assumes nothing.
+use mathlib.Core.Bool.{Bool, true, false}
 use mathlib.Core.List.{List}
 use Prim.Native.Nat.{ℕ}
 use lib.Dec.{eqb}
@@ -9,6 +10,7 @@ use Rattle.rules.specs.declared.settings.Plane.{Plane}
 use Rattle.rules.specs.declared.settings.Replay.{Replay}
 use Rattle.rules.specs.declared.settings.TuGrid.{TuGrid}
 use Rattle.rules.specs.declared.settings.QindexGrid.{QindexGrid}
+use Rattle.rules.specs.declared.settings.Keep.{Keep}
 use Rattle.rules.specs.declared.settings.Ccso.{Ccso}
 
 -- number k of the list
@@ -19,6 +21,11 @@ numberAt l k = getD l k (pos 0)
 unfoldable pub countOf : ℤ → ℕ
 countOf (pos n) = n
 countOf (negsuc n) = 4294967295
+
+-- whether a number is one
+unfoldable pub isCount : ℤ → Bool
+isCount (pos n) = true
+isCount (negsuc n) = false
 
 unfoldable pub countAt : List ℤ → ℕ → ℕ
 countAt l k = countOf (numberAt l k)
@@ -67,6 +74,17 @@ qindexGridOf l = record {
   ssx = countAt l 2;
   ssy = countAt l 3;
   sbcols = countAt l 4;
+}
+
+-- of keep marks over a rectangle, six numbers
+unfoldable pub rectangleOf : List ℤ → Keep
+rectangleOf l = record {
+  cols = countAt l 0;
+  rows = countAt l 1;
+  row = countAt l 2;
+  col = countAt l 3;
+  h = countAt l 4;
+  w = countAt l 5;
 }
 
 -- CCSO's, sixteen numbers

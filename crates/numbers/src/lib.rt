@@ -1,6 +1,7 @@
 // Settings as C lends them: a list of numbers, in the order of the settings' fields.
 use laws::split;
 use rules::settings::Ccso;
+use rules::settings::Keep;
 use rules::settings::Plane;
 use rules::settings::QindexGrid;
 use rules::settings::Replay;
@@ -9,7 +10,7 @@ ghost use mathlib.Core.Path.{_≡_};
 ghost use Prim.Native.Nat.{_≤_, _<_};
 ghost use lib.Dec.{eqb};
 ghost use lib.ListN.{length};
-ghost use Rattle.numbers.specs.Settings.{numberAt, countOf, countAt, planeOf, replaySettings, tuGridOf, qindexGridOf, offsetsOf};
+ghost use Rattle.numbers.specs.Settings.{numberAt, countOf, isCount, countAt, planeOf, replaySettings, tuGridOf, qindexGridOf, rectangleOf, offsetsOf};
 
 // Number k of a list.
 pub fn number(list: &[i32], k: usize) -> i32
@@ -25,6 +26,15 @@ fn from_zero(v: i32) -> u32
 {
     let g = split(v);
     if 0 < g.down { 4294967295 } else { g.up }
+}
+
+// Whether number k of a list is a count: one that is not negative.
+pub fn is_count(list: &[i32], k: usize) -> bool
+    requires { ⌜ k < length (now list) ⌝ }
+    ensures { λ r. ⌜ r ≡ isCount (numberAt (now (list .entry)) k) ⌝ }
+{
+    let g = split(number(list, k));
+    g.down == 0
 }
 
 // Count k of a list.
@@ -110,6 +120,21 @@ pub fn qindex_grid_of(list: &[i32]) -> QindexGrid
         ssx: size(list, 2),
         ssy: size(list, 3),
         sbcols: size(list, 4),
+    }
+}
+
+// Settings of keep marks over a rectangle.
+pub fn rectangle_of(list: &[i32]) -> Keep
+    requires { ⌜ 6 ≤ length (now list) ⌝ }
+    ensures { λ s. ⌜ s ≡ rectangleOf (now (list .entry)) ⌝ }
+{
+    Keep {
+        cols: size(list, 0),
+        rows: size(list, 1),
+        row: size(list, 2),
+        col: size(list, 3),
+        h: size(list, 4),
+        w: size(list, 5),
     }
 }
 

@@ -18,14 +18,15 @@ pub fn numbers() -> [i32; 64]
     t
 }
 
-// The short numbers of a text below 64 KiB: 4096 qindex entries, 8192 leaves of each sort, each of which takes 13 bytes, and 1023 tile starts of luma and of chroma.
-pub fn few_shorts() -> [u16; 104446] {
-    [0; 104446]
+// The short numbers of a text below 64 KiB: 4096 qindex entries, 8192 leaves of each sort, each of which takes 13 bytes, 1023 tile starts of luma and of chroma, and
+// 4096 kept rectangles.
+pub fn few_shorts() -> [u16; 120830] {
+    [0; 120830]
 }
 
-// Those of any text: 4096 qindex entries, 1048576 leaves of each sort, and 1023 tile starts of luma and of chroma.
-pub fn shorts() -> [u16; 12589054] {
-    [0; 12589054]
+// Those of any text: 4096 qindex entries, 1048576 leaves of each sort, 1023 tile starts of luma and of chroma, and 4096 kept rectangles.
+pub fn shorts() -> [u16; 12605438] {
+    [0; 12605438]
 }
 
 // The last qindex of n serves the superblocks after it.
@@ -97,7 +98,7 @@ fn blocks(n: usize) -> usize
 }
 
 // What the picture's size decides.
-pub fn complete(shorts: &mut [u16], places: &mut [usize; 23], width: usize, height: usize)
+pub fn complete(shorts: &mut [u16], places: &mut [usize; 24], width: usize, height: usize)
     requires { ⌜ (width ≤ 4096) × (height ≤ 4096) × (24576 ≤ length (now shorts)) ⌝ }
     ensures { λ _. ⌜ now (shorts .exit) ≡ completeShorts width height (now (places .entry)) (now (shorts .entry)) ⌝ }
     ensures { λ _. ⌜ now (places .exit) ≡ completePlaces width height (now (places .entry)) ⌝ }

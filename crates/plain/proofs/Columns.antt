@@ -13,7 +13,7 @@ use Rattle.rules.specs.declared.refusals.Answer.the-variants.{Accepted}
 use Rattle.rules.specs.Numbers.{topOf}
 use Rattle.rules.specs.Segment.{runEdges}
 use Rattle.rules.specs.Counts.{storedBy, changedBy}
-use Rattle.rules.specs.Plane.{Grid, edgesOf, runPlane, runStored, runChanged, planeCheck}
+use Rattle.rules.specs.Plane.{Grid, keptBy, edgesOf, runPlane, runStored, runChanged, planeCheck}
 use Rattle.segment.specs.Boxes.{Free}
 use Rattle.segment.proofs.Local.{free-turn}
 use Rattle.plane.proofs.Accepting.{checked}
@@ -40,11 +40,11 @@ module _ (s : Plane) (steps : List ℕ) (g : Grid) where
     edges-columns : Same Free (edgesOf s steps g) columnsOuter
     edges-columns = andThen (edges-plain s steps g (checked s steps g l ok .sizes-ok)) columns-plain
 
-    pub columns-run : runPlane s steps g l ≡ runEdges (topOf (s .depth)) (s .stride) columnsOuter l
+    pub columns-run : runPlane s steps g l ≡ runEdges (topOf (s .depth)) (s .stride) (keptBy s g) columnsOuter l
     columns-run = same-run s steps g l ok edges-columns
 
-    pub columns-stored : runStored s steps g l ≡ storedBy (topOf (s .depth)) (s .stride) columnsOuter l
+    pub columns-stored : runStored s steps g l ≡ storedBy (topOf (s .depth)) (s .stride) (keptBy s g) columnsOuter l
     columns-stored = same-stored s steps g l ok edges-columns
 
-    pub columns-changed : runChanged s steps g l ≡ changedBy (topOf (s .depth)) (s .stride) columnsOuter l
+    pub columns-changed : runChanged s steps g l ≡ changedBy (topOf (s .depth)) (s .stride) (keptBy s g) columnsOuter l
     columns-changed = same-changed s steps g l ok edges-columns

@@ -20,7 +20,7 @@ use Rattle.rules.specs.declared.refusals.Found.{Found}
 use Rattle.rules.specs.declared.refusals.Found.the-variants.{Nothing}
 use Rattle.rules.specs.Numbers.{depthOk}
 use Rattle.rules.specs.Thresholds.{stepsCheck, deltasCheck, quantOf, stepOf, sideOf, indexOf}
-use Rattle.rules.specs.Plane.{Grid, grid, tiled, startsTile, shortenedAt, cellGood, edgesOf, marksOf, indicesOf, indexAt, isEdge, edgeRoom, lacksRoom, lacksRow, lacksDir, badCell, noRoom, planeSizesOk, planeLengthsOk, planeCheck, planeAfter, planeStored, planeChanged, runPlane, runStored, runChanged}
+use Rattle.rules.specs.Plane.{Grid, tiled, keeping, startsTile, shortenedAt, cellGood, edgeAt, visitOf, sweepOf, columnOf, turnOf, edgesOf, marksOf, indicesOf, indexAt, isEdge, edgeRoom, lacksRoom, lacksRow, lacksDir, badCell, noRoom, planeSizesOk, planeLengthsOk, planeCheck, planeAfter, planeStored, planeChanged, runPlane, runStored, runChanged}
 use Rattle.thresholds.specs.ByQindex.{packedOf, ByQindex}
 use Rattle.thresholds.proofs.Quants.{q-most}
 use Rattle.thresholds.proofs.Sides.{side-most}
@@ -39,7 +39,7 @@ use Rattle.plane.specs.declared.visited.Visited.{Visited}
 
 pub record Lengths (s : Plane) (g : Grid) (n : ℕ) : Type 0 where
   pub samples : 4 * s .rows * s .stride ≤ n
-  pub lists : Long (s .rows * s .cols) (length (g .vedge)) (length (g .hedge)) (length (g .sqw)) (length (g .sqh))
+  pub lists : Long (s .rows * s .cols) (length (g .vedge)) (length (g .hedge)) (length (g .sqw)) (length (g .sqh)) (length (g .keep))
   pub qindex : s .rows * s .cols ≤ length (g .qindex)
 
 pub lengths : (s : Plane) (g : Grid) (n : ℕ) → planeLengthsOk s g n ≡ true → Lengths s g n
@@ -51,44 +51,45 @@ lengths s g n e =
     let p4 = all-parts _ _ (p3 .1) in
     let p5 = all-parts _ _ (p4 .1) in
     let p6 = all-parts _ _ (p5 .1) in
+    let p7 = all-parts _ _ (p6 .1) in
     record {
       samples = leb-true _ _ (p1 .0);
-      lists = record { vedge = leb-true _ _ (p2 .0); hedge = leb-true _ _ (p3 .0); sqw = leb-true _ _ (p4 .0); sqh = leb-true _ _ (p5 .0) };
+      lists = record { vedge = leb-true _ _ (p2 .0); hedge = leb-true _ _ (p3 .0); sqw = leb-true _ _ (p4 .0); sqh = leb-true _ _ (p5 .0); keep = leb-true _ _ (p7 .0) };
       qindex = leb-true _ _ (p6 .0);
     }
 
 -- as the code's tests found them
-pub sized-by : {s : Plane} {n : ℕ} (v h w t q ts : List ℕ) {a b c : Bool} → a ≡ depthOk (s .depth) → not a ≡ false → b ≡ planeSizesOk s → not b ≡ false → c ≡ planeLengthsOk s (tiled v h w t q ts) n → not c ≡ false
-    → Sized s n (length v) (length h) (length w) (length t)
-sized-by {s} {n} v h w t q ts {a} {b} {c} d d' e e' f f' =
-    let l = lengths s (tiled v h w t q ts) n (sym (told-yes-not _ c f f')) in
+pub sized-by : {s : Plane} {n : ℕ} (v h w t q ts ks : List ℕ) {a b c : Bool} → a ≡ depthOk (s .depth) → not a ≡ false → b ≡ planeSizesOk s → not b ≡ false → c ≡ planeLengthsOk s (keeping v h w t q ts ks) n → not c ≡ false
+    → Sized s n (length v) (length h) (length w) (length t) (length ks)
+sized-by {s} {n} v h w t q ts ks {a} {b} {c} d d' e e' f f' =
+    let l = lengths s (keeping v h w t q ts ks) n (sym (told-yes-not _ c f f')) in
     record { depth = sym (told-yes-not _ a d d'); sizes-ok = sizes-by s b e e'; plane-long = l .samples; lists-long = l .lists }
 
 -- ---- cells without a bad number
 
-module _ {s : Plane} (v h w t : List ℕ) (z : Sizes s) (l : Long (s .rows * s .cols) (length v) (length h) (length w) (length t)) (none : badOf (s .rows * s .cols) (grid v h w t []) ≡ Nothing) where
+module _ {s : Plane} (v h w t ks : List ℕ) (z : Sizes s) (l : Long (s .rows * s .cols) (length v) (length h) (length w) (length t) (length ks)) (none : badOf (s .rows * s .cols) (keeping v h w t [] [] ks) ≡ Nothing) where
   pub ready-vert : Ready s v w
   ready-vert = record {
     sizes-ok = z;
     marks-long = l .vedge;
-    indices = record { long = l .sqw; small = record { each-one = λ k b. none-good _ (grid v h w t []) none k b .0 } };
+    indices = record { long = l .sqw; small = record { each-one = λ k b. none-good _ (keeping v h w t [] [] ks) none k b .0 } };
   }
 
   pub ready-horz : Ready s h t
   ready-horz = record {
     sizes-ok = z;
     marks-long = l .hedge;
-    indices = record { long = l .sqh; small = record { each-one = λ k b. none-good _ (grid v h w t []) none k b .1 } };
+    indices = record { long = l .sqh; small = record { each-one = λ k b. none-good _ (keeping v h w t [] [] ks) none k b .1 } };
   }
 
-bad-none : (s : Plane) (v h w t q ts : List ℕ) → badCell s (tiled v h w t q ts) ≡ Nothing → badOf (s .rows * s .cols) (grid v h w t []) ≡ Nothing
+bad-none : (s : Plane) (v h w t q ts ks : List ℕ) → badCell s (keeping v h w t q ts ks) ≡ Nothing → badOf (s .rows * s .cols) (keeping v h w t [] [] ks) ≡ Nothing
 unfolding badCell badOf cellGood
-bad-none s v h w t q ts e = e
+bad-none s v h w t q ts ks e = e
 
-pub readies-by : {s : Plane} {n : ℕ} (v h w t : List ℕ) {f : Found} → Sized s n (length v) (length h) (length w) (length t) → ((q ts : List ℕ) → f ≡ badCell s (tiled v h w t q ts)) → f ≡ Nothing → Ready s v w × Ready s h t
-readies-by {s} v h w t z e g =
-    let none = bad-none s v h w t [] [] (sym (e [] []) ∙ g) in
-    (ready-vert v h w t (z .sizes-ok) (z .lists-long) none, ready-horz v h w t (z .sizes-ok) (z .lists-long) none)
+pub readies-by : {s : Plane} {n : ℕ} (v h w t ks : List ℕ) {f : Found} → Sized s n (length v) (length h) (length w) (length t) (length ks) → ((q ts : List ℕ) → f ≡ badCell s (keeping v h w t q ts ks)) → f ≡ Nothing → Ready s v w × Ready s h t
+readies-by {s} v h w t ks z e g =
+    let none = bad-none s v h w t [] [] ks (sym (e [] []) ∙ g) in
+    (ready-vert v h w t ks (z .sizes-ok) (z .lists-long) none, ready-horz v h w t ks (z .sizes-ok) (z .lists-long) none)
 
 -- ---- an accepted plane
 
@@ -168,7 +169,7 @@ module _ (s : Plane) (m z ts : List ℕ) (dir r c : ℕ) (clear : lacksDir s (on
       ∙ edge-room-is s m z [] ts dir r c
       ∙ edge-clear edge
 
-module _ {s : Plane} {steps : List ℕ} (v h w t q ts : List ℕ) {n : ℕ} {table low : List ℕ} (k : Checked s steps (tiled v h w t q ts) n) (by : ByQindex (s .depth) steps (s .deltaq) (s .deltaside) low) (made : IsTable low ts table) where
+module _ {s : Plane} {steps : List ℕ} (v h w t q ts ks : List ℕ) {n : ℕ} {table low : List ℕ} (k : Checked s steps (keeping v h w t q ts ks) n) (by : ByQindex (s .depth) steps (s .deltaq) (s .deltaside) low) (made : IsTable low ts table) where
   no-lack : (lacksDir s (oneWay v w [] ts) 0 ≡ Nothing) × (lacksDir s (oneWay h t [] ts) 1 ≡ Nothing)
   unfolding noRoom lacksDir lacksRow lacksRoom isEdge marksOf edgeRoom indexAt indicesOf shortenedAt pick
   no-lack = sooner-nothing _ _ (k .room)
@@ -178,9 +179,9 @@ module _ {s : Plane} {steps : List ℕ} (v h w t q ts : List ℕ) {n : ℕ} {tab
 
   pub field-vert : Field s v w q table n 0
   field-vert =
-      let l = lengths s (tiled v h w t q ts) n (k .lengths) in
+      let l = lengths s (keeping v h w t q ts ks) n (k .lengths) in
       record {
-        ready = ready-vert v h w t (k .sizes-ok) (l .lists) (bad-none s v h w t q ts (k .cells));
+        ready = ready-vert v h w t ks (k .sizes-ok) (l .lists) (bad-none s v h w t q ts ks (k .cells));
         depth = k .depth;
         qindex-long = l .qindex;
         plane-long = l .samples;
@@ -190,9 +191,9 @@ module _ {s : Plane} {steps : List ℕ} (v h w t q ts : List ℕ) {n : ℕ} {tab
 
   pub field-horz : Field s h t q table n 1
   field-horz =
-      let l = lengths s (tiled v h w t q ts) n (k .lengths) in
+      let l = lengths s (keeping v h w t q ts ks) n (k .lengths) in
       record {
-        ready = ready-horz v h w t (k .sizes-ok) (l .lists) (bad-none s v h w t q ts (k .cells));
+        ready = ready-horz v h w t ks (k .sizes-ok) (l .lists) (bad-none s v h w t q ts ks (k .cells));
         depth = k .depth;
         qindex-long = l .qindex;
         plane-long = l .samples;
@@ -200,9 +201,10 @@ module _ {s : Plane} {steps : List ℕ} (v h w t q ts : List ℕ) {n : ℕ} {tab
         room = λ r c at edge. clear-room s h t ts 1 r c (no-lack .1) at of-table edge;
       }
 
-  pub ran-plane : (a b : List ℕ) {x : Visited} {m c : List ℕ} → Ran s table (λ st us. edgesOf s st (tiled v h w t q us)) (state a b none) (state m c x) → Noted s steps (tiled v h w t q ts) a b x m c
-  unfolding runPlane runStored runChanged
-  ran-plane a b r = record {
+  -- a run that was handed some of the keep marks, told as a run with these
+  pub ran-plane : (a b front : List ℕ) {x : Visited} {m c : List ℕ} → Ran s table front (λ st us. edgesOf s st (tiled v h w t q us)) (state a b none) (state m c x) → Noted s steps (keeping v h w t q ts front) a b x m c
+  unfolding runPlane runStored runChanged edgesOf turnOf columnOf sweepOf visitOf isEdge edgeAt indexAt shortenedAt marksOf indicesOf
+  ran-plane a b front r = record {
     plane = r .is steps ts of-table;
     buffer = r .notes steps ts of-table;
     visited = r .visited steps ts;

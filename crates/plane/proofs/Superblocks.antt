@@ -102,12 +102,12 @@ pub is-one : {dir : ℕ} → dir ≤ 1 → (dir ≡ 0 → ⊥) → dir ≡ 1
 is-one {dir} h e = omega arith
 
 -- the visit of a cell, as each direction calls it
-module _ {s : Plane} {t : List ℕ} (g : List ℕ → Grid) {dir : ℕ} (p : Part) (k j : ℕ) {x y : State} where
-  pub row-visit : dir ≡ 0 → Ran s t (λ steps ts. visitOf s steps (g ts) 0 (p .row + k) (p .col + j)) x y → Ran s t (λ steps ts. visitOf s steps (g ts) dir (p .row + pick (eqb dir 0) k j) (p .col + pick (eqb dir 0) j k)) x y
+module _ {s : Plane} {t keep : List ℕ} (g : List ℕ → Grid) {dir : ℕ} (p : Part) (k j : ℕ) {x y : State} where
+  pub row-visit : dir ≡ 0 → Ran s t keep (λ steps ts. visitOf s steps (g ts) 0 (p .row + k) (p .col + j)) x y → Ran s t keep (λ steps ts. visitOf s steps (g ts) dir (p .row + pick (eqb dir 0) k j) (p .col + pick (eqb dir 0) j k)) x y
   unfolding pick
   row-visit e r = rw e r
 
-  pub column-visit : dir ≡ 1 → Ran s t (λ steps ts. visitOf s steps (g ts) 1 (p .row + j) (p .col + k)) x y → Ran s t (λ steps ts. visitOf s steps (g ts) dir (p .row + pick (eqb dir 0) k j) (p .col + pick (eqb dir 0) j k)) x y
+  pub column-visit : dir ≡ 1 → Ran s t keep (λ steps ts. visitOf s steps (g ts) 1 (p .row + j) (p .col + k)) x y → Ran s t keep (λ steps ts. visitOf s steps (g ts) dir (p .row + pick (eqb dir 0) k j) (p .col + pick (eqb dir 0) j k)) x y
   unfolding pick
   column-visit e r = rw e r
 
@@ -122,40 +122,40 @@ module _ (s : Plane) (steps : List ℕ) (g : Grid) (dir : ℕ) (p : Part) where
       go true = refl
       go false = refl
 
-module _ {s : Plane} {t : List ℕ} (g : List ℕ → Grid) (dir : ℕ) (p : Part) where
-  pub line-is : (k : ℕ) {j n : ℕ} {x y : State} → Ran s t (λ steps ts. each j (λ i. visitOf s steps (g ts) dir (p .row + pick (eqb dir 0) k i) (p .col + pick (eqb dir 0) i k))) x y
-      → n ≡ pick (eqb dir 0) (p .cols) (p .rows) → j ≤ n → n ≤ j → Ran s t (λ steps ts. lineOf s steps (g ts) dir p k) x y
+module _ {s : Plane} {t keep : List ℕ} (g : List ℕ → Grid) (dir : ℕ) (p : Part) where
+  pub line-is : (k : ℕ) {j n : ℕ} {x y : State} → Ran s t keep (λ steps ts. each j (λ i. visitOf s steps (g ts) dir (p .row + pick (eqb dir 0) k i) (p .col + pick (eqb dir 0) i k))) x y
+      → n ≡ pick (eqb dir 0) (p .cols) (p .rows) → j ≤ n → n ≤ j → Ran s t keep (λ steps ts. lineOf s steps (g ts) dir p k) x y
   unfolding lineOf
   line-is k {j} one e a b =
       ran-end (λ steps ts i. visitOf s steps (g ts) dir (p .row + pick (eqb dir 0) k i) (p .col + pick (eqb dir 0) i k)) j (pick (eqb dir 0) (p .cols) (p .rows)) one (omega (arith, e)) (omega (arith, e))
 
   -- all lines
-  pub sweep-is : {k n : ℕ} {x y : State} → Ran s t (λ steps ts. each k (λ i. lineOf s steps (g ts) dir p i)) x y → n ≡ pick (eqb dir 0) (p .rows) (p .cols) → k ≤ n → n ≤ k → Ran s t (λ steps ts. sweepOf s steps (g ts) dir (p .row) (p .rows) (p .col) (p .cols)) x y
+  pub sweep-is : {k n : ℕ} {x y : State} → Ran s t keep (λ steps ts. each k (λ i. lineOf s steps (g ts) dir p i)) x y → n ≡ pick (eqb dir 0) (p .rows) (p .cols) → k ≤ n → n ≤ k → Ran s t keep (λ steps ts. sweepOf s steps (g ts) dir (p .row) (p .rows) (p .col) (p .cols)) x y
   sweep-is {k} one e a b = ran-same (λ steps ts. lines-are s steps (g ts) dir p) (ran-end (λ steps ts i. lineOf s steps (g ts) dir p i) k (pick (eqb dir 0) (p .rows) (p .cols)) one (omega (arith, e)) (omega (arith, e)))
 
 -- ---- a superblock column's edges
 
 -- each direction reads its own lists of the whole grid
-module _ {s : Plane} {t : List ℕ} (v h w y q : List ℕ) (sb : ℕ) {p : Part} {x z : State} (is : p ≡ superblockOf s sb) where
-  pub vert-of : Ran s t (λ steps ts. sweepOf s steps (oneWay v w q ts) 0 (p .row) (p .rows) (p .col) (p .cols)) x z → Ran s t (λ steps ts. columnOf s steps (tiled v h w y q ts) 0 sb) x z
+module _ {s : Plane} {t keep : List ℕ} (v h w y q : List ℕ) (sb : ℕ) {p : Part} {x z : State} (is : p ≡ superblockOf s sb) where
+  pub vert-of : Ran s t keep (λ steps ts. sweepOf s steps (oneWay v w q ts) 0 (p .row) (p .rows) (p .col) (p .cols)) x z → Ran s t keep (λ steps ts. columnOf s steps (tiled v h w y q ts) 0 sb) x z
   unfolding columnOf superblockOf sweepOf visitOf isEdge edgeAt indexAt shortenedAt marksOf indicesOf pick
   vert-of r = rw is at r
 
-  pub horz-of : Ran s t (λ steps ts. sweepOf s steps (oneWay h y q ts) 1 (p .row) (p .rows) (p .col) (p .cols)) x z → Ran s t (λ steps ts. columnOf s steps (tiled v h w y q ts) 1 sb) x z
+  pub horz-of : Ran s t keep (λ steps ts. sweepOf s steps (oneWay h y q ts) 1 (p .row) (p .rows) (p .col) (p .cols)) x z → Ran s t keep (λ steps ts. columnOf s steps (tiled v h w y q ts) 1 sb) x z
   unfolding columnOf superblockOf sweepOf visitOf isEdge edgeAt indexAt shortenedAt marksOf indicesOf pick
   horz-of r = rw is at r
 
-module _ {s : Plane} {t : List ℕ} (g : List ℕ → Grid) (sb : ℕ) {x y : State} (one : Ran s t (λ steps ts. columnOf s steps (g ts) 0 sb) x y) where
-  pub turn-first : sb ≡ 0 → Ran s t (λ steps ts. turnOf s steps (g ts) sb) x y
+module _ {s : Plane} {t keep : List ℕ} (g : List ℕ → Grid) (sb : ℕ) {x y : State} (one : Ran s t keep (λ steps ts. columnOf s steps (g ts) 0 sb) x y) where
+  pub turn-first : sb ≡ 0 → Ran s t keep (λ steps ts. turnOf s steps (g ts) sb) x y
   unfolding turnOf pick
   turn-first e = ran-same (λ steps ts. rw (eq-eqb _ _ e) (sym (append-nil (columnOf s steps (g ts) 0 sb)))) one
 
   -- the superblock column whose horizontal edges follow is the previous one
-  pub turn-later : {prev : ℕ} {z : State} → (sb ≡ 0 → ⊥) → Ran s t (λ steps ts. columnOf s steps (g ts) 1 prev) y z → prev ≡ sb - 1 → Ran s t (λ steps ts. turnOf s steps (g ts) sb) x z
+  pub turn-later : {prev : ℕ} {z : State} → (sb ≡ 0 → ⊥) → Ran s t keep (λ steps ts. columnOf s steps (g ts) 1 prev) y z → prev ≡ sb - 1 → Ran s t keep (λ steps ts. turnOf s steps (g ts) sb) x z
   unfolding turnOf pick
   turn-later e two is = rw (ne-eqb _ _ e) (ran-then (λ steps ts. columnOf s steps (g ts) 0 sb) (λ steps ts. columnOf s steps (g ts) 1 (sb - 1)) one (rw is at two))
 
-pub edges-are : {s : Plane} {t : List ℕ} (g : List ℕ → Grid) {k : ℕ} {x y z : State} → Ran s t (λ steps ts. each k (λ sb. turnOf s steps (g ts) sb)) x y → k ≤ sbCols s → sbCols s ≤ k → Ran s t (λ steps ts. columnOf s steps (g ts) 1 (sbCols s - 1)) y z → Ran s t (λ steps ts. edgesOf s steps (g ts)) x z
+pub edges-are : {s : Plane} {t keep : List ℕ} (g : List ℕ → Grid) {k : ℕ} {x y z : State} → Ran s t keep (λ steps ts. each k (λ sb. turnOf s steps (g ts) sb)) x y → k ≤ sbCols s → sbCols s ≤ k → Ran s t keep (λ steps ts. columnOf s steps (g ts) 1 (sbCols s - 1)) y z → Ran s t keep (λ steps ts. edgesOf s steps (g ts)) x z
 unfolding edgesOf
 edges-are {s} g {k} one l m two =
     ran-then (λ steps ts. each (sbCols s) (λ sb. turnOf s steps (g ts) sb)) (λ steps ts. columnOf s steps (g ts) 1 (sbCols s - 1))

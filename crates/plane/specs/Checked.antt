@@ -20,11 +20,11 @@ use Rattle.records.specs.Noted.{noted}
 use Rattle.plane.specs.declared.visited.Visited.{Visited}
 
 -- depth, sizes and lengths are good
-pub record Sized (s : Plane) (n v h w t : ℕ) : Type 0 where
+pub record Sized (s : Plane) (n v h w t k : ℕ) : Type 0 where
   pub depth : depthOk (s .depth) ≡ true
   pub sizes-ok : Sizes s
   pub plane-long : 4 * s .rows * s .stride ≤ n
-  pub lists-long : Long (s .rows * s .cols) v h w t
+  pub lists-long : Long (s .rows * s .cols) v h w t k
 
 -- checks 6, 7 and 8
 unfoldable pub gridCheck : Plane → Grid → List ℕ → Answer

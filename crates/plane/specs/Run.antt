@@ -15,7 +15,7 @@ use Rattle.rules.specs.Lengths.{pairOf}
 use Rattle.rules.specs.declared.refusals.Answer.the-variants.{Accepted}
 use Rattle.rules.specs.Thresholds.{stepsCheck}
 use Rattle.thresholds.specs.ByQindex.{ByQindex}
-use Rattle.rules.specs.Segment.{runEdges}
+use Rattle.rules.specs.Segment.{keptIn, runEdges}
 use Rattle.rules.specs.Counts.{storedBy, changedBy}
 use Rattle.rules.specs.Plane.{Grid, indexAt, startsTile, edgeAt, isEdge, visitOf, sweepOf, startOf, countOf}
 use Rattle.cells.specs.Fit.{Ready, Cell, oneWay, sized, marked, shortBy, roomOf}
@@ -84,17 +84,21 @@ pub record Few (n : ℕ) (d e : Visited) : Type 0 where
   pub stored-few : e .stored ≤ d .stored + 64 * n
   pub changed-few : e .changed ≤ d .changed + 64 * n
 
+-- the samples that a list of keep marks keeps
+abbrev pub held : Plane → List ℕ → ℕ → Bool
+held s keep = keptIn (s .cols) (s .stride) keep
+
 -- a run of a list of edges, by any steps and tile starts that the table was made of, from x to y: each edge is noted, filtered and counted
-pub record Ran (s : Plane) (t : List ℕ) (edges : List ℕ → List ℕ → List Edge) (x y : State) : Type 0 where
-  pub is : (steps ts : List ℕ) → Table s steps ts t → y .plane ≡ runEdges (topOf (s .depth)) (s .stride) (edges steps ts) (x .plane)
+pub record Ran (s : Plane) (t keep : List ℕ) (edges : List ℕ → List ℕ → List Edge) (x y : State) : Type 0 where
+  pub is : (steps ts : List ℕ) → Table s steps ts t → y .plane ≡ runEdges (topOf (s .depth)) (s .stride) (held s keep) (edges steps ts) (x .plane)
   pub notes : (steps ts : List ℕ) → Table s steps ts t → y .buffer ≡ noted (x .done .bytes) (edges steps ts) (x .buffer)
   pub visited : (steps ts : List ℕ) → y .done .bytes ≡ x .done .bytes + 10 * length (edges steps ts)
-  pub stored : (steps ts : List ℕ) → Table s steps ts t → y .done .stored ≡ x .done .stored + storedBy (topOf (s .depth)) (s .stride) (edges steps ts) (x .plane)
-  pub changed : (steps ts : List ℕ) → Table s steps ts t → y .done .changed ≡ x .done .changed + changedBy (topOf (s .depth)) (s .stride) (edges steps ts) (x .plane)
+  pub stored : (steps ts : List ℕ) → Table s steps ts t → y .done .stored ≡ x .done .stored + storedBy (topOf (s .depth)) (s .stride) (held s keep) (edges steps ts) (x .plane)
+  pub changed : (steps ts : List ℕ) → Table s steps ts t → y .done .changed ≡ x .done .changed + changedBy (topOf (s .depth)) (s .stride) (held s keep) (edges steps ts) (x .plane)
 
 -- the same of at most n edges
-pub record RanFew (s : Plane) (t : List ℕ) (n : ℕ) (edges : List ℕ → List ℕ → List Edge) (x y : State) : Type 0 where
-  pub ran : Ran s t edges x y
+pub record RanFew (s : Plane) (t keep : List ℕ) (n : ℕ) (edges : List ℕ → List ℕ → List Edge) (x y : State) : Type 0 where
+  pub ran : Ran s t keep edges x y
   pub few : Few n (x .done) (y .done)
 
 -- ---- parts of the cells

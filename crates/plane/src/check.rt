@@ -1,4 +1,4 @@
-// Document 01's checks 1 to 8 of a plane, in their order, with document 02's check of the tile starts.
+// Document 01's checks 1 to 8 of a plane, in their order, with document 02's checks of the tile starts and the keep marks.
 use cells::grid::bad_cell;
 use cells::room::no_room;
 use cells::samples::over_plane;
@@ -16,7 +16,7 @@ ghost use mathlib.Core.Path.{_≡_};
 ghost use mathlib.Core.List.{List};
 ghost use Prim.Native.Nat.{ℕ};
 ghost use lib.ListN.{length};
-ghost use Rattle.rules.specs.Plane.{tiled, planeCheck};
+ghost use Rattle.rules.specs.Plane.{keeping, planeCheck};
 ghost use Rattle.plane.specs.Checked.{Sized, gridCheck};
 
 // The checks of what the lists hold, 6, 7 and 8, whatever the qindex.
@@ -27,12 +27,13 @@ fn grid_check(
     sqw: &[u8],
     sqh: &[u8],
     tiles: &[u16],
+    keep: &[u8],
     s: Plane,
 ) -> Answer
-    requires { ⌜ Sized s (length (now plane)) (length (now vedge)) (length (now hedge)) (length (now sqw)) (length (now sqh)) ⌝ }
-    ensures { λ a. ⌜ ((q : List ℕ) → a ≡ gridCheck s (tiled (now (vedge .entry)) (now (hedge .entry)) (now (sqw .entry)) (now (sqh .entry)) q (now (tiles .entry))) (now (plane .entry))) ⌝ }
+    requires { ⌜ Sized s (length (now plane)) (length (now vedge)) (length (now hedge)) (length (now sqw)) (length (now sqh)) (length (now keep)) ⌝ }
+    ensures { λ a. ⌜ ((q : List ℕ) → a ≡ gridCheck s (keeping (now (vedge .entry)) (now (hedge .entry)) (now (sqw .entry)) (now (sqh .entry)) q (now (tiles .entry)) (now (keep .entry))) (now (plane .entry))) ⌝ }
 {
-    let bad = bad_cell(vedge, hedge, sqw, sqh, s);
+    let bad = bad_cell(vedge, hedge, sqw, sqh, keep, s);
     if let Found::At(k) = bad {
         return Answer::Refused(Refusal::Cell(k));
     }
@@ -56,10 +57,11 @@ pub fn plane_check(
     sqh: &[u8],
     qindex: &[u16],
     tiles: &[u16],
+    keep: &[u8],
     steps: &[u32],
     s: Plane,
 ) -> Answer
-    ensures { λ a. ⌜ a ≡ planeCheck s (now (steps .entry)) (tiled (now (vedge .entry)) (now (hedge .entry)) (now (sqw .entry)) (now (sqh .entry)) (now (qindex .entry)) (now (tiles .entry))) (now (plane .entry)) ⌝ }
+    ensures { λ a. ⌜ a ≡ planeCheck s (now (steps .entry)) (keeping (now (vedge .entry)) (now (hedge .entry)) (now (sqw .entry)) (now (sqh .entry)) (now (qindex .entry)) (now (tiles .entry)) (now (keep .entry))) (now (plane .entry)) ⌝ }
 {
     if !Depth::is(s.depth) {
         return Answer::Refused(Refusal::Depth);
@@ -67,7 +69,7 @@ pub fn plane_check(
     if !sizes_ok(s) {
         return Answer::Refused(Refusal::Size);
     }
-    if !lengths_ok(plane, vedge, hedge, sqw, sqh, qindex, s) {
+    if !lengths_ok(plane, vedge, hedge, sqw, sqh, qindex, keep, s) {
         return Answer::Refused(Refusal::Length);
     }
     let table = steps_check(steps);
@@ -82,5 +84,5 @@ pub fn plane_check(
     if let Answer::Refused(r) = starts {
         return Answer::Refused(r);
     }
-    grid_check(plane, vedge, hedge, sqw, sqh, tiles, s)
+    grid_check(plane, vedge, hedge, sqw, sqh, tiles, keep, s)
 }

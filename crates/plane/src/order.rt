@@ -1,6 +1,6 @@
 // Document 01's order of a plane's edges: for each superblock column its vertical edges, then the previous column's horizontal edges; at
 // the end the last column's. Each walk is a sweep over a part of the plane's cells; it notes each edge in the record where that has room, and
-// hands on what it has done.
+// hands on what it has done. An empty list of keep marks keeps nothing.
 use crate::edge::edge_at;
 use crate::part::Part;
 use crate::part::superblock;
@@ -8,10 +8,10 @@ use crate::visited::Visited;
 use cells::pair::by_dir;
 use cells::pair::is_edge;
 use cells::pair::shortened_by;
+use kept::filter_marked;
 use records::note;
 use rules::depth::Depth;
 use rules::settings::Plane;
-use segment::filter_edge;
 ghost use mathlib.Core.Path.{_≡_};
 ghost use Prim.Native.Nat.{_+_, _*_, _≤_, _<_};
 ghost use lib.Dec.{eqb};
@@ -40,6 +40,7 @@ fn visit(
     marks: &[u8],
     sizes: &[u8],
     qindex: &[u16],
+    keep: &[u8],
     table: &[u32; 2440],
     s: Plane,
     done: Visited,
@@ -48,7 +49,9 @@ fn visit(
     c: usize,
 ) -> Visited
     requires { ⌜ Field s (now marks) (now sizes) (now qindex) (now table) (length (now plane)) dir × Cell s r c × (dir ≤ 1) × Most 70368744177664 done ⌝ }
-    ensures { λ a. ⌜ RanFew s (now (table .entry)) 1 (λ steps ts. visitOf s steps (oneWay (now (marks .entry)) (now (sizes .entry)) (now (qindex .entry)) ts) dir r c) (state (now (plane .entry)) (now (buffer .entry)) done) (state (now (plane .exit)) (now (buffer .exit)) a) ⌝ }
+    ensures { λ a. ⌜ RanFew s (now (table .entry)) (now (keep .entry)) 1
+        (λ steps ts. visitOf s steps (oneWay (now (marks .entry)) (now (sizes .entry)) (now (qindex .entry)) ts) dir r c)
+        (state (now (plane .entry)) (now (buffer .entry)) done) (state (now (plane .exit)) (now (buffer .exit)) a) ⌝ }
 {
     if !is_edge(marks, s, dir, r, c) {
         return done;
@@ -57,7 +60,16 @@ fn visit(
     let e = edge_at(sizes, qindex, table, s, shortened, dir, r, c);
     note(buffer, done.bytes, e);
     let depth = Depth { bits: s.depth };
-    let o = filter_edge(plane, s.stride, 4 * s.cols, 4 * s.rows, e, depth.top());
+    let o = filter_marked(
+        plane,
+        keep,
+        s.cols,
+        s.stride,
+        4 * s.cols,
+        4 * s.rows,
+        e,
+        depth.top(),
+    );
     Visited {
         bytes: done.bytes + 10,
         stored: done.stored + o.stored,
@@ -72,6 +84,7 @@ fn in_row(
     marks: &[u8],
     sizes: &[u8],
     qindex: &[u16],
+    keep: &[u8],
     table: &[u32; 2440],
     s: Plane,
     done: Visited,
@@ -80,7 +93,9 @@ fn in_row(
     j: usize,
 ) -> Visited
     requires { ⌜ Field s (now marks) (now sizes) (now qindex) (now table) (length (now plane)) 0 × PartOf s p × (k < p .rows) × (j < p .cols) × Most 70368744177664 done ⌝ }
-    ensures { λ a. ⌜ RanFew s (now (table .entry)) 1 (λ steps ts. visitOf s steps (oneWay (now (marks .entry)) (now (sizes .entry)) (now (qindex .entry)) ts) 0 (p .row + k) (p .col + j)) (state (now (plane .entry)) (now (buffer .entry)) done) (state (now (plane .exit)) (now (buffer .exit)) a) ⌝ }
+    ensures { λ a. ⌜ RanFew s (now (table .entry)) (now (keep .entry)) 1
+        (λ steps ts. visitOf s steps (oneWay (now (marks .entry)) (now (sizes .entry)) (now (qindex .entry)) ts) 0 (p .row + k) (p .col + j))
+        (state (now (plane .entry)) (now (buffer .entry)) done) (state (now (plane .exit)) (now (buffer .exit)) a) ⌝ }
 {
     visit(
         plane,
@@ -88,6 +103,7 @@ fn in_row(
         marks,
         sizes,
         qindex,
+        keep,
         table,
         s,
         done,
@@ -104,6 +120,7 @@ fn in_column(
     marks: &[u8],
     sizes: &[u8],
     qindex: &[u16],
+    keep: &[u8],
     table: &[u32; 2440],
     s: Plane,
     done: Visited,
@@ -112,7 +129,9 @@ fn in_column(
     j: usize,
 ) -> Visited
     requires { ⌜ Field s (now marks) (now sizes) (now qindex) (now table) (length (now plane)) 1 × PartOf s p × (k < p .cols) × (j < p .rows) × Most 70368744177664 done ⌝ }
-    ensures { λ a. ⌜ RanFew s (now (table .entry)) 1 (λ steps ts. visitOf s steps (oneWay (now (marks .entry)) (now (sizes .entry)) (now (qindex .entry)) ts) 1 (p .row + j) (p .col + k)) (state (now (plane .entry)) (now (buffer .entry)) done) (state (now (plane .exit)) (now (buffer .exit)) a) ⌝ }
+    ensures { λ a. ⌜ RanFew s (now (table .entry)) (now (keep .entry)) 1
+        (λ steps ts. visitOf s steps (oneWay (now (marks .entry)) (now (sizes .entry)) (now (qindex .entry)) ts) 1 (p .row + j) (p .col + k))
+        (state (now (plane .entry)) (now (buffer .entry)) done) (state (now (plane .exit)) (now (buffer .exit)) a) ⌝ }
 {
     visit(
         plane,
@@ -120,6 +139,7 @@ fn in_column(
         marks,
         sizes,
         qindex,
+        keep,
         table,
         s,
         done,
@@ -136,6 +156,7 @@ fn cell(
     marks: &[u8],
     sizes: &[u8],
     qindex: &[u16],
+    keep: &[u8],
     table: &[u32; 2440],
     s: Plane,
     done: Visited,
@@ -145,12 +166,40 @@ fn cell(
     j: usize,
 ) -> Visited
     requires { ⌜ Field s (now marks) (now sizes) (now qindex) (now table) (length (now plane)) dir × PartOf s p × InPart dir p k j × Most 70368744177664 done ⌝ }
-    ensures { λ a. ⌜ RanFew s (now (table .entry)) 1 (λ steps ts. inLine s steps (oneWay (now (marks .entry)) (now (sizes .entry)) (now (qindex .entry)) ts) dir p k j) (state (now (plane .entry)) (now (buffer .entry)) done) (state (now (plane .exit)) (now (buffer .exit)) a) ⌝ }
+    ensures { λ a. ⌜ RanFew s (now (table .entry)) (now (keep .entry)) 1
+        (λ steps ts. inLine s steps (oneWay (now (marks .entry)) (now (sizes .entry)) (now (qindex .entry)) ts) dir p k j)
+        (state (now (plane .entry)) (now (buffer .entry)) done) (state (now (plane .exit)) (now (buffer .exit)) a) ⌝ }
 {
     if dir == 0 {
-        return in_row(plane, buffer, marks, sizes, qindex, table, s, done, p, k, j);
+        return in_row(
+            plane,
+            buffer,
+            marks,
+            sizes,
+            qindex,
+            keep,
+            table,
+            s,
+            done,
+            p,
+            k,
+            j,
+        );
     }
-    in_column(plane, buffer, marks, sizes, qindex, table, s, done, p, k, j)
+    in_column(
+        plane,
+        buffer,
+        marks,
+        sizes,
+        qindex,
+        keep,
+        table,
+        s,
+        done,
+        p,
+        k,
+        j,
+    )
 }
 
 // One line of a part: its k-th row in direction 0, its k-th column in direction 1.
@@ -160,6 +209,7 @@ fn line(
     marks: &[u8],
     sizes: &[u8],
     qindex: &[u16],
+    keep: &[u8],
     table: &[u32; 2440],
     s: Plane,
     sofar: Visited,
@@ -168,7 +218,9 @@ fn line(
     k: usize,
 ) -> Visited
     requires { ⌜ Field s (now marks) (now sizes) (now qindex) (now table) (length (now plane)) dir × PartOf s p × (dir ≤ 1) × (k < pick (eqb dir 0) (p .rows) (p .cols)) × Most 35184372088832 sofar ⌝ }
-    ensures { λ a. ⌜ RanFew s (now (table .entry)) 1024 (λ steps ts. lineOf s steps (oneWay (now (marks .entry)) (now (sizes .entry)) (now (qindex .entry)) ts) dir p k) (state (now (plane .entry)) (now (buffer .entry)) sofar) (state (now (plane .exit)) (now (buffer .exit)) a) ⌝ }
+    ensures { λ a. ⌜ RanFew s (now (table .entry)) (now (keep .entry)) 1024
+        (λ steps ts. lineOf s steps (oneWay (now (marks .entry)) (now (sizes .entry)) (now (qindex .entry)) ts) dir p k)
+        (state (now (plane .entry)) (now (buffer .entry)) sofar) (state (now (plane .exit)) (now (buffer .exit)) a) ⌝ }
 {
     let n = by_dir(dir, p.cols, p.rows);
     let mut done = sofar;
@@ -179,6 +231,7 @@ fn line(
             marks,
             sizes,
             qindex,
+            keep,
             table,
             s,
             done,
@@ -198,6 +251,7 @@ pub fn sweep(
     marks: &[u8],
     sizes: &[u8],
     qindex: &[u16],
+    keep: &[u8],
     table: &[u32; 2440],
     s: Plane,
     sofar: Visited,
@@ -205,7 +259,9 @@ pub fn sweep(
     p: Part,
 ) -> Visited
     requires { ⌜ Field s (now marks) (now sizes) (now qindex) (now table) (length (now plane)) dir × PartOf s p × (dir ≤ 1) × Most 17592186044416 sofar ⌝ }
-    ensures { λ a. ⌜ RanFew s (now (table .entry)) 1048576 (λ steps ts. inSweep s steps (oneWay (now (marks .entry)) (now (sizes .entry)) (now (qindex .entry)) ts) dir p) (state (now (plane .entry)) (now (buffer .entry)) sofar) (state (now (plane .exit)) (now (buffer .exit)) a) ⌝ }
+    ensures { λ a. ⌜ RanFew s (now (table .entry)) (now (keep .entry)) 1048576
+        (λ steps ts. inSweep s steps (oneWay (now (marks .entry)) (now (sizes .entry)) (now (qindex .entry)) ts) dir p)
+        (state (now (plane .entry)) (now (buffer .entry)) sofar) (state (now (plane .exit)) (now (buffer .exit)) a) ⌝ }
 {
     let n = by_dir(dir, p.rows, p.cols);
     let mut done = sofar;
@@ -216,6 +272,7 @@ pub fn sweep(
             marks,
             sizes,
             qindex,
+            keep,
             table,
             s,
             done,
@@ -236,13 +293,14 @@ fn turn(
     sqw: &[u8],
     sqh: &[u8],
     qindex: &[u16],
+    keep: &[u8],
     table: &[u32; 2440],
     s: Plane,
     done: Visited,
     sb: usize,
 ) -> Visited
     requires { ⌜ Field s (now vedge) (now sqw) (now qindex) (now table) (length (now plane)) 0 × Field s (now hedge) (now sqh) (now qindex) (now table) (length (now plane)) 1 × (sb < sbCols s) × Most 8796093022208 done ⌝ }
-    ensures { λ a. ⌜ RanFew s (now (table .entry)) 2097152
+    ensures { λ a. ⌜ RanFew s (now (table .entry)) (now (keep .entry)) 2097152
         (λ steps ts. turnOf s steps (tiled (now (vedge .entry)) (now (hedge .entry)) (now (sqw .entry)) (now (sqh .entry)) (now (qindex .entry)) ts) sb)
         (state (now (plane .entry)) (now (buffer .entry)) done) (state (now (plane .exit)) (now (buffer .exit)) a) ⌝ }
 {
@@ -252,6 +310,7 @@ fn turn(
         vedge,
         sqw,
         qindex,
+        keep,
         table,
         s,
         done,
@@ -267,6 +326,7 @@ fn turn(
         hedge,
         sqh,
         qindex,
+        keep,
         table,
         s,
         vertical,
@@ -284,11 +344,12 @@ pub fn run(
     sqw: &[u8],
     sqh: &[u8],
     qindex: &[u16],
+    keep: &[u8],
     table: &[u32; 2440],
     s: Plane,
 ) -> Visited
     requires { ⌜ Field s (now vedge) (now sqw) (now qindex) (now table) (length (now plane)) 0 × Field s (now hedge) (now sqh) (now qindex) (now table) (length (now plane)) 1 ⌝ }
-    ensures { λ a. ⌜ Ran s (now (table .entry))
+    ensures { λ a. ⌜ Ran s (now (table .entry)) (now (keep .entry))
         (λ steps ts. edgesOf s steps (tiled (now (vedge .entry)) (now (hedge .entry)) (now (sqw .entry)) (now (sqh .entry)) (now (qindex .entry)) ts))
         (state (now (plane .entry)) (now (buffer .entry)) none) (state (now (plane .exit)) (now (buffer .exit)) a) ⌝ }
 {
@@ -307,6 +368,7 @@ pub fn run(
             sqw,
             sqh,
             qindex,
+            keep,
             table,
             s,
             done,
@@ -319,6 +381,7 @@ pub fn run(
         hedge,
         sqh,
         qindex,
+        keep,
         table,
         s,
         done,

@@ -3,3 +3,4 @@ pub mod Counts
 pub mod Exactly
 pub mod Witness
 pub mod OneTile
+pub mod NoneKept

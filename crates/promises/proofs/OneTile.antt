@@ -14,22 +14,22 @@ use Rattle.rules.specs.Numbers.{depthOk}
 use Rattle.rules.specs.Refusals.{orElse, unless, found, first}
 use Rattle.rules.specs.Lengths.{pairOf}
 use Rattle.rules.specs.Thresholds.{qThreshold, sideThreshold, stepsCheck, deltasCheck}
-use Rattle.rules.specs.Plane.{grid, tiled, cellOf, cellBefore, indexAt, startsTile, shortenedAt, edgeAt, planeSizesOk, planeLengthsOk, badStart, tilesCheck, badCell, noRoom, overPlane, planeCheck}
+use Rattle.rules.specs.Plane.{keeping, cellOf, cellBefore, indexAt, startsTile, shortenedAt, edgeAt, planeSizesOk, planeLengthsOk, badStart, tilesCheck, badCell, noRoom, overPlane, planeCheck}
 use Rattle.plane.specs.Checked.{Stated}
 
-module _ (s : Plane) (steps v h w t q l : List ℕ) where
+module _ (s : Plane) (steps v h w t q ks l : List ℕ) where
   -- "vertical edges never are"
-  pub never-shortened : (r c : ℕ) → shortenedAt s (grid v h w t q) 0 r c ≡ false
+  pub never-shortened : (r c : ℕ) → shortenedAt s (keeping v h w t q [] ks) 0 r c ≡ false
   unfolding shortenedAt startsTile pick
   never-shortened r c = refl
 
   -- so every edge is document 01's, and with it the list of edges, its record, its plane and its counts
-  pub edge-alone : (dir r c : ℕ) → edgeAt s steps (grid v h w t q) dir r c
+  pub edge-alone : (dir r c : ℕ) → edgeAt s steps (keeping v h w t q [] ks) dir r c
       ≡ record {
         x = c * 4;
         y = r * 4;
         dir = dir;
-        pair = pairOf (indexAt s (grid v h w t q) dir r c) (s .chroma) (pick (eqb dir 0) false (eqb (r % s .sbh) 0));
+        pair = pairOf (indexAt s (keeping v h w t q [] ks) dir r c) (s .chroma) (pick (eqb dir 0) false (eqb (r % s .sbh) 0));
         q = qThreshold (s .depth) steps (getD q (cellOf s r c) 0) (getD q (cellBefore s dir r c) 0) (s .deltaq);
         side = sideThreshold (s .depth) (getD q (cellOf s r c) 0) (getD q (cellBefore s dir r c) 0) (s .deltaside);
       }
@@ -37,18 +37,18 @@ module _ (s : Plane) (steps v h w t q l : List ℕ) where
   edge-alone dir r c = refl
 
   -- the checks are document 01's alone
-  pub checks-alone : planeCheck s steps (grid v h w t q) l
+  pub checks-alone : planeCheck s steps (keeping v h w t q [] ks) l
       ≡ orElse (unless (depthOk (s .depth)) Depth)
       (orElse (unless (planeSizesOk s) Size)
-      (orElse (unless (planeLengthsOk s (grid v h w t q) (length l)) Length)
+      (orElse (unless (planeLengthsOk s (keeping v h w t q [] ks) (length l)) Length)
       (orElse (stepsCheck steps)
       (orElse (deltasCheck (s .deltaq) (s .deltaside))
-      (orElse (found (badCell s (grid v h w t q)) Cell)
-      (orElse (found (noRoom s (grid v h w t q)) Room)
+      (orElse (found (badCell s (keeping v h w t q [] ks)) Cell)
+      (orElse (found (noRoom s (keeping v h w t q [] ks)) Room)
       (found (overPlane s l) Sample)))))))
   unfolding planeCheck tilesCheck badStart first found orElse
   checks-alone = refl
 
   -- of whatever the entry may answer and leave with an empty list: answer, plane and counts are those of one tile
-  pub empty-list : (ts : List ℕ) → ts ≡ [] → {a : PlaneAnswer} {m : List ℕ} → Stated s steps (tiled v h w t q ts) l a m → Stated s steps (grid v h w t q) l a m
-  empty-list ts e {a} {m} done = subst (λ (us : List ℕ). Stated s steps (tiled v h w t q us) l a m) e done
+  pub empty-list : (ts : List ℕ) → ts ≡ [] → {a : PlaneAnswer} {m : List ℕ} → Stated s steps (keeping v h w t q ts ks) l a m → Stated s steps (keeping v h w t q [] ks) l a m
+  empty-list ts e {a} {m} done = subst (λ (us : List ℕ). Stated s steps (keeping v h w t q us ks) l a m) e done

@@ -1,3 +1,4 @@
 pub mod Edges
 pub mod Counts
 pub mod Exactly
+pub mod NoneKept

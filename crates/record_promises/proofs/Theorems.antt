@@ -2,10 +2,11 @@
 -- the bytes after them stay, and plane and counts are those of the run without a record. And that a refusal leaves both as lent and counts nothing, and that there is one result.
 -- Assumes nothing.
 use mathlib.Core.Path.{_≡_, refl, sym, ap, _∙_}
+use mathlib.Core.Bool.{true}
 use mathlib.Core.List.{List}
 use Prim.Native.Nat.{ℕ, _+_, _*_}
 use native.Mathlib.Omega.{arith}
-use lib.ListN.{length, take, drop}
+use lib.ListN.{length, getD, take, drop}
 use lib.Seq.{take-at, drop-at}
 use Rattle.laws.specs.Lists.{Each, each-both}
 use Rattle.laws.specs.Reorder.{count}
@@ -18,7 +19,7 @@ use Rattle.rules.specs.declared.refusals.PlaneAnswer.{PlaneAnswer}
 use Rattle.rules.specs.declared.refusals.RecordAnswer.{RecordAnswer}
 use Rattle.rules.specs.declared.refusals.Recorded.the-variants.{Bytes, Refused as «NoRecord»}
 use Rattle.rules.specs.Refusals.{settle}
-use Rattle.rules.specs.Plane.{Grid, edgeAt, edgesOf, runPlane, runStored, runChanged, planeCheck, planeAfter, planeStored, planeChanged}
+use Rattle.rules.specs.Plane.{Grid, keeping, keptBy, isEdge, indexAt, shortenedAt, marksOf, indicesOf, visitOf, sweepOf, columnOf, turnOf, edgeAt, edgesOf, runPlane, runStored, runChanged, planeCheck, planeAfter, planeStored, planeChanged}
 use Rattle.rules.specs.Record.{recordOf, bufferAfter, edgesIn, edgeCount, recordedCheck, answerBytes, recordedAnswer, recordedPlane, recordedBuffer, recordedStored, recordedChanged}
 use Rattle.segment.specs.Fit.{InPlane}
 use Rattle.records.specs.Fit.{InBytes}
@@ -26,6 +27,7 @@ use Rattle.records.proofs.RoundTrip.{record-length, read-record}
 use Rattle.plane.specs.Checked.{Stated as «PlaneStated»}
 use Rattle.plane.proofs.Accepting.{checked}
 use Rattle.plane.proofs.Everywhere.{every-edge}
+use Rattle.plane.proofs.Marked.{plane-holds}
 use Rattle.orders.specs.Walks.{sameEdge}
 use Rattle.orders.proofs.Once.{Marked, only-marked, marked-once, other-never, edges-length}
 use Rattle.recorded.specs.Stated.{Stated}
@@ -139,6 +141,22 @@ module _ (s : Plane) (steps : List ℕ) (g : Grid) (l b : List ℕ) {a : RecordA
 pub record-by-grid : (s : Plane) (steps : List ℕ) (g : Grid) (l k b d : List ℕ) {x y : RecordAnswer} {n i : ℕ} {m o c e : List ℕ}
     → Stated s steps g l b x m c → x .«record» ≡ Bytes n → Stated s steps g k d y o e → y .«record» ≡ Bytes i → take n c ≡ take i e
 record-by-grid s steps g l k b d x told y also = record-is s steps g l b x told ∙ sym (record-is s steps g k d y also)
+
+-- nor on the keep marks
+pub record-by-marks : (s : Plane) (steps v h w t q ts ks us l k b d : List ℕ) {x y : RecordAnswer} {n i : ℕ} {m o c e : List ℕ} → Stated s steps (keeping v h w t q ts ks) l b x m c → x .«record» ≡ Bytes n
+    → Stated s steps (keeping v h w t q ts us) k d y o e → y .«record» ≡ Bytes i → take n c ≡ take i e
+unfolding edgesOf turnOf columnOf sweepOf visitOf isEdge edgeAt indexAt shortenedAt marksOf indicesOf
+record-by-marks s steps v h w t q ts ks us l k b d x told y also =
+    record-is s steps (keeping v h w t q ts ks) l b x told ∙ sym (record-is s steps (keeping v h w t q ts us) k d y also)
+
+-- ticket 7: a sample in a kept cell is as lent, accepted or refused
+pub recorded-held : (s : Plane) (steps : List ℕ) (g : Grid) (l b : List ℕ) {a : RecordAnswer} {m c : List ℕ} → Stated s steps g l b a m c → (i : ℕ) → keptBy s g i ≡ true → getD m i 0 ≡ getD l i 0
+unfolding recordedPlane settle
+recorded-held s steps g l b done i h = ap (λ (x : List ℕ). getD x i 0) (done .plane) ∙ go (recordedCheck s steps g l (length b))
+  where
+    go : (x : Answer) → getD (settle x l (runPlane s steps g l)) i 0 ≡ getD l i 0
+    go Accepted = plane-holds s steps g l i h
+    go (Refused r) = refl
 
 -- ---- "the plane and buffer stay unchanged", and ticket 4: "A refusal reports zero for both."
 

@@ -28,36 +28,36 @@ roomy = 7 ∷ 7 ∷ 7 ∷ 7 ∷ 7 ∷ 7 ∷ 7 ∷ 7 ∷ 7 ∷ 7 ∷ 7 ∷ 7 ∷ 
 abbrev pub short : List ℕ
 short = 7 ∷ 7 ∷ 7 ∷ 7 ∷ 7 ∷ 7 ∷ 7 ∷ 7 ∷ 7 ∷ 7 ∷ 7 ∷ 7 ∷ 7 ∷ 7 ∷ []
 
-edges : edgesOf settings steps cells ≡ record { x = 4; y = 0; dir = 0; pair = 1; q = 16; side = 23 } ∷ []
+edges : edgesOf settings steps (cells 0) ≡ record { x = 4; y = 0; dir = 0; pair = 1; q = 16; side = 23 } ∷ []
 unfolding each pick both highestOf offsetOf shiftOf indexOf stepOf quantOf lowered sideOf bothOf qThreshold sideThreshold pairOf cellOf cellBefore marksOf indicesOf cappedOf indexAt shortenedAt isEdge edgeAt visitOf startOf countOf sbCols sweepOf columnOf turnOf edgesOf
 edges = refl
 
-marked : edgeCount settings cells ≡ 1
+marked : edgeCount settings (cells 0) ≡ 1
 unfolding sum pick both cellOf marksOf isEdge edgeCount
 marked = refl
 
 -- the plane afterwards, as without a record
-left : four (100 ∷ 101 ∷ 102 ∷ 103 ∷ 105 ∷ 106 ∷ 107 ∷ 108 ∷ []) ≡ runPlane settings steps cells samples
+left : four (100 ∷ 101 ∷ 102 ∷ 103 ∷ 105 ∷ 106 ∷ 107 ∷ 108 ∷ []) ≡ runPlane settings steps (cells 0) samples
 unfolding planeAfter settle
-left = witness .plane ∙ ap (λ (a : Answer). settle a samples (runPlane settings steps cells samples)) accepted
+left = witness .plane ∙ ap (λ (a : Answer). settle a samples (runPlane settings steps (cells 0) samples)) (accepted .0)
 
-counted : (24 ≡ runStored settings steps cells samples) × (24 ≡ runChanged settings steps cells samples)
+counted : (24 ≡ runStored settings steps (cells 0) samples) × (24 ≡ runChanged settings steps (cells 0) samples)
 unfolding planeStored planeChanged settle
 counted = (
-  witness .stored ∙ ap (λ (a : Answer). settle a 0 (runStored settings steps cells samples)) accepted,
-  witness .changed ∙ ap (λ (a : Answer). settle a 0 (runChanged settings steps cells samples)) accepted,
+  witness .stored ∙ ap (λ (a : Answer). settle a 0 (runStored settings steps (cells 0) samples)) (accepted .0),
+  witness .changed ∙ ap (λ (a : Answer). settle a 0 (runChanged settings steps (cells 0) samples)) (accepted .0),
 )
 
-given-room : recordedCheck settings steps cells samples 17 ≡ Accepted
+given-room : recordedCheck settings steps (cells 0) samples 17 ≡ Accepted
 unfolding recordedCheck orElse unless
-given-room = rw (accepted, marked)
+given-room = rw (accepted .0, marked)
 
-lacks-room : recordedCheck settings steps cells samples 14 ≡ Refused Buffer
+lacks-room : recordedCheck settings steps (cells 0) samples 14 ≡ Refused Buffer
 unfolding recordedCheck orElse unless
-lacks-room = rw (accepted, marked)
+lacks-room = rw (accepted .0, marked)
 
 -- what `record_plane` must answer and leave: EDG, 1, and the edge at 4,0 of direction 0 with pair 1, q 16 and side 23
-pub recorded : Stated settings steps cells samples roomy (record { «record» = Bytes 15; stored = 24; changed = 24 }) (four (100 ∷ 101 ∷ 102 ∷ 103 ∷ 105 ∷ 106 ∷ 107 ∷ 108 ∷ []))
+pub recorded : Stated settings steps (cells 0) samples roomy (record { «record» = Bytes 15; stored = 24; changed = 24 }) (four (100 ∷ 101 ∷ 102 ∷ 103 ∷ 105 ∷ 106 ∷ 107 ∷ 108 ∷ []))
     (69 ∷ 68 ∷ 71 ∷ 1 ∷ 0 ∷ 4 ∷ 0 ∷ 0 ∷ 0 ∷ 0 ∷ 1 ∷ 16 ∷ 0 ∷ 23 ∷ 0 ∷ 7 ∷ 7 ∷ [])
 unfolding recordedAnswer answerBytes recordedPlane recordedBuffer recordedStored recordedChanged settle bufferAfter recordOf entriesOf entryOf lowFirst
 recorded = record {
@@ -69,6 +69,6 @@ recorded = record {
 }
 
 -- a byte too few: 10, both lists as lent, and nothing counted
-pub refused : Stated settings steps cells samples short (record { «record» = «NoRecord» Buffer; stored = 0; changed = 0 }) samples short
+pub refused : Stated settings steps (cells 0) samples short (record { «record» = «NoRecord» Buffer; stored = 0; changed = 0 }) samples short
 unfolding recordedAnswer answerBytes recordedPlane recordedBuffer recordedStored recordedChanged settle
 refused = record { answer = rw lacks-room; plane = rw lacks-room; buffer = rw lacks-room; stored = rw lacks-room; changed = rw lacks-room }

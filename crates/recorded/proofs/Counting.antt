@@ -9,7 +9,7 @@ use borrow.Author.Needs.{needs}
 use Rattle.laws.specs.Choose.{pick}
 use Rattle.laws.specs.Sums.{sum}
 use Rattle.rules.specs.declared.settings.Plane.{Plane}
-use Rattle.rules.specs.Plane.{tiled, marksOf, isEdge}
+use Rattle.rules.specs.Plane.{keeping, marksOf, isEdge}
 use Rattle.rules.specs.Record.{edgeCount}
 use Rattle.recorded.specs.Count.{inCell, inRow}
 
@@ -29,6 +29,6 @@ module _ (f : ℕ → ℕ) where
 
 -- ---- the rules' count looks at the marks alone
 
-pub counted : (s : Plane) (v h w t q ts : List ℕ) → sum (s .rows) (λ r. inRow s v h r) ≡ edgeCount s (tiled v h w t q ts)
+pub counted : (s : Plane) (v h w t q ts ks : List ℕ) → sum (s .rows) (λ r. inRow s v h r) ≡ edgeCount s (keeping v h w t q ts ks)
 unfolding edgeCount inRow inCell isEdge marksOf pick
-counted s v h w t q ts = refl
+counted s v h w t q ts ks = refl

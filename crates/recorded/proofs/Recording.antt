@@ -16,7 +16,7 @@ use Rattle.rules.specs.declared.refusals.Answer.{Answer}
 use Rattle.rules.specs.declared.refusals.Answer.the-variants.{Accepted, Refused}
 use Rattle.rules.specs.declared.refusals.Recorded.the-variants.{Bytes, Refused as «NoRecord»}
 use Rattle.rules.specs.Refusals.{settle}
-use Rattle.rules.specs.Plane.{Grid, tiled, edgesOf, runPlane, planeCheck}
+use Rattle.rules.specs.Plane.{Grid, keeping, edgesOf, runPlane, planeCheck}
 use Rattle.rules.specs.Record.{header, recordOf, edgeCount, recordedCheck, answerBytes, recordedAnswer, recordedPlane, recordedBuffer, recordedStored, recordedChanged}
 use Rattle.scan.proofs.Checks.{stop-by, go-on-by, unless-bad, unless-good, unless-true, else-parts, settle-refused-by, settle-accepted-by}
 use Rattle.records.proofs.RoundTrip.{record-length}
@@ -44,10 +44,10 @@ module _ (s : Plane) (steps : List ℕ) (g : Grid) (l : List ℕ) (n : ℕ) {a :
   room-given e count h = go-on-by _ _ _ _ is e (unless-good _ _ (is-le (5 + 10 * edgeCount s g) n (omega arith)))
 
 -- what the count asks
-pub marks-by : (s : Plane) (steps : List ℕ) (v h w t q ts l : List ℕ) {a : Answer} → a ≡ planeCheck s steps (tiled v h w t q ts) l → a ≡ Accepted → Marks s (length v) (length h)
-marks-by s steps v h w t q ts l is e =
-    let k = checked s steps (tiled v h w t q ts) l (sym is ∙ e) in
-    let long = lengths s (tiled v h w t q ts) (length l) (k .lengths) in
+pub marks-by : (s : Plane) (steps : List ℕ) (v h w t q ts ks l : List ℕ) {a : Answer} → a ≡ planeCheck s steps (keeping v h w t q ts ks) l → a ≡ Accepted → Marks s (length v) (length h)
+marks-by s steps v h w t q ts ks l is e =
+    let k = checked s steps (keeping v h w t q ts ks) l (sym is ∙ e) in
+    let long = lengths s (keeping v h w t q ts ks) (length l) (k .lengths) in
     record { sizes-ok = k .sizes-ok; vedge = long .lists .vedge; hedge = long .lists .hedge }
 
 -- ---- an accepted plane with room for its record

@@ -7,7 +7,7 @@ ghost use Prim.Native.Nat.{ℕ, _*_, _≤_, _<_};
 ghost use lib.ListN.{length};
 ghost use Rattle.laws.specs.Sums.{sum};
 ghost use Rattle.laws.specs.Tests.{bit};
-ghost use Rattle.rules.specs.Plane.{tiled};
+ghost use Rattle.rules.specs.Plane.{keeping};
 ghost use Rattle.rules.specs.Record.{edgeCount};
 ghost use Rattle.cells.specs.Fit.{Sizes};
 ghost use Rattle.recorded.specs.Count.{Marks, inCell, inRow};
@@ -41,7 +41,7 @@ fn in_row(vedge: &[u8], hedge: &[u8], s: Plane, r: usize) -> usize
 // Of all cells; the other lists of the grid do not matter.
 pub fn edge_count(vedge: &[u8], hedge: &[u8], s: Plane) -> usize
     requires { ⌜ Marks s (length (now vedge)) (length (now hedge)) ⌝ }
-    ensures { λ n. ⌜ ((w t q ts : List ℕ) → n ≡ edgeCount s (tiled (now (vedge .entry)) (now (hedge .entry)) w t q ts)) × (n ≤ 2097152) ⌝ }
+    ensures { λ n. ⌜ ((w t q ts ks : List ℕ) → n ≡ edgeCount s (keeping (now (vedge .entry)) (now (hedge .entry)) w t q ts ks)) × (n ≤ 2097152) ⌝ }
 {
     let mut n = 0;
     for r in 0..s.rows {

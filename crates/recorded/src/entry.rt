@@ -9,7 +9,7 @@ use rules::refusals::Recorded;
 use rules::refusals::Refusal;
 use rules::settings::Plane;
 ghost use mathlib.Core.Path.{_≡_};
-ghost use Rattle.rules.specs.Plane.{tiled};
+ghost use Rattle.rules.specs.Plane.{keeping};
 ghost use Rattle.rules.specs.Record.{recordedCheck};
 ghost use Rattle.recorded.specs.Stated.{Stated};
 
@@ -23,12 +23,13 @@ fn record_check(
     sqh: &[u8],
     qindex: &[u16],
     tiles: &[u16],
+    keep: &[u8],
     steps: &[u32],
     s: Plane,
 ) -> Answer
-    ensures { λ a. ⌜ a ≡ recordedCheck s (now (steps .entry)) (tiled (now (vedge .entry)) (now (hedge .entry)) (now (sqw .entry)) (now (sqh .entry)) (now (qindex .entry)) (now (tiles .entry))) (now (plane .entry)) room ⌝ }
+    ensures { λ a. ⌜ a ≡ recordedCheck s (now (steps .entry)) (keeping (now (vedge .entry)) (now (hedge .entry)) (now (sqw .entry)) (now (sqh .entry)) (now (qindex .entry)) (now (tiles .entry)) (now (keep .entry))) (now (plane .entry)) room ⌝ }
 {
-    let a = plane_check(plane, vedge, hedge, sqw, sqh, qindex, tiles, steps, s);
+    let a = plane_check(plane, vedge, hedge, sqw, sqh, qindex, tiles, keep, steps, s);
     if let Answer::Refused(r) = a {
         return Answer::Refused(r);
     }
@@ -49,13 +50,26 @@ pub fn record_plane(
     sqh: &[u8],
     qindex: &[u16],
     tiles: &[u16],
+    keep: &[u8],
     steps: &[u32],
     s: Plane,
 ) -> RecordAnswer
-    ensures { λ a. ⌜ Stated s (now (steps .entry)) (tiled (now (vedge .entry)) (now (hedge .entry)) (now (sqw .entry)) (now (sqh .entry)) (now (qindex .entry)) (now (tiles .entry))) (now (plane .entry)) (now (buffer .entry)) a (now (plane .exit)) (now (buffer .exit)) ⌝ }
+    ensures { λ a. ⌜ Stated s (now (steps .entry)) (keeping (now (vedge .entry)) (now (hedge .entry)) (now (sqw .entry)) (now (sqh .entry)) (now (qindex .entry)) (now (tiles .entry)) (now (keep .entry))) (now (plane .entry)) (now (buffer .entry)) a (now (plane .exit)) (now (buffer .exit)) ⌝ }
 {
     let room = buffer.len();
-    let a = record_check(plane, room, vedge, hedge, sqw, sqh, qindex, tiles, steps, s);
+    let a = record_check(
+        plane,
+        room,
+        vedge,
+        hedge,
+        sqw,
+        sqh,
+        qindex,
+        tiles,
+        keep,
+        steps,
+        s,
+    );
     if let Answer::Refused(r) = a {
         return RecordAnswer {
             record: Recorded::Refused(r),
@@ -73,6 +87,7 @@ pub fn record_plane(
         sqh,
         qindex,
         tiles,
+        keep,
         steps,
         s,
     );

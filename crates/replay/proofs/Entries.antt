@@ -27,7 +27,7 @@ use Rattle.lengths.proofs.Inside.{Ranges, ranges-are}
 use Rattle.segment.specs.declared.outcome.Outcome.{Outcome}
 use Rattle.segment.specs.Fit.{InPlane, EdgeFiltered}
 use Rattle.segment.proofs.Counts.{one-stored, one-changed, stored-then, changed-then}
-use Rattle.replay.specs.Fit.{Sized, Ranged, Runnable, inWord, Ran}
+use Rattle.replay.specs.Fit.{Sized, Ranged, Runnable, inWord, held, Ran}
 
 -- ---- where an entry lies
 
@@ -66,6 +66,10 @@ pub samples-most : {s : Replay} → Sized s → 4 * s .rows * s .stride ≤ 3355
 samples-most {s} z =
     let r = z .rows-most in
     mul-le-mul (let e : 4 * s .rows ≤ 4096 = omega arith in e) (z .stride-most)
+
+-- and so are its cells
+pub cells-most : {s : Replay} → Sized s → s .rows * s .cols ≤ 1048576
+cells-most z = mul-le-mul (z .rows-most) (z .cols-most)
 
 module _ (bytes : List ℕ) (k : ℕ) (h : k < entryCount bytes) {e : Edge} (is : e ≡ edgeIn bytes (entryAt k)) where
   -- an entry that passed a test of every entry
@@ -117,34 +121,34 @@ module _ (bytes : List ℕ) (good : Edge → Bool) (k : ℕ) (before : first k (
 abbrev pub firstEntries : List ℕ → ℕ → List Edge
 firstEntries bytes k = each k (λ j. edgeIn bytes (entryAt j) ∷ [])
 
-pub ran-same : {s : Replay} {es fs : List Edge} {l m : List ℕ} {x y : ℕ} → es ≡ fs → Ran s es l x y m → Ran s fs l x y m
+pub ran-same : {s : Replay} {keep : List ℕ} {es fs : List Edge} {l m : List ℕ} {x y : ℕ} → es ≡ fs → Ran s keep es l x y m → Ran s keep fs l x y m
 ran-same e r = rw (← e) r
 
 -- one edge more
-ran-then : (s : Replay) (es : List Edge) (l : List ℕ) {e : Edge} {top x y u v : ℕ} {m n : List ℕ} {o : Outcome} → Ran s es l x y m → top ≡ topOf (s .depth) → EdgeFiltered top (s .stride) e m o n
-    → u ≡ inWord (x + o .stored) → v ≡ inWord (y + o .changed) → Ran s (es ++ (e ∷ [])) l u v n
+ran-then : (s : Replay) (keep : List ℕ) (es : List Edge) (l : List ℕ) {e : Edge} {top x y u v : ℕ} {m n : List ℕ} {o : Outcome} → Ran s keep es l x y m → top ≡ topOf (s .depth) → EdgeFiltered top (s .stride) (held s keep) e m o n
+    → u ≡ inWord (x + o .stored) → v ≡ inWord (y + o .changed) → Ran s keep (es ++ (e ∷ [])) l u v n
 unfolding runEdges
-ran-then s es l {e} {m = m} {o = o} so-far deep done more moved =
-    let kept : o .stored ≡ storedBy (topOf (s .depth)) (s .stride) (e ∷ []) m = done .stored ∙ ap (λ (t : ℕ). storedAt t (s .stride) e m) deep ∙ sym (one-stored (topOf (s .depth)) (s .stride) e m) in
-    let new : o .changed ≡ changedBy (topOf (s .depth)) (s .stride) (e ∷ []) m = done .changed ∙ ap (λ (t : ℕ). changedAt t (s .stride) e m) deep ∙ sym (one-changed (topOf (s .depth)) (s .stride) e m) in
+ran-then s keep es l {e} {m = m} {o = o} so-far deep done more moved =
+    let put : o .stored ≡ storedBy (topOf (s .depth)) (s .stride) (held s keep) (e ∷ []) m = done .stored ∙ ap (λ (t : ℕ). storedAt t (s .stride) (held s keep) e m) deep ∙ sym (one-stored (topOf (s .depth)) (s .stride) (held s keep) e m) in
+    let new : o .changed ≡ changedBy (topOf (s .depth)) (s .stride) (held s keep) (e ∷ []) m = done .changed ∙ ap (λ (t : ℕ). changedAt t (s .stride) (held s keep) e m) deep ∙ sym (one-changed (topOf (s .depth)) (s .stride) (held s keep) e m) in
     record {
-      plane = run-then (segmentOf (topOf (s .depth)) (s .stride)) es (e ∷ []) l (so-far .plane) (done .plane ∙ ap (λ (t : ℕ). segmentOf t (s .stride) e m) deep);
-      stored-is = omega (arith, more, so-far .stored-is, kept, stored-then (topOf (s .depth)) (s .stride) es (e ∷ []) l 0 (so-far .plane) refl refl);
-      changed-is = omega (arith, moved, so-far .changed-is, new, changed-then (topOf (s .depth)) (s .stride) es (e ∷ []) l 0 (so-far .plane) refl refl);
+      plane = run-then (segmentOf (topOf (s .depth)) (s .stride) (held s keep)) es (e ∷ []) l (so-far .plane) (done .plane ∙ ap (λ (t : ℕ). segmentOf t (s .stride) (held s keep) e m) deep);
+      stored-is = omega (arith, more, so-far .stored-is, put, stored-then (topOf (s .depth)) (s .stride) (held s keep) es (e ∷ []) l 0 (so-far .plane) refl refl);
+      changed-is = omega (arith, moved, so-far .changed-is, new, changed-then (topOf (s .depth)) (s .stride) (held s keep) es (e ∷ []) l 0 (so-far .plane) refl refl);
     }
 
-module _ (s : Replay) (bytes l : List ℕ) where
-  pub replayed-none : Ran s (firstEntries bytes 0) l 0 0 l
+module _ (s : Replay) (bytes keep l : List ℕ) where
+  pub replayed-none : Ran s keep (firstEntries bytes 0) l 0 0 l
   unfolding runEdges storedBy changedBy each
   replayed-none = record { plane = refl; stored-is = refl; changed-is = refl }
 
-  pub replayed-more : (k : ℕ) {m n : List ℕ} {e : Edge} {top x y u v : ℕ} {o : Outcome} → Ran s (firstEntries bytes k) l x y m
-      → e ≡ edgeIn bytes (entryAt k) → top ≡ topOf (s .depth) → EdgeFiltered top (s .stride) e m o n
-      → u ≡ inWord (x + o .stored) → v ≡ inWord (y + o .changed) → Ran s (firstEntries bytes (k + 1)) l u v n
+  pub replayed-more : (k : ℕ) {m n : List ℕ} {e : Edge} {top x y u v : ℕ} {o : Outcome} → Ran s keep (firstEntries bytes k) l x y m
+      → e ≡ edgeIn bytes (entryAt k) → top ≡ topOf (s .depth) → EdgeFiltered top (s .stride) (held s keep) e m o n
+      → u ≡ inWord (x + o .stored) → v ≡ inWord (y + o .changed) → Ran s keep (firstEntries bytes (k + 1)) l u v n
   replayed-more k so-far is deep done more moved =
-      ran-same (each-more (λ j. edgeIn bytes (entryAt j) ∷ []) k refl (ap (λ (f : Edge). firstEntries bytes k ++ (f ∷ [])) is)) (ran-then s (firstEntries bytes k) l so-far deep done more moved)
+      ran-same (each-more (λ j. edgeIn bytes (entryAt j) ∷ []) k refl (ap (λ (f : Edge). firstEntries bytes k ++ (f ∷ [])) is)) (ran-then s keep (firstEntries bytes k) l so-far deep done more moved)
 
-  pub replayed-end : (k n : ℕ) {m : List ℕ} {x y : ℕ} → Ran s (firstEntries bytes k) l x y m → n ≡ entryCount bytes → k ≤ n → n ≤ k → Ran s (edgesIn bytes) l x y m
+  pub replayed-end : (k n : ℕ) {m : List ℕ} {x y : ℕ} → Ran s keep (firstEntries bytes k) l x y m → n ≡ entryCount bytes → k ≤ n → n ≤ k → Ran s keep (edgesIn bytes) l x y m
   unfolding edgesIn
   replayed-end k n r c a b = ran-same (ap (λ (j : ℕ). firstEntries bytes j) (le-antisymm (omega arith) (omega arith))) r
 

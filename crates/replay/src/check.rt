@@ -1,4 +1,4 @@
-// The checks of a record and its plane, in ticket 2's order.
+// The checks of a record, its plane and its keep marks, in ticket 2's order.
 use lengths::ranges::ranges_ok;
 use lengths::room::has_room;
 use low_first::two_at;
@@ -9,13 +9,14 @@ use rules::refusals::Answer;
 use rules::refusals::Found;
 use rules::refusals::Refusal;
 use rules::settings::Replay;
+use scan::bad_keep;
 use scan::in_range;
 use scan::samples;
 ghost use mathlib.Core.Path.{_≡_};
 ghost use Prim.Native.Nat.{_≤_, _<_};
 ghost use lib.ListN.{length};
 ghost use Rattle.rules.specs.Record.{edgeIn, entryAt, entryCount};
-ghost use Rattle.rules.specs.Replay.{replaySizesOk, headerOk, badEntry, noRoomIn, recordCheck, replayCheck};
+ghost use Rattle.rules.specs.Replay.{replaySizesOk, replayLong, headerOk, badEntry, noRoomIn, recordCheck, replayCheck};
 ghost use Rattle.replay.specs.Fit.{Sized, Ranged, Roomy, roomCheck};
 
 // A plane's ranges.
@@ -29,6 +30,17 @@ fn sizes_ok(s: Replay) -> bool
         return false;
     }
     in_range(4 * s.cols, 8192, s.stride)
+}
+
+// The plane and the keep marks are long enough.
+fn lengths_ok(plane: &[u16], keep: &[u8], s: Replay) -> bool
+    requires { ⌜ Sized s ⌝ }
+    ensures { λ r. ⌜ r ≡ replayLong s (length (now (keep .entry))) (length (now (plane .entry))) ⌝ }
+{
+    if plane.len() < 4 * s.rows * s.stride {
+        return false;
+    }
+    s.rows * s.cols <= keep.len()
 }
 
 // Mark and version.
@@ -110,11 +122,15 @@ pub fn record_check(bytes: &[u8]) -> Answer
     Answer::Accepted
 }
 
-// What a record and its plane are to each other: 7 and 8.
-fn room_check(plane: &[u16], bytes: &[u8], s: Replay) -> Answer
-    requires { ⌜ Roomy s (now bytes) (length (now plane)) ⌝ }
-    ensures { λ r. ⌜ r ≡ roomCheck s (now (bytes .entry)) (now (plane .entry)) ⌝ }
+// The keep marks, and what a record and its plane are to each other: 6, 7 and 8.
+fn room_check(plane: &[u16], bytes: &[u8], keep: &[u8], s: Replay) -> Answer
+    requires { ⌜ Roomy s (now bytes) (length (now plane)) (length (now keep)) ⌝ }
+    ensures { λ r. ⌜ r ≡ roomCheck s (now (bytes .entry)) (now (keep .entry)) (now (plane .entry)) ⌝ }
 {
+    let bad = bad_keep(keep, s.rows * s.cols);
+    if let Found::At(k) = bad {
+        return Answer::Refused(Refusal::Cell(k));
+    }
     let narrow = no_room(bytes, count(bytes), s);
     if let Found::At(k) = narrow {
         return Answer::Refused(Refusal::Room(k));
@@ -128,8 +144,8 @@ fn room_check(plane: &[u16], bytes: &[u8], s: Replay) -> Answer
 }
 
 // The first refusal, or none.
-pub fn replay_check(plane: &[u16], bytes: &[u8], s: Replay) -> Answer
-    ensures { λ r. ⌜ r ≡ replayCheck s (now (bytes .entry)) (now (plane .entry)) ⌝ }
+pub fn replay_check(plane: &[u16], bytes: &[u8], keep: &[u8], s: Replay) -> Answer
+    ensures { λ r. ⌜ r ≡ replayCheck s (now (bytes .entry)) (now (keep .entry)) (now (plane .entry)) ⌝ }
 {
     if !Depth::is(s.depth) {
         return Answer::Refused(Refusal::Depth);
@@ -137,12 +153,12 @@ pub fn replay_check(plane: &[u16], bytes: &[u8], s: Replay) -> Answer
     if !sizes_ok(s) {
         return Answer::Refused(Refusal::Size);
     }
-    if plane.len() < 4 * s.rows * s.stride {
+    if !lengths_ok(plane, keep, s) {
         return Answer::Refused(Refusal::Length);
     }
     let a = record_check(bytes);
     if let Answer::Refused(r) = a {
         return Answer::Refused(r);
     }
-    room_check(plane, bytes, s)
+    room_check(plane, bytes, keep, s)
 }

@@ -23,13 +23,14 @@ pub struct Done {
     pub more: bool,
 }
 
-// Plane p by its record, on the cells that were filtered; false after the answer that says why not.
-fn run_plane(plane: &mut [u16], bytes: &[u8], s: Shape, depth: u32, p: usize) -> bool
-    ensures { λ _. ⌜ now (plane .exit) ≡ replayAfter (settingsOf s depth) (now (bytes .entry)) (now (plane .entry)) ⌝ }
+// Plane p by its record and its keep marks, on the cells that were filtered; false after the answer that says why not.
+fn run_plane(plane: &mut [u16], bytes: &[u8], keep: &[u8], s: Shape, depth: u32, p: usize) -> bool
+    ensures { λ _. ⌜ now (plane .exit) ≡ replayAfter (settingsOf s depth) (now (bytes .entry)) (now (keep .entry)) (now (plane .entry)) ⌝ }
 {
     let a = replay_plane(
         plane,
         bytes,
+        keep,
         Replay {
             cols: s.stride / 4,
             rows: s.rows / 4,
@@ -52,6 +53,8 @@ fn run_planes(
     v: &mut [u16],
     bytes: &[u8],
     at: Records,
+    keep: &[u8],
+    chromakeep: &[u8],
     j: Job,
 ) -> bool
     requires { ⌜ Held at (length (now bytes)) ⌝ }
@@ -61,16 +64,16 @@ fn run_planes(
     let a = at.y;
     let b = at.u;
     let c = at.v;
-    if !run_plane(y, &bytes[0..a], j.l, layout.depth, 0) {
+    if !run_plane(y, &bytes[0..a], keep, j.l, layout.depth, 0) {
         return false;
     }
     if !at.chroma {
         return true;
     }
-    if !run_plane(u, &bytes[a..b], j.c, layout.depth, 1) {
+    if !run_plane(u, &bytes[a..b], chromakeep, j.c, layout.depth, 1) {
         return false;
     }
-    run_plane(v, &bytes[b..c], j.c, layout.depth, 2)
+    run_plane(v, &bytes[b..c], chromakeep, j.c, layout.depth, 2)
 }
 
 // Frame k, whose line was read; false after the answer that says why not.
@@ -80,6 +83,8 @@ fn work(
     v: &mut [u16],
     bytes: &[u8],
     at: Records,
+    keep: &[u8],
+    chromakeep: &[u8],
     name: &[u8],
     head: &[u8],
     mark: &[u8],
@@ -91,7 +96,7 @@ fn work(
     if !read_frame(name, j, k, y, u, v) {
         return false;
     }
-    if !run_planes(y, u, v, bytes, at, j) {
+    if !run_planes(y, u, v, bytes, at, keep, chromakeep, j) {
         return false;
     }
     pack(y, u, v, j);
@@ -105,6 +110,8 @@ pub fn next(
     v: &mut [u16],
     bytes: &[u8],
     at: Records,
+    keep: &[u8],
+    chromakeep: &[u8],
     name: &[u8],
     head: &[u8],
     j: Job,
@@ -121,6 +128,19 @@ pub fn next(
         };
     }
     let m = t.n;
-    let good = work(y, u, v, bytes, at, name, head, &mark[..m], j, k);
+    let good = work(
+        y,
+        u,
+        v,
+        bytes,
+        at,
+        keep,
+        chromakeep,
+        name,
+        head,
+        &mark[..m],
+        j,
+        k,
+    );
     Done { good, more: good }
 }

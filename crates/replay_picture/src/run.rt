@@ -7,7 +7,10 @@ use crate::load::Records;
 use crate::load::large_room;
 use crate::load::load;
 use crate::load::small_room;
+use crate::marks::marked;
 use crate::say;
+use asked::kept::large_marks;
+use asked::kept::small_marks;
 use pictures::files;
 use pictures::planes;
 use pictures::shapes::chroma_of;
@@ -44,6 +47,8 @@ fn frames(
     v: &mut [u16],
     bytes: &[u8],
     at: Records,
+    keep: &[u8],
+    chromakeep: &[u8],
     name: &[u8],
     head: &[u8],
     j: Job,
@@ -54,7 +59,7 @@ fn frames(
     let mut k: usize = 0;
     while k < 18446744073709551615 {
         say::count(k, shown);
-        let d = next(y, u, v, bytes, at, name, head, j, k);
+        let d = next(y, u, v, bytes, at, keep, chromakeep, name, head, j, k);
         if !d.more {
             closed(name, j, at, k, d.good);
             return;
@@ -70,6 +75,8 @@ fn loaded(
     v: &mut [u16],
     bytes: &[u8],
     at: Records,
+    keep: &[u8],
+    chromakeep: &[u8],
     name: &[u8],
     out: &[u8],
     fd: i32,
@@ -85,7 +92,7 @@ fn loaded(
         l: luma_of(h),
         c: chroma_of(h),
     };
-    frames(y, u, v, bytes, at, name, head, j);
+    frames(y, u, v, bytes, at, keep, chromakeep, name, head, j);
 }
 
 // A small picture; false where its records want more room.
@@ -95,6 +102,7 @@ fn light(
     y: &[u8],
     u: &[u8],
     v: &[u8],
+    settings: &[u8],
     fd: i32,
     head: &[u8],
     h: Header,
@@ -107,15 +115,43 @@ fn light(
     if at.v == 1048576 {
         return false;
     }
+    let mut keep = small_marks();
+    let mut chromakeep = small_marks();
+    if !marked(settings, h, &mut keep, &mut chromakeep) {
+        return true;
+    }
     let mut a = planes::small_room();
     let mut b = planes::small_room();
     let mut c = planes::small_room();
-    loaded(&mut a, &mut b, &mut c, &bytes, at, name, out, fd, head, h);
+    loaded(
+        &mut a,
+        &mut b,
+        &mut c,
+        &bytes,
+        at,
+        &keep,
+        &chromakeep,
+        name,
+        out,
+        fd,
+        head,
+        h,
+    );
     true
 }
 
 // Any picture.
-fn heavy(name: &[u8], out: &[u8], y: &[u8], u: &[u8], v: &[u8], fd: i32, head: &[u8], h: Header) {
+fn heavy(
+    name: &[u8],
+    out: &[u8],
+    y: &[u8],
+    u: &[u8],
+    v: &[u8],
+    settings: &[u8],
+    fd: i32,
+    head: &[u8],
+    h: Header,
+) {
     let mut bytes = large_room();
     let at = load(y, u, v, &mut bytes);
     if !at.good {
@@ -128,18 +164,46 @@ fn heavy(name: &[u8], out: &[u8], y: &[u8], u: &[u8], v: &[u8], fd: i32, head: &
         );
         return;
     }
+    let mut keep = large_marks();
+    let mut chromakeep = large_marks();
+    if !marked(settings, h, &mut keep, &mut chromakeep) {
+        return;
+    }
     let mut a = planes::large_room();
     let mut b = planes::large_room();
     let mut c = planes::large_room();
-    loaded(&mut a, &mut b, &mut c, &bytes, at, name, out, fd, head, h);
+    loaded(
+        &mut a,
+        &mut b,
+        &mut c,
+        &bytes,
+        at,
+        &keep,
+        &chromakeep,
+        name,
+        out,
+        fd,
+        head,
+        h,
+    );
 }
 
 // By the picture's size. `heavy` is called twice so that the compiler leaves it a function of its own, whose lists a small picture never touches.
-fn sized(name: &[u8], out: &[u8], y: &[u8], u: &[u8], v: &[u8], fd: i32, head: &[u8], h: Header) {
+fn sized(
+    name: &[u8],
+    out: &[u8],
+    y: &[u8],
+    u: &[u8],
+    v: &[u8],
+    settings: &[u8],
+    fd: i32,
+    head: &[u8],
+    h: Header,
+) {
     if !small(h) {
-        heavy(name, out, y, u, v, fd, head, h);
-    } else if !light(name, out, y, u, v, fd, head, h) {
-        heavy(name, out, y, u, v, fd, head, h);
+        heavy(name, out, y, u, v, settings, fd, head, h);
+    } else if !light(name, out, y, u, v, settings, fd, head, h) {
+        heavy(name, out, y, u, v, settings, fd, head, h);
     }
 }
 
@@ -154,13 +218,13 @@ fn fits(u: &[u8], h: Header) -> bool {
 }
 
 // The picture's header, and then the rest.
-pub fn run(name: &[u8], out: &[u8], y: &[u8], u: &[u8], v: &[u8]) {
+pub fn run(name: &[u8], out: &[u8], y: &[u8], u: &[u8], v: &[u8], settings: &[u8]) {
     let mut head = [0u8; 1024];
     let p = open(name, &mut head);
     let n = p.n;
     let h = p.h;
     if h.opens && fits(u, h) {
-        sized(name, out, y, u, v, p.fd, &head[..n], h);
+        sized(name, out, y, u, v, settings, p.fd, &head[..n], h);
     }
     libc::close(p.fd);
 }

@@ -7,7 +7,7 @@ use streams::say::words;
 use y4m::header::Header;
 
 pub fn usage() {
-    words(b"usage: replay_picture PICTURE OUT Y [U V]\n");
+    words(b"usage: replay_picture PICTURE OUT Y [U V [SETTINGS]]\n");
 }
 
 // How many frames are done, on a terminal.
@@ -32,6 +32,7 @@ fn meaning(r: Refusal, s: Shape) {
         Refusal::Entry(k) => entry(k, b" is outside document 01's ranges"),
         Refusal::Room(k) => entry(k, b" lacks room in the plane"),
         Refusal::Sample(k) => sample(k, s.stride),
+        Refusal::Cell(_) => words(b"a keep mark is neither 0 nor 1"),
         _ => words(b"the plane's depth, size or list is outside its range"),
     }
 }

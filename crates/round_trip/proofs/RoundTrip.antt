@@ -22,7 +22,7 @@ use Rattle.rules.specs.Numbers.{topOf}
 use Rattle.rules.specs.Refusals.{settle}
 use Rattle.rules.specs.Segment.{rangesOk, hasRoom, runEdges}
 use Rattle.rules.specs.Counts.{storedBy, changedBy}
-use Rattle.rules.specs.Plane.{Grid, edgeAt, edgesOf, runPlane, runStored, runChanged, planeSizesOk, overPlane, planeCheck}
+use Rattle.rules.specs.Plane.{Grid, keptBy, edgeAt, edgesOf, runPlane, runStored, runChanged, planeSizesOk, overPlane, planeCheck}
 use Rattle.rules.specs.Record.{recordOf, entryCount}
 use Rattle.rules.specs.Replay.{replaySizesOk, overReplay, replayCheck, replayOf, replayAfter, replayStored, replayChanged}
 use Rattle.scan.proofs.Checks.{else-parts, unless-true, found-nothing}
@@ -31,6 +31,7 @@ use Rattle.segment.specs.Fit.{InPlane}
 use Rattle.plane.specs.Checked.{Checked}
 use Rattle.plane.proofs.Accepting.{checked, lengths}
 use Rattle.plane.proofs.Everywhere.{every-edge}
+use Rattle.plane.proofs.Marked.{marks-good}
 use Rattle.orders.proofs.Once.{Marked, only-marked}
 use Rattle.promises.proofs.Counts.{largest, plane-edges}
 use Rattle.recorded.specs.Stated.{Stated}
@@ -87,23 +88,25 @@ module _ (s : Plane) (steps : List ℕ) (g : Grid) (l : List ℕ) (ok : planeChe
   again-clean =
       found-nothing _ Sample (else-parts _ _ (else-parts _ _ (else-parts _ _ (else-parts _ _ (else-parts _ _ (else-parts _ _ (else-parts _ _ (else-parts _ _ ok .1) .1) .1) .1) .1) .1) .1) .1)
 
-  -- the record is accepted with the plane as it was lent
-  pub again-accepted : replayCheck (againOf s) (recordOf edges) l ≡ Accepted
-  again-accepted = record-accepted (againOf s) edges edges-written l (checks .depth) again-sizes (lengths s g (length l) (checks .lengths) .samples) again-clean
+  -- the record is accepted with the plane and the keep marks as they were lent
+  pub again-accepted : replayCheck (againOf s) (recordOf edges) (g .keep) l ≡ Accepted
+  again-accepted =
+      let long = lengths s g (length l) (checks .lengths) in
+      record-accepted (againOf s) edges edges-written (g .keep) l (checks .depth) again-sizes (long .samples) (long .lists .keep) (marks-good checks) again-clean
 
   -- and gives the plane that the run gave
-  pub again-plane : replayAfter (againOf s) (recordOf edges) l ≡ runPlane s steps g l
+  pub again-plane : replayAfter (againOf s) (recordOf edges) (g .keep) l ≡ runPlane s steps g l
   unfolding replayAfter replayOf runPlane settle
   again-plane =
-      rw again-accepted (ap (λ (es : List Edge). runEdges (topOf (s .depth)) (s .stride) es l) (read-record edges (edges-written .fits)))
+      rw again-accepted (ap (λ (es : List Edge). runEdges (topOf (s .depth)) (s .stride) (keptBy s g) es l) (read-record edges (edges-written .fits)))
 
   -- and the counts
-  pub again-counts : (replayStored (againOf s) (recordOf edges) l ≡ runStored s steps g l) × (replayChanged (againOf s) (recordOf edges) l ≡ runChanged s steps g l)
+  pub again-counts : (replayStored (againOf s) (recordOf edges) (g .keep) l ≡ runStored s steps g l) × (replayChanged (againOf s) (recordOf edges) (g .keep) l ≡ runChanged s steps g l)
   unfolding replayStored replayChanged runStored runChanged settle
   again-counts =
       let read = read-record edges (edges-written .fits) in (
-        rw again-accepted (ap (λ (es : List Edge). storedBy (topOf (s .depth)) (s .stride) es l) read),
-        rw again-accepted (ap (λ (es : List Edge). changedBy (topOf (s .depth)) (s .stride) es l) read),
+        rw again-accepted (ap (λ (es : List Edge). storedBy (topOf (s .depth)) (s .stride) (keptBy s g) es l) read),
+        rw again-accepted (ap (λ (es : List Edge). changedBy (topOf (s .depth)) (s .stride) (keptBy s g) es l) read),
       )
 
   -- its entries are few
@@ -113,10 +116,10 @@ module _ (s : Plane) (steps : List ℕ) (g : Grid) (l : List ℕ) (ok : planeChe
 
 -- ---- the two entries
 
--- whatever ticket 1's entry may answer and leave, n bytes, the plane m and the buffer c, ticket 2's accepts those bytes with the plane as it was lent, leaves m
--- and tells the same counts
+-- whatever ticket 1's entry may answer and leave, n bytes, the plane m and the buffer c, ticket 2's accepts those bytes with the plane and the keep marks as they
+-- were lent, leaves m and tells the same counts; ticket 7: "records of Ticket 2 are run with the same marks"
 module _ (s : Plane) (steps : List ℕ) (g : Grid) (l b : List ℕ) {a : RecordAnswer} {n : ℕ} {m c : List ℕ} (written : Stated s steps g l b a m c) (told : a .«record» ≡ Bytes n)
-    {x : PlaneAnswer} {k : List ℕ} (done : Replayed (againOf s) (take n c) l x k) where
+    {x : PlaneAnswer} {k : List ℕ} (done : Replayed (againOf s) (take n c) (g .keep) l x k) where
   ok : planeCheck s steps g l ≡ Accepted
   ok = plane-passed s steps g l b written told
 
@@ -125,14 +128,14 @@ module _ (s : Plane) (steps : List ℕ) (g : Grid) (l b : List ℕ) {a : RecordA
 
   pub round-trip : (x .answer ≡ Accepted) × (k ≡ m)
   round-trip = (
-    done .answer ∙ ap (λ (r : List ℕ). replayCheck (againOf s) r l) is ∙ again-accepted s steps g l ok,
-    done .plane ∙ ap (λ (r : List ℕ). replayAfter (againOf s) r l) is ∙ again-plane s steps g l ok ∙ sym (plane-ran s steps g l b written told),
+    done .answer ∙ ap (λ (r : List ℕ). replayCheck (againOf s) r (g .keep) l) is ∙ again-accepted s steps g l ok,
+    done .plane ∙ ap (λ (r : List ℕ). replayAfter (againOf s) r (g .keep) l) is ∙ again-plane s steps g l ok ∙ sym (plane-ran s steps g l b written told),
   )
 
   pub counts-trip : (x .stored ≡ a .stored) × (x .changed ≡ a .changed)
   counts-trip =
-      let exact = counts-exact (againOf s) (take n c) l done (rw is (again-few s steps g l ok)) in
+      let exact = counts-exact (againOf s) (take n c) (g .keep) l done (rw is (again-few s steps g l ok)) in
       let run = counts-ran s steps g l b written told in (
-        exact .0 ∙ ap (λ (r : List ℕ). replayStored (againOf s) r l) is ∙ again-counts s steps g l ok .0 ∙ sym (run .0),
-        exact .1 ∙ ap (λ (r : List ℕ). replayChanged (againOf s) r l) is ∙ again-counts s steps g l ok .1 ∙ sym (run .1),
+        exact .0 ∙ ap (λ (r : List ℕ). replayStored (againOf s) r (g .keep) l) is ∙ again-counts s steps g l ok .0 ∙ sym (run .0),
+        exact .1 ∙ ap (λ (r : List ℕ). replayChanged (againOf s) r (g .keep) l) is ∙ again-counts s steps g l ok .1 ∙ sym (run .1),
       )

@@ -8,6 +8,7 @@ use lib.IntN.{ℤ, pos, negℤ}
 use Rattle.laws.specs.Choose.{pick, either, both}
 use Rattle.laws.specs.Loops.{each, turns, filled}
 use Rattle.laws.specs.Stores.{puts}
+use Rattle.laws.specs.Outside.{outside}
 use Rattle.rules.specs.declared.edge.Edge.{Edge}
 use Rattle.rules.specs.declared.settings.TuGrid.{TuGrid}
 use Rattle.rules.specs.declared.settings.Ccso.{Ccso}
@@ -16,7 +17,7 @@ use Rattle.rules.specs.Thresholds.{quantOf, lowered, sideOf, bothOf}
 use Rattle.rules.specs.Lengths.{lengthBefore, lengthAfter, mostBefore, mostAfter, reachOf, reachBefore, reachAfter}
 use Rattle.rules.specs.Width.{bendOf, slopeOf, steepOf, atDistance, failsOf, fromOf, farOf, wideOf, gradeOf, widthOf}
 use Rattle.rules.specs.Taps.{rounded}
-use Rattle.rules.specs.Segment.{placeOf, lineOf, linesOf, windowOf, chosenOf, lineStores, fourStores, storesOf, widthAt, segmentOf}
+use Rattle.rules.specs.Segment.{placeOf, lineOf, linesOf, windowOf, chosenOf, lineStores, fourStores, storesOf, noneKept, widthAt, segmentOf}
 use Rattle.rules.specs.TuGrid.{Marks, marks, flagOf, bareOf, sizeOf, log2Of, wholeOf, tileOf, markOf, storeCell, paintCell, paintRow, paintOf, leafOf, leavesOf, clearOf, txGridOf}
 use Rattle.rules.specs.Ccso.{offsetPlace, offsetSample}
 
@@ -41,7 +42,7 @@ abbrev pub width : ℕ → ℕ → ℕ
 width pair q = widthAt 16 (edge pair q) (flat 100 108)
 
 abbrev pub result : ℕ → ℕ → ℕ → ℕ → List ℕ
-result pair q a b = segmentOf 255 16 (edge pair q) (flat a b)
+result pair q a b = segmentOf 255 16 noneKept (edge pair q) (flat a b)
 
 -- one row of sixteen cells, cap 8, and what the leaf 0,0,w,16 leaves in it
 abbrev pub cells : TuGrid
@@ -91,7 +92,7 @@ pub record Figures : Type 0 where
   pub offset : offsetSample bands 5 (negℤ (pos 10)) ≡ 0
 
 pub figures : Figures
-unfolding pick either both each turns filled puts topOf offsetOf shiftOf down quantOf lowered sideOf bothOf lengthBefore lengthAfter mostBefore mostAfter reachOf reachBefore reachAfter bendOf slopeOf steepOf atDistance failsOf fromOf farOf wideOf gradeOf widthOf placeOf lineOf linesOf windowOf
+unfolding pick either both each turns filled puts outside topOf offsetOf shiftOf down quantOf lowered sideOf bothOf lengthBefore lengthAfter mostBefore mostAfter reachOf reachBefore reachAfter bendOf slopeOf steepOf atDistance failsOf fromOf farOf wideOf gradeOf widthOf placeOf lineOf linesOf windowOf
     chosenOf lineStores fourStores storesOf widthAt segmentOf flagOf bareOf sizeOf log2Of wholeOf tileOf markOf storeCell paintCell paintRow paintOf leafOf leavesOf clearOf txGridOf offsetPlace offsetSample
 figures = record {
   steps = refl;

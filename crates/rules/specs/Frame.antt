@@ -12,17 +12,17 @@ use Rattle.rules.specs.declared.settings.TuGrid.{TuGrid}
 use Rattle.rules.specs.declared.settings.QindexGrid.{QindexGrid}
 use Rattle.rules.specs.declared.lent.GridLengths.{GridLengths}
 use Rattle.rules.specs.declared.lent.FrameLengths.{FrameLengths}
-use Rattle.rules.specs.declared.refusals.Refusal.the-variants.{Depth, Size, Length, Steps, Setting, Room, Sample, Leaf}
+use Rattle.rules.specs.declared.refusals.Refusal.the-variants.{Depth, Size, Length, Steps, Setting, Cell, Room, Sample, Leaf}
 use Rattle.rules.specs.declared.refusals.Answer.{Answer}
 use Rattle.rules.specs.declared.refusals.Answer.the-variants.{Accepted, Refused}
 use Rattle.rules.specs.Numbers.{depthOk, inRange, subsamplingOk, deltaOk, down}
 use Rattle.rules.specs.Refusals.{orElse, unless, found, onlyIf, settle}
 use Rattle.rules.specs.Thresholds.{stepsCheck}
-use Rattle.rules.specs.Plane.{Grid, tiled, tilesCheck, runPlane, runStored, runChanged, noRoom, overPlane}
+use Rattle.rules.specs.Plane.{Grid, keeping, tilesCheck, badKeep, runPlane, runStored, runChanged, noRoom, overPlane}
 use Rattle.rules.specs.TuGrid.{Marks, marks, txGridOf, capOk, foursOk, badLeaf}
 use Rattle.rules.specs.QindexGrid.{qGridOf}
 
--- ---- the lent lists: three planes and two grids are written, but for a grid's tile starts; these and five lists more are only read
+-- ---- the lent lists: three planes and two grids are written, but for a grid's tile starts and keep marks; these and five lists more are only read
 
 pub record Planes : Type 0 where
   pub y : List ℕ
@@ -64,6 +64,7 @@ gridLengths g = record {
   sqw = length (g .sqw);
   sqh = length (g .sqh);
   qindex = length (g .qindex);
+  keep = length (g .keep);
 }
 
 abbrev pub lengthsOf : Given → Lent → FrameLengths
@@ -141,14 +142,14 @@ chromaQ f = record { cols = chromaPlane f .cols; rows = chromaPlane f .rows; ssx
 unfoldable pub chromaOn : Frame → Bool
 chromaOn f = both (f .haschroma) (f .chromadeblock)
 
--- ---- the grids that are built: marks and indices from the leaves, qindex from the superblocks, tile starts as lent
+-- ---- the grids that are built: marks and indices from the leaves, qindex from the superblocks, tile starts and keep marks as lent
 
-abbrev pub withQ : Marks → List ℕ → List ℕ → Grid
-withQ m q ts = tiled (m .vedge) (m .hedge) (m .sqw) (m .sqh) q ts
+abbrev pub withQ : Marks → List ℕ → List ℕ → List ℕ → Grid
+withQ m q ts ks = keeping (m .vedge) (m .hedge) (m .sqw) (m .sqh) q ts ks
 
 unfoldable pub builtGrid : TuGrid → QindexGrid → List ℕ → List ℕ → List ℕ → Grid → Grid
 builtGrid tu q leaves skips sbq g =
-    withQ (txGridOf tu leaves skips (marks (g .vedge) (g .hedge) (g .sqw) (g .sqh))) (qGridOf q sbq (g .qindex)) (g .tiles)
+    withQ (txGridOf tu leaves skips (marks (g .vedge) (g .hedge) (g .sqw) (g .sqh))) (qGridOf q sbq (g .qindex)) (g .tiles) (g .keep)
 
 unfoldable pub builtGrids : Frame → Given → Grids → Grids
 builtGrids f n g =
@@ -179,6 +180,7 @@ gridLong s g =
     ∷ leb (s .rows * s .cols) (g .sqw)
     ∷ leb (s .rows * s .cols) (g .sqh)
     ∷ leb (s .rows * s .cols) (g .qindex)
+    ∷ leb (s .rows * s .cols) (g .keep)
     ∷ [])
 
 unfoldable pub lumaLong : Frame → FrameLengths → Bool
@@ -234,9 +236,16 @@ frameLeaves n =
 unfoldable pub frameGiven : Frame → List ℕ → List ℕ → Given → Answer
 frameGiven f luma chroma n = orElse (stepsCheck (n .steps)) (orElse (frameSettings f) (orElse (frameTiles f luma chroma) (frameLeaves n)))
 
--- order 1, 2, 3, 4, 5, 9
-unfoldable pub frameEarly : Frame → FrameLengths → List ℕ → List ℕ → Given → Answer
-frameEarly f k luma chroma n = orElse (frameShape f k) (frameGiven f luma chroma n)
+-- ticket 7: "a frame tests its lent marks before it builds", luma's, then chroma's where it is filtered; "Refusal: 6 also for a keep mark other than 0 or 1"
+unfoldable pub frameKeep : Frame → List ℕ → List ℕ → Answer
+frameKeep f luma chroma =
+    orElse (found (badKeep (lumaPlane f .rows * lumaPlane f .cols) luma) Cell)
+    (onlyIf (chromaOn f) (found (badKeep (chromaPlane f .rows * chromaPlane f .cols) chroma) Cell))
+
+-- order 1, 2, 3, 4, 5, 9, 6, with both lists of tile starts and both of keep marks
+unfoldable pub frameEarly : Frame → FrameLengths → List ℕ → List ℕ → List ℕ → List ℕ → Given → Answer
+frameEarly f k luma chroma keep chromaKeep n =
+    orElse (frameShape f k) (orElse (frameGiven f luma chroma n) (frameKeep f keep chromaKeep))
 
 -- ---- the checks of the built grids and the planes, 7 and then 8
 
@@ -296,7 +305,7 @@ orDone Accepted l d = d
 
 unfoldable pub frameOf : Frame → Given → Lent → Done
 frameOf f n l =
-    orDone (frameEarly f (lengthsOf n l) (l .grids .luma .tiles) (l .grids .chroma .tiles) n) l
+    orDone (frameEarly f (lengthsOf n l) (l .grids .luma .tiles) (l .grids .chroma .tiles) (l .grids .luma .keep) (l .grids .chroma .keep) n) l
     (frameBuilt f (n .steps) (builtGrids f n (l .grids)) (l .planes))
 
 -- ticket 4: stored and changed samples; "A refusal reports zero for both."

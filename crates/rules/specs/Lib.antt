@@ -14,6 +14,7 @@ pub mod Record
 pub mod Replay
 pub mod TuGrid
 pub mod QindexGrid
+pub mod Keep
 pub mod Frame
 pub mod Ccso
 pub mod CSide

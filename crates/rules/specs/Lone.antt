@@ -17,7 +17,7 @@ use Rattle.rules.specs.declared.refusals.Found.{Found}
 use Rattle.rules.specs.Numbers.{depthOk, topOf, inRange}
 use Rattle.rules.specs.Refusals.{orElse, unless, found, settle, overBox}
 use Rattle.rules.specs.Lengths.{reachBefore, reachAfter}
-use Rattle.rules.specs.Segment.{rangesOk, hasRoom, widthAt, segmentOf}
+use Rattle.rules.specs.Segment.{rangesOk, hasRoom, noneKept, widthAt, segmentOf}
 use Rattle.rules.specs.Counts.{storedAt, changedAt}
 
 unfoldable pub edgeOf : Lone → Edge
@@ -48,9 +48,9 @@ loneCheck s l =
     (orElse (unless (hasRoom (s .columns) (s .rows) (edgeOf s)) (Room 0))
     (found (overEdge (topOf (s .depth)) (s .stride) (edgeOf s) l) Sample)))))
 
--- the plane afterwards
+-- the plane afterwards; a lone segment takes no marks, so that ticket 7 leaves it as it was
 unfoldable pub lonePlane : Lone → List ℕ → List ℕ
-lonePlane s l = settle (loneCheck s l) l (segmentOf (topOf (s .depth)) (s .stride) (edgeOf s) l)
+lonePlane s l = settle (loneCheck s l) l (segmentOf (topOf (s .depth)) (s .stride) noneKept (edgeOf s) l)
 
 -- "Answer: the width, or the refusal."
 unfoldable pub answerWidth : Answer → ℕ → Width
@@ -62,7 +62,7 @@ loneWidth s l = answerWidth (loneCheck s l) (widthAt (s .stride) (edgeOf s) l)
 
 -- document 02, ticket 4: stored and changed samples; "A refusal reports zero for both."
 unfoldable pub loneStored : Lone → List ℕ → ℕ
-loneStored s l = settle (loneCheck s l) 0 (storedAt (topOf (s .depth)) (s .stride) (edgeOf s) l)
+loneStored s l = settle (loneCheck s l) 0 (storedAt (topOf (s .depth)) (s .stride) noneKept (edgeOf s) l)
 
 unfoldable pub loneChanged : Lone → List ℕ → ℕ
-loneChanged s l = settle (loneCheck s l) 0 (changedAt (topOf (s .depth)) (s .stride) (edgeOf s) l)
+loneChanged s l = settle (loneCheck s l) 0 (changedAt (topOf (s .depth)) (s .stride) noneKept (edgeOf s) l)

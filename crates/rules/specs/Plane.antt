@@ -14,14 +14,14 @@ use Rattle.rules.specs.declared.refusals.Refusal.the-variants.{Depth, Si
 use Rattle.rules.specs.declared.refusals.Answer.{Answer}
 use Rattle.rules.specs.declared.refusals.Found.{Found}
 use Rattle.rules.specs.Numbers.{depthOk, topOf, inRange}
-use Rattle.rules.specs.Refusals.{orElse, unless, found, settle, sooner, first, foundIf, foundUnless, overBox}
+use Rattle.rules.specs.Refusals.{orElse, unless, found, settle, sooner, first, foundIf, foundUnless, over, overBox}
 use Rattle.rules.specs.Thresholds.{qThreshold, sideThreshold, stepsCheck, deltasCheck}
 use Rattle.rules.specs.Lengths.{pairOf}
-use Rattle.rules.specs.Segment.{hasRoom, runEdges}
+use Rattle.rules.specs.Segment.{hasRoom, keptIn, runEdges}
 use Rattle.rules.specs.Counts.{storedBy, changedBy}
 
 -- what is known of the cells: two marks, two size indices and the qindex of each;
--- document 02, ticket 5: "a list of tile-start columns in cells"
+-- document 02, ticket 5: "a list of tile-start columns in cells"; ticket 7: "Each grid cell gets a third mark, keep"
 pub record Grid : Type 0 where
   pub vedge : List ℕ
   pub hedge : List ℕ
@@ -29,9 +29,14 @@ pub record Grid : Type 0 where
   pub sqh : List ℕ
   pub qindex : List ℕ
   pub tiles : List ℕ
+  pub keep : List ℕ
 
+abbrev pub keeping : List ℕ → List ℕ → List ℕ → List ℕ → List ℕ → List ℕ → List ℕ → Grid
+keeping v h w t q ts ks = record { vedge = v; hedge = h; sqw = w; sqh = t; qindex = q; tiles = ts; keep = ks }
+
+-- no keep marks
 abbrev pub tiled : List ℕ → List ℕ → List ℕ → List ℕ → List ℕ → List ℕ → Grid
-tiled v h w t q ts = record { vedge = v; hedge = h; sqw = w; sqh = t; qindex = q; tiles = ts }
+tiled v h w t q ts = keeping v h w t q ts []
 
 -- one tile
 abbrev pub grid : List ℕ → List ℕ → List ℕ → List ℕ → List ℕ → Grid
@@ -124,15 +129,19 @@ turnOf s steps g sb = columnOf s steps g 0 sb ++ pick (eqb sb 0) [] (columnOf s 
 unfoldable pub edgesOf : Plane → List ℕ → Grid → List Edge
 edgesOf s steps g = each (sbCols s) (λ sb. turnOf s steps g sb) ++ columnOf s steps g 1 (sbCols s - 1)
 
+-- a plane's kept samples, by its keep marks
+abbrev pub keptBy : Plane → Grid → ℕ → Bool
+keptBy s g = keptIn (s .cols) (s .stride) (g .keep)
+
 unfoldable pub runPlane : Plane → List ℕ → Grid → List ℕ → List ℕ
-runPlane s steps g l = runEdges (topOf (s .depth)) (s .stride) (edgesOf s steps g) l
+runPlane s steps g l = runEdges (topOf (s .depth)) (s .stride) (keptBy s g) (edgesOf s steps g) l
 
 -- document 02, ticket 4: "segment, plane and frame pass sums on", of a plane that runs
 unfoldable pub runStored : Plane → List ℕ → Grid → List ℕ → ℕ
-runStored s steps g l = storedBy (topOf (s .depth)) (s .stride) (edgesOf s steps g) l
+runStored s steps g l = storedBy (topOf (s .depth)) (s .stride) (keptBy s g) (edgesOf s steps g) l
 
 unfoldable pub runChanged : Plane → List ℕ → Grid → List ℕ → ℕ
-runChanged s steps g l = changedBy (topOf (s .depth)) (s .stride) (edgesOf s steps g) l
+runChanged s steps g l = changedBy (topOf (s .depth)) (s .stride) (keptBy s g) (edgesOf s steps g) l
 
 -- ---- the checks
 
@@ -160,6 +169,7 @@ planeLengthsOk s g n =
     ∷ leb (s .rows * s .cols) (length (g .sqw))
     ∷ leb (s .rows * s .cols) (length (g .sqh))
     ∷ leb (s .rows * s .cols) (length (g .qindex))
+    ∷ leb (s .rows * s .cols) (length (g .keep))
     ∷ [])
 
 -- ticket 5: "strictly rising, each above 0 and below mi_cols"
@@ -173,13 +183,24 @@ badStart cols ts = first (length ts) (λ k. foundUnless (startGood cols ts k) k)
 unfoldable pub tilesCheck : ℕ → List ℕ → Answer
 tilesCheck cols ts = found (badStart cols ts) (λ k. Setting)
 
--- "Grid cells: two marks (0 or 1) and two size indices 0..6."
+-- "Grid cells: two marks (0 or 1) and two size indices 0..6."; ticket 7: "Refusal: 6 also for a keep mark other than 0 or 1"
 unfoldable pub cellGood : Grid → ℕ → Bool
-cellGood g k = all (leb (getD (g .vedge) k 0) 1 ∷ leb (getD (g .hedge) k 0) 1 ∷ leb (getD (g .sqw) k 0) 6 ∷ leb (getD (g .sqh) k 0) 6 ∷ [])
+cellGood g k =
+    all
+    (leb (getD (g .vedge) k 0) 1
+    ∷ leb (getD (g .hedge) k 0) 1
+    ∷ leb (getD (g .sqw) k 0) 6
+    ∷ leb (getD (g .sqh) k 0) 6
+    ∷ leb (getD (g .keep) k 0) 1
+    ∷ [])
 
 -- "6: first cell, row by row"
 unfoldable pub badCell : Plane → Grid → Found
 badCell s g = first (s .rows * s .cols) (λ k. foundUnless (cellGood g k) k)
+
+-- the same of keep marks alone, where an entry has no others: the first of n cells
+unfoldable pub badKeep : ℕ → List ℕ → Found
+badKeep n keep = first n (λ k. over 1 keep k)
 
 -- "7: an edge lacks room": its pair alone decides, whatever its thresholds
 unfoldable pub edgeRoom : Plane → Grid → ℕ → ℕ → ℕ → Bool

@@ -1,21 +1,22 @@
--- Ticket 2, "Run a record again": the checks of a record and its plane in their order 1, 2, 3, 11, 12, 13, 7, 8, and the plane afterwards.
+-- Ticket 2, "Run a record again": the checks of a record and its plane in their order 1, 2, 3, 11, 12, 13, 6, 7, 8, and the plane afterwards.
 -- Assumes nothing.
 use mathlib.Core.Bool.{Bool}
 use mathlib.Core.List.{List, [], _∷_}
 use Prim.Native.Nat.{ℕ, _-_, _*_, _%_}
 use lib.Dec.{eqb, leb}
 use lib.ListN.{getD, length}
-use Rattle.laws.specs.Choose.{all}
+use Rattle.laws.specs.Choose.{both, all}
 use Rattle.low_first.specs.Bytes.{numberIn}
 use Rattle.rules.specs.declared.edge.Edge.{Edge}
 use Rattle.rules.specs.declared.settings.Replay.{Replay}
-use Rattle.rules.specs.declared.refusals.Refusal.the-variants.{Depth, Size, Length, Header, Cut, Entry, Room, Sample}
+use Rattle.rules.specs.declared.refusals.Refusal.the-variants.{Depth, Size, Length, Header, Cut, Entry, Cell, Room, Sample}
 use Rattle.rules.specs.declared.refusals.Answer.{Answer}
 use Rattle.rules.specs.declared.refusals.Found.{Found}
 use Rattle.rules.specs.Numbers.{depthOk, topOf, inRange}
 use Rattle.rules.specs.Refusals.{orElse, unless, found, settle, first, foundUnless, overBox}
-use Rattle.rules.specs.Segment.{rangesOk, hasRoom, runEdges}
+use Rattle.rules.specs.Segment.{rangesOk, hasRoom, keptIn, runEdges}
 use Rattle.rules.specs.Counts.{storedBy, changedBy}
+use Rattle.rules.specs.Plane.{badKeep}
 use Rattle.rules.specs.Record.{edgeIn, entryAt, entryCount, edgesIn}
 
 -- ---- the checks
@@ -62,29 +63,34 @@ recordCheck bytes =
     (orElse (found (cutEntry bytes) Cut)
     (found (badEntry bytes) Entry))
 
--- "in this order after 5", of which 1, 2 and 3 have an input here
-unfoldable pub replayCheck : Replay → List ℕ → List ℕ → Answer
-replayCheck s bytes l =
+-- ticket 7: "records of Ticket 2 are run with the same marks", so that their list is long enough and each mark is 0 or 1
+unfoldable pub replayLong : Replay → ℕ → ℕ → Bool
+replayLong s k n = both (leb (4 * s .rows * s .stride) n) (leb (s .rows * s .cols) k)
+
+-- "in this order after 5", of which 1, 2 and 3 have an input here; then 6 by the keep marks, 7 and 8
+unfoldable pub replayCheck : Replay → List ℕ → List ℕ → List ℕ → Answer
+replayCheck s bytes keep l =
     orElse (unless (depthOk (s .depth)) Depth)
     (orElse (unless (replaySizesOk s) Size)
-    (orElse (unless (leb (4 * s .rows * s .stride) (length l)) Length)
+    (orElse (unless (replayLong s (length keep) (length l)) Length)
     (orElse (recordCheck bytes)
+    (orElse (found (badKeep (s .rows * s .cols) keep) Cell)
     (orElse (found (noRoomIn s bytes) Room)
-    (found (overReplay s l) Sample)))))
+    (found (overReplay s l) Sample))))))
 
 -- ---- the run
 
 -- "Read the record, run its edges in order, and hand back the plane."; "also one with an edge twice: the segments are applied one after the other"
-unfoldable pub replayOf : Replay → List ℕ → List ℕ → List ℕ
-replayOf s bytes l = runEdges (topOf (s .depth)) (s .stride) (edgesIn bytes) l
+unfoldable pub replayOf : Replay → List ℕ → List ℕ → List ℕ → List ℕ
+replayOf s bytes keep l = runEdges (topOf (s .depth)) (s .stride) (keptIn (s .cols) (s .stride) keep) (edgesIn bytes) l
 
 -- "Refusals, all before writing"
-unfoldable pub replayAfter : Replay → List ℕ → List ℕ → List ℕ
-replayAfter s bytes l = settle (replayCheck s bytes l) l (replayOf s bytes l)
+unfoldable pub replayAfter : Replay → List ℕ → List ℕ → List ℕ → List ℕ
+replayAfter s bytes keep l = settle (replayCheck s bytes keep l) l (replayOf s bytes keep l)
 
 -- ticket 4: stored and changed samples; "A refusal reports zero for both."
-unfoldable pub replayStored : Replay → List ℕ → List ℕ → ℕ
-replayStored s bytes l = settle (replayCheck s bytes l) 0 (storedBy (topOf (s .depth)) (s .stride) (edgesIn bytes) l)
+unfoldable pub replayStored : Replay → List ℕ → List ℕ → List ℕ → ℕ
+replayStored s bytes keep l = settle (replayCheck s bytes keep l) 0 (storedBy (topOf (s .depth)) (s .stride) (keptIn (s .cols) (s .stride) keep) (edgesIn bytes) l)
 
-unfoldable pub replayChanged : Replay → List ℕ → List ℕ → ℕ
-replayChanged s bytes l = settle (replayCheck s bytes l) 0 (changedBy (topOf (s .depth)) (s .stride) (edgesIn bytes) l)
+unfoldable pub replayChanged : Replay → List ℕ → List ℕ → List ℕ → ℕ
+replayChanged s bytes keep l = settle (replayCheck s bytes keep l) 0 (changedBy (topOf (s .depth)) (s .stride) (keptIn (s .cols) (s .stride) keep) (edgesIn bytes) l)

@@ -1,4 +1,4 @@
--- Document 01, "TU grid": marks and size indices of a plane's cells from the leaves of a frame.
+-- Document 01, "TU grid": marks and size indices of a plane's cells from the leaves of a frame; ticket 7: keep marks cleared where the grid is built alone.
 -- Assumes nothing.
 use mathlib.Core.Bool.{Bool, true, false}
 use mathlib.Core.List.{List, [], _∷_}
@@ -128,18 +128,29 @@ leafGoodAt skip ls k = leafGood skip (getD ls (k * 4) 0) (getD ls (k * 4 + 1) 0)
 unfoldable pub badLeaf : Bool → List ℕ → Found
 badLeaf skip ls = first (length ls / 4) (λ k. foundUnless (leafGoodAt skip ls k) k)
 
-unfoldable pub marksLong : ℕ → Marks → Bool
-marksLong n g =
-    all (leb n (length (g .vedge)) ∷ leb n (length (g .hedge)) ∷ leb n (length (g .sqw)) ∷ leb n (length (g .sqh)) ∷ [])
+-- "Each list has at least mi_cols·mi_rows entries." Ticket 7: "Each grid cell gets a third mark, keep", so its list too
+unfoldable pub listsLong : ℕ → Marks → List ℕ → Bool
+listsLong n g keep =
+    all
+    (leb n (length (g .vedge))
+    ∷ leb n (length (g .hedge))
+    ∷ leb n (length (g .sqw))
+    ∷ leb n (length (g .sqh))
+    ∷ leb n (length keep)
+    ∷ [])
 
-unfoldable pub txGridCheck : TuGrid → List ℕ → List ℕ → Marks → Answer
-txGridCheck s leaves skips g =
+unfoldable pub txGridCheck : TuGrid → List ℕ → List ℕ → Marks → List ℕ → Answer
+txGridCheck s leaves skips g keep =
     orElse (unless (both (cellsOk (s .cols) (s .rows)) (subsamplingOk (s .ssx) (s .ssy))) Size)
-    (orElse (unless (all (marksLong (s .rows * s .cols) g ∷ foursOk (length leaves) ∷ foursOk (length skips) ∷ [])) Length)
+    (orElse (unless (all (listsLong (s .rows * s .cols) g keep ∷ foursOk (length leaves) ∷ foursOk (length skips) ∷ [])) Length)
     (orElse (unless (both (capOk (s .capw)) (capOk (s .caph))) Setting)
     (orElse (found (badLeaf false leaves) Leaf)
     (found (badLeaf true skips) Leaf))))
 
--- the lists afterwards
-unfoldable pub txGridAfter : TuGrid → List ℕ → List ℕ → Marks → Marks
-txGridAfter s leaves skips g = settle (txGridCheck s leaves skips g) g (txGridOf s leaves skips g)
+-- the four lists afterwards
+unfoldable pub txGridAfter : TuGrid → List ℕ → List ℕ → Marks → List ℕ → Marks
+txGridAfter s leaves skips g keep = settle (txGridCheck s leaves skips g keep) g (txGridOf s leaves skips g)
+
+-- Ticket 7, "The TU grid alone clears the mark": the keep marks afterwards, 0 over mi_cols·mi_rows whatever they were; what lies beyond is kept
+unfoldable pub clearedAfter : TuGrid → List ℕ → List ℕ → Marks → List ℕ → List ℕ
+clearedAfter s leaves skips g keep = settle (txGridCheck s leaves skips g keep) keep (clearOf (s .rows * s .cols) keep)

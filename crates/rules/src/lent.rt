@@ -1,12 +1,13 @@
 // How long the lists are that a frame is lent.
 
-// The five lists of a grid: two marks, two size indices and the qindex of each cell.
+// The six lists of a grid that have an entry for each cell: two marks, two size indices, the qindex and the keep mark.
 pub struct GridLengths {
     pub vedge: usize,
     pub hedge: usize,
     pub sqw: usize,
     pub sqh: usize,
     pub qindex: usize,
+    pub keep: usize,
 }
 
 // The planes, both grids, the superblocks' qindex entries and the leaf lists.

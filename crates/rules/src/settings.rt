@@ -66,6 +66,16 @@ pub struct QindexGrid {
     pub sbcols: usize,
 }
 
+// A rectangle of cells to be kept: the plane's cells each way, and the rectangle's first row and column and its rows and columns.
+pub struct Keep {
+    pub cols: usize,
+    pub rows: usize,
+    pub row: usize,
+    pub col: usize,
+    pub h: usize,
+    pub w: usize,
+}
+
 // A whole frame: the luma size, subsampling, strides, depth, deltas and caps.
 pub struct Frame {
     pub width: usize,

@@ -44,6 +44,8 @@ fn compare(
     skips: &[u16],
     tiles: &[u16],
     chromatiles: &[u16],
+    keep: &[u8],
+    chromakeep: &[u8],
     y: &mut [u16],
     u: &mut [u16],
     v: &mut [u16],
@@ -79,6 +81,8 @@ fn compare(
         skips,
         tiles,
         chromatiles,
+        keep,
+        chromakeep,
         f,
         false,
     );
@@ -115,7 +119,77 @@ fn counted(before: Tally, told: Told, same: bool) -> Tally {
     tally::case(before, told.number, same)
 }
 
-// With chroma's grid, the tile starts and the answer.
+// With the tile starts, the keep marks and the answer.
+fn with_starts(
+    text: &[u8],
+    lent: Cursor,
+    at: Cursor,
+    f: Frame,
+    steps: &[u32],
+    sbq: &[u16],
+    leaves: &[u16],
+    chromaleaves: &[u16],
+    skips: &[u16],
+    y: &mut [u16],
+    u: &mut [u16],
+    v: &mut [u16],
+    lv: &mut [u8],
+    lh: &mut [u8],
+    lw: &mut [u8],
+    lt: &mut [u8],
+    lq: &mut [u16],
+    cv: &mut [u8],
+    ch: &mut [u8],
+    cw: &mut [u8],
+    ct: &mut [u8],
+    cq: &mut [u16],
+    t: Tally,
+) -> Tally {
+    let mut tiles = [0u16; 2048];
+    let mut chromatiles = [0u16; 2048];
+    let mut keep = [0u8; 16384];
+    let mut chromakeep = [0u8; 16384];
+    let l = cases::read_u16s(text, at, &mut tiles);
+    let m = cases::read_u16s(text, l.rest, &mut chromatiles);
+    let k = cases::read_u8s(text, m.rest, &mut keep);
+    let n = cases::read_u8s(text, k.rest, &mut chromakeep);
+    let told = cases::read_counted(text, n.rest);
+    let starts = l.length;
+    let chromastarts = m.length;
+    let marks = k.length;
+    let chromamarks = n.length;
+    let same = compare(
+        text,
+        lent,
+        told,
+        f,
+        steps,
+        sbq,
+        leaves,
+        chromaleaves,
+        skips,
+        &tiles[..starts],
+        &chromatiles[..chromastarts],
+        &keep[..marks],
+        &chromakeep[..chromamarks],
+        y,
+        u,
+        v,
+        lv,
+        lh,
+        lw,
+        lt,
+        lq,
+        cv,
+        ch,
+        cw,
+        ct,
+        cq,
+    );
+    counted(t, told, same)
+}
+
+// With chroma's grid.
 fn with_chroma(
     text: &[u8],
     lent: Cursor,
@@ -141,31 +215,22 @@ fn with_chroma(
     let mut cw = [0u8; 16384];
     let mut ct = [0u8; 16384];
     let mut cq = [0u16; 16384];
-    let mut tiles = [0u16; 2048];
-    let mut chromatiles = [0u16; 2048];
     let n = read::grid(text, at, &mut cv, &mut ch, &mut cw, &mut ct, &mut cq);
-    let l = cases::read_u16s(text, n.rest, &mut tiles);
-    let m = cases::read_u16s(text, l.rest, &mut chromatiles);
-    let told = cases::read_counted(text, m.rest);
     let ncv = n.vedge;
     let nch = n.hedge;
     let ncw = n.sqw;
     let nct = n.sqh;
     let ncq = n.qindex;
-    let starts = l.length;
-    let chromastarts = m.length;
-    let same = compare(
+    with_starts(
         text,
         lent,
-        told,
+        n.rest,
         f,
         steps,
         sbq,
         leaves,
         chromaleaves,
         skips,
-        &tiles[..starts],
-        &chromatiles[..chromastarts],
         y,
         u,
         v,
@@ -179,8 +244,8 @@ fn with_chroma(
         &mut cw[..ncw],
         &mut ct[..nct],
         &mut cq[..ncq],
-    );
-    counted(t, told, same)
+        t,
+    )
 }
 
 // With luma's grid.

@@ -1,9 +1,11 @@
-// Replays a stream of grid cases and prints one line: how many there were, how they came out, and how many differ.
+// Replays a stream of grids and of keep marks over rectangles, and prints one line: how many there were, how they came out, and how many differ.
 
 // one TU grid of the stream
 mod tx;
 // one qindex grid of the stream
 mod levels;
+// keep marks over a rectangle
+mod kept;
 
 use cases::Cursor;
 use tally::Tally;
@@ -13,14 +15,15 @@ fn room() -> [u8; 1048576] {
     [0; 1048576]
 }
 
-// A line of either kind.
+// A line: 1 is a TU grid, 2 a qindex grid, 3 keep marks over a rectangle.
 fn replay(text: &[u8], c: Cursor, t: Tally) -> Tally {
-    let kind = cases::read_unsigned(text, c, 2);
+    let kind = cases::read_unsigned(text, c, 3);
     let rest = kind.rest;
     let number = kind.value;
     match number {
         1 => tx::replay(text, rest, t),
         2 => levels::replay(text, rest, t),
+        3 => kept::replay(text, rest, t),
         _ => tally::unread(t),
     }
 }

@@ -68,7 +68,7 @@ struct Matched {
     rest: Cursor,
 }
 
-// The four lists.
+// The five lists.
 fn held(
     text: &[u8],
     c: Cursor,
@@ -77,14 +77,16 @@ fn held(
     hedge: &[u8],
     sqw: &[u8],
     sqh: &[u8],
+    keep: &[u8],
 ) -> Matched {
     let v = cases::hold_u8s(text, entries(text, c, counted), vedge);
     let h = cases::hold_u8s(text, entries(text, v.rest, counted), hedge);
     let w = cases::hold_u8s(text, entries(text, h.rest, counted), sqw);
     let t = cases::hold_u8s(text, entries(text, w.rest, counted), sqh);
-    let rest = t.rest;
+    let k = cases::hold_u8s(text, entries(text, t.rest, counted), keep);
+    let rest = k.rest;
     Matched {
-        same: v.same && h.same && w.same && t.same,
+        same: v.same && h.same && w.same && t.same && k.same,
         rest,
     }
 }
@@ -101,21 +103,60 @@ fn compare(
     hedge: &mut [u8],
     sqw: &mut [u8],
     sqh: &mut [u8],
+    keep: &mut [u8],
 ) -> bool {
-    let answer = build_tx_grid(leaves, skips, vedge, hedge, sqw, sqh, s);
+    let answer = build_tx_grid(leaves, skips, vedge, hedge, sqw, sqh, keep, s);
     let number = told.number;
     if !tally::same(answer, number, told.place) {
         return false;
     }
     if number == 0 {
-        let new = held(text, told.rest, false, vedge, hedge, sqw, sqh);
+        let new = held(text, told.rest, false, vedge, hedge, sqw, sqh, keep);
         return new.same && cases::ended(new.rest);
     }
-    let old = held(text, lent, true, vedge, hedge, sqw, sqh);
+    let old = held(text, lent, true, vedge, hedge, sqw, sqh, keep);
     old.same && cases::ended(told.rest)
 }
 
-// The lists after the leaves, and the answer.
+// The keep marks and the answer.
+fn with_keep(
+    text: &[u8],
+    lent: Cursor,
+    at: Cursor,
+    s: TuGrid,
+    leaves: &[u16],
+    skips: &[u16],
+    vedge: &mut [u8],
+    hedge: &mut [u8],
+    sqw: &mut [u8],
+    sqh: &mut [u8],
+    t: Tally,
+) -> Tally {
+    let mut keep = [0u8; 16384];
+    let k = cases::read_u8s(text, at, &mut keep);
+    let told = cases::read_told(text, k.rest);
+    let rest = told.rest;
+    if !rest.good {
+        return tally::unread(t);
+    }
+    let n = k.length;
+    let same = compare(
+        text,
+        lent,
+        told,
+        s,
+        leaves,
+        skips,
+        vedge,
+        hedge,
+        sqw,
+        sqh,
+        &mut keep[..n],
+    );
+    tally::case(t, told.number, same)
+}
+
+// The lists after the leaves.
 fn replay_lists(
     text: &[u8],
     lent: Cursor,
@@ -130,19 +171,14 @@ fn replay_lists(
     let mut sqh = [0u8; 16384];
     let marks = cases::read_two(text, lent, &mut vedge, &mut hedge);
     let indices = cases::read_two(text, marks.rest, &mut sqw, &mut sqh);
-    let told = cases::read_told(text, indices.rest);
-    let rest = told.rest;
-    if !rest.good {
-        return tally::unread(t);
-    }
     let v = marks.a;
     let h = marks.b;
     let w = indices.a;
     let n = indices.b;
-    let same = compare(
+    with_keep(
         text,
         lent,
-        told,
+        indices.rest,
         s,
         leaves,
         skips,
@@ -150,8 +186,8 @@ fn replay_lists(
         &mut hedge[..h],
         &mut sqw[..w],
         &mut sqh[..n],
-    );
-    tally::case(t, told.number, same)
+        t,
+    )
 }
 
 // A line after its kind.

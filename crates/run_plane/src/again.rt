@@ -35,19 +35,22 @@ fn compare(
     told: Told,
     s: Replay,
     record: &[u8],
+    keep: &[u8],
     plane: &mut [u16],
 ) -> bool {
-    let answer = replay_plane(plane, record, s);
+    let answer = replay_plane(plane, record, keep, s);
     crate::case::same(answer, told) && crate::case::held(text, lent, told, plane)
 }
 
 // A line after its kind.
 pub fn replay(text: &[u8], c: Cursor, t: Tally) -> Tally {
     let mut record = [0u8; 65536];
+    let mut keep = [0u8; 16384];
     let mut plane = [0u16; 131072];
     let asked = settings(text, c);
     let r = cases::read_u8s(text, asked.rest, &mut record);
-    let lent = r.rest;
+    let k = cases::read_u8s(text, r.rest, &mut keep);
+    let lent = k.rest;
     let p = cases::read_u16s(text, lent, &mut plane);
     let told = cases::read_counted(text, p.rest);
     let rest = told.rest;
@@ -55,6 +58,7 @@ pub fn replay(text: &[u8], c: Cursor, t: Tally) -> Tally {
         return tally::unread(t);
     }
     let bytes = r.length;
+    let marks = k.length;
     let samples = p.length;
     let same = compare(
         text,
@@ -62,6 +66,7 @@ pub fn replay(text: &[u8], c: Cursor, t: Tally) -> Tally {
         told,
         asked.s,
         &record[..bytes],
+        &keep[..marks],
         &mut plane[..samples],
     );
     tally::case(t, told.number, same)

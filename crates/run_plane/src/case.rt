@@ -104,6 +104,7 @@ fn compare_recorded(
     sqh: &[u8],
     qindex: &[u16],
     tiles: &[u16],
+    keep: &[u8],
     plane: &mut [u16],
     buffer: &mut [u8],
     steps: &[u32],
@@ -117,6 +118,7 @@ fn compare_recorded(
         sqh,
         qindex,
         tiles,
+        keep,
         steps,
         s,
     );
@@ -135,12 +137,13 @@ fn compare(
     sqh: &[u8],
     qindex: &[u16],
     tiles: &[u16],
+    keep: &[u8],
     plane: &mut [u16],
     again: &mut [u16],
     steps: &[u32],
 ) -> bool {
-    let answer = deblock_plane(plane, vedge, hedge, sqw, sqh, qindex, tiles, steps, s);
-    let plain = deblock_plane_plain(again, vedge, hedge, sqw, sqh, qindex, tiles, steps, s);
+    let answer = deblock_plane(plane, vedge, hedge, sqw, sqh, qindex, tiles, keep, steps, s);
+    let plain = deblock_plane_plain(again, vedge, hedge, sqw, sqh, qindex, tiles, keep, steps, s);
     same(answer, told)
         && held(text, lent, told, plane)
         && same(plain, told)
@@ -158,6 +161,7 @@ fn replay_recorded(
     sqh: &[u8],
     qindex: &[u16],
     tiles: &[u16],
+    keep: &[u8],
     steps: &[u32],
     t: Tally,
 ) -> Tally {
@@ -183,6 +187,7 @@ fn replay_recorded(
         sqh,
         qindex,
         tiles,
+        keep,
         &mut plane[..samples],
         &mut buffer[..bytes],
         steps,
@@ -201,6 +206,7 @@ fn replay_plane(
     sqh: &[u8],
     qindex: &[u16],
     tiles: &[u16],
+    keep: &[u8],
     steps: &[u32],
     t: Tally,
 ) -> Tally {
@@ -226,6 +232,7 @@ fn replay_plane(
         sqh,
         qindex,
         tiles,
+        keep,
         &mut plane[..samples],
         &mut again[..copied],
         steps,
@@ -233,7 +240,7 @@ fn replay_plane(
     tally::case(t, told.number, same)
 }
 
-// The grid's last two lists, the qindex and the tile starts; then the rest of a plane or of a recorded one.
+// The grid's last three lists, the qindex, the tile starts and the keep marks; then the rest of a plane or of a recorded one.
 fn replay_grid(
     text: &[u8],
     c: Cursor,
@@ -248,17 +255,21 @@ fn replay_grid(
 ) -> Tally {
     let mut qindex = [0u16; 16384];
     let mut tiles = [0u16; 2048];
+    let mut keep = [0u8; 16384];
     let q = cases::read_u16s(text, c, &mut qindex);
     let l = cases::read_u16s(text, q.rest, &mut tiles);
+    let k = cases::read_u8s(text, l.rest, &mut keep);
     let cells = q.length;
     let starts = l.length;
+    let marks = k.length;
     let q = &qindex[..cells];
     let ts = &tiles[..starts];
-    let at = l.rest;
+    let ks = &keep[..marks];
+    let at = k.rest;
     if recorded {
-        return replay_recorded(text, at, s, vedge, hedge, sqw, sqh, q, ts, steps, t);
+        return replay_recorded(text, at, s, vedge, hedge, sqw, sqh, q, ts, ks, steps, t);
     }
-    replay_plane(text, at, s, vedge, hedge, sqw, sqh, q, ts, steps, t)
+    replay_plane(text, at, s, vedge, hedge, sqw, sqh, q, ts, ks, steps, t)
 }
 
 // A line after its kind.

@@ -3,3 +3,4 @@ pub mod Checks
 pub mod Exactly
 pub mod Rows
 pub mod Ranges
+pub mod Bytes

@@ -4,7 +4,12 @@
 mod over;
 // A number in its range.
 mod range;
+// A byte for each cell: the largest, and keep marks.
+mod marks;
 
+pub use marks::asked;
+pub use marks::bad_keep;
+pub use marks::highest;
 pub use over::row;
 pub use over::samples;
 pub use range::in_range;

@@ -1,4 +1,4 @@
--- An edge that has room: demand 3 at each sample within the widths, every other sample kept, and none over top that was not.
+-- An edge that has room: demand 3 at each sample within the widths that is not kept, every other sample as it was, and none over top that was not.
 -- Assumes nothing.
 use mathlib.Core.Path.{_≡_, refl, sym, ap, _∙_}
 use mathlib.Core.Bool.{Bool, true, false}
@@ -12,7 +12,8 @@ use lib.ListN.{getD, length, set, length-set}
 use lib.Seq.{getD-set-same, getD-set-other}
 use lib.IntN.{ℤ, pos, negsuc, _+ℤ_, _-ℤ_}
 use Rattle.laws.specs.Lists.{Each}
-use Rattle.laws.specs.Stores.{Store, puts, puts-length}
+use Rattle.laws.specs.Stores.{Store, puts, puts-other, puts-length}
+use Rattle.laws.specs.Outside.{outside, outside-each, outside-kept, outside-rest}
 use Rattle.laws.specs.Whole.{limit-most}
 use Rattle.rules.specs.declared.edge.Edge.{Edge}
 use Rattle.rules.specs.declared.edge.Place.{Place}
@@ -21,7 +22,7 @@ use Rattle.rules.specs.Lengths.{mostBefore, mostAfter, reachBefore, reachAfter}
 use Rattle.rules.specs.Width.{blank, pOf, qOf}
 use Rattle.rules.specs.Taps.{move, before, after}
 use Rattle.rules.specs.Ramp.{Near, rampBefore, rampAfter}
-use Rattle.rules.specs.Segment.{placed, placeOf, pAt, qAt, windowOf, chosenOf, storesOf, fourStores, differenceOf, widthAt, segmentOf}
+use Rattle.rules.specs.Segment.{placed, placeOf, pAt, qAt, windowOf, chosenOf, storesOf, fourStores, differenceOf, widthAt, openStores, segmentOf}
 use Rattle.lengths.proofs.Lengths.{PairFacts, pair-facts}
 use Rattle.width.proofs.Most.{width-most}
 use Rattle.taps.proofs.Ramp.{ramp-before, ramp-after}
@@ -29,7 +30,7 @@ use Rattle.segment.specs.Fit.{Room, Spread, Fit, InPlane}
 use Rattle.segment.specs.Promises.{pPlace, qPlace, narrowAt, differenceAt, Demand3, Outside}
 use Rattle.segment.proofs.Places.{before-in, after-in, line-in}
 use Rattle.segment.proofs.Edges.{fit-of}
-use Rattle.segment.proofs.Samples.{all-stores, sample-before, sample-after, sample-other}
+use Rattle.segment.proofs.Samples.{all-stores, sample-before, sample-after}
 use Rattle.segment.proofs.Window.{window-p, window-q}
 
 -- ---- an edge by offsets
@@ -37,7 +38,7 @@ pub chosen-most : (g : Place) (ls : List Line) → g .pair < 8 → chosenOf g ls
 unfolding chosenOf
 chosen-most g ls h = width-most ls (mostBefore (g .pair)) (g .q) (g .side) (pair-facts (g .pair) h .after-is)
 
-module _ (top : ℕ) (g : Place) (l : List ℕ) (fit : Fit g (length l)) where
+module _ (top : ℕ) (kept : ℕ → Bool) (g : Place) (l : List ℕ) (fit : Fit g (length l)) where
   abbrev wide : ℕ
   wide = chosenOf g (windowOf g l)
 
@@ -48,7 +49,7 @@ module _ (top : ℕ) (g : Place) (l : List ℕ) (fit : Fit g (length l)) where
   diff j = differenceOf (getD (windowOf g l) j blank) (g .q) wide
 
   abbrev left : List ℕ
-  left = puts (storesOf top g (windowOf g l)) l
+  left = puts (outside kept (storesOf top g (windowOf g l))) l
 
   facts : PairFacts (g .pair)
   facts = pair-facts (g .pair) (fit .pair-is)
@@ -66,34 +67,36 @@ module _ (top : ℕ) (g : Place) (l : List ℕ) (fit : Fit g (length l)) where
       let r = fit .room in
       omega (arith, after-in k (reachAfter (g .pair)) (g .step) (omega arith), line-in j (g .line) hj)
 
-  pub new-before : (j k : ℕ) → j < 4 → k < narrow → getD left (pPlace g j k) 0 ≡ before top (getD l (pPlace g j k) 0) (diff j) narrow k
+  new-before : (j k : ℕ) → j < 4 → k < narrow → kept (pPlace g j k) ≡ false → getD left (pPlace g j k) 0 ≡ before top (getD l (pPlace g j k) 0) (diff j) narrow k
   unfolding storesOf
-  new-before j k hj hk =
+  new-before j k hj hk free =
       let fb = facts .before in
       let fa = facts .after in
       let m = chosen-most g (windowOf g l) (fit .pair-is) in
-      sample-before top (g .at) (g .step) (g .line) narrow wide (g .q) (windowOf g l) (fit .spread) (omega arith) (omega arith) l j k hj hk (p-inside j k hj hk)
+      outside-rest kept (storesOf top g (windowOf g l)) l (pPlace g j k) free
+      ∙ sample-before top (g .at) (g .step) (g .line) narrow wide (g .q) (windowOf g l) (fit .spread) (omega arith) (omega arith) l j k hj hk (p-inside j k hj hk)
       ∙ ap (λ (x : ℕ). before top x (diff j) narrow k) (window-p g l facts j k hj (omega arith))
 
-  pub new-after : (j k : ℕ) → j < 4 → k < wide → getD left (qPlace g j k) 0 ≡ after top (getD l (qPlace g j k) 0) (diff j) wide k
+  new-after : (j k : ℕ) → j < 4 → k < wide → kept (qPlace g j k) ≡ false → getD left (qPlace g j k) 0 ≡ after top (getD l (qPlace g j k) 0) (diff j) wide k
   unfolding storesOf
-  new-after j k hj hk =
+  new-after j k hj hk free =
       let fb = facts .before in
       let fa = facts .after in
       let m = chosen-most g (windowOf g l) (fit .pair-is) in
-      sample-after top (g .at) (g .step) (g .line) narrow wide (g .q) (windowOf g l) (fit .spread) (omega arith) (omega arith) l j k hj hk (q-inside j k hj hk)
+      outside-rest kept (storesOf top g (windowOf g l)) l (qPlace g j k) free
+      ∙ sample-after top (g .at) (g .step) (g .line) narrow wide (g .q) (windowOf g l) (fit .spread) (omega arith) (omega arith) l j k hj hk (q-inside j k hj hk)
       ∙ ap (λ (x : ℕ). after top x (diff j) wide k) (window-q g l facts j k hj (omega arith))
 
-  near-before : (j k : ℕ) → j < 4 → k < narrow → Near (getD left (pPlace g j k) 0) (rampBefore top (getD l (pPlace g j k) 0) (diff j) narrow k) (diff j) narrow k
-  near-before j k hj hk =
+  near-before : (j k : ℕ) → j < 4 → k < narrow → kept (pPlace g j k) ≡ false → Near (getD left (pPlace g j k) 0) (rampBefore top (getD l (pPlace g j k) 0) (diff j) narrow k) (diff j) narrow k
+  near-before j k hj hk free =
       let f = facts .before in
-      rw (new-before j k hj hk) (ramp-before top (getD l (pPlace g j k) 0) narrow k hk (omega arith) (diff j))
+      rw (new-before j k hj hk free) (ramp-before top (getD l (pPlace g j k) 0) narrow k hk (omega arith) (diff j))
 
-  near-after : (j k : ℕ) → j < 4 → k < wide → Near (getD left (qPlace g j k) 0) (rampAfter top (getD l (qPlace g j k) 0) (diff j) wide k) (diff j) wide k
-  near-after j k hj hk =
+  near-after : (j k : ℕ) → j < 4 → k < wide → kept (qPlace g j k) ≡ false → Near (getD left (qPlace g j k) 0) (rampAfter top (getD l (qPlace g j k) 0) (diff j) wide k) (diff j) wide k
+  near-after j k hj hk free =
       let f = facts .after in
       let m = chosen-most g (windowOf g l) (fit .pair-is) in
-      rw (new-after j k hj hk) (ramp-after top (getD l (qPlace g j k) 0) wide k hk (omega arith) (diff j))
+      rw (new-after j k hj hk free) (ramp-after top (getD l (qPlace g j k) 0) wide k hk (omega arith) (diff j))
 
 -- ---- every store is at most top
 before-most : (top x : ℕ) (d : ℤ) (s i : ℕ) → before top x d s i ≤ top
@@ -130,8 +133,8 @@ pub place-same : (stride : ℕ) (e : Edge) → (placeOf stride e .pair ≡ e .pa
 unfolding placeOf
 place-same stride e = placed-same (eqb (e .dir) 0) stride e
 
-module _ (top stride : ℕ) (e : Edge) (l : List ℕ) where
-  pub demand-3 : {columns rows : ℕ} → InPlane stride columns rows e (length l) → Demand3 top stride e l (segmentOf top stride e l)
+module _ (top stride : ℕ) (kept : ℕ → Bool) (e : Edge) (l : List ℕ) where
+  pub demand-3 : {columns rows : ℕ} → InPlane stride columns rows e (length l) → Demand3 top stride kept e l (segmentOf top stride kept e l)
   unfolding widthAt segmentOf placeOf
   demand-3 h =
       let g = placeOf stride e in
@@ -139,23 +142,31 @@ module _ (top stride : ℕ) (e : Edge) (l : List ℕ) where
       let p = place-same stride e .0 in
       let q = place-same stride e .1 in
       record {
-        before = λ j k hj hk. rw (p, q) at (near-before top g l f j k hj (rw p hk));
-        after = λ j k hj hk. rw q at (near-after top g l f j k hj hk);
+        before = λ j k hj hk free. rw (p, q) at (near-before top kept g l f j k hj (rw p hk) free);
+        after = λ j k hj hk free. rw q at (near-after top kept g l f j k hj hk free);
       }
 
   -- every place outside of the widths
-  pub edge-kept : (i : ℕ) → Outside stride e l i → getD (segmentOf top stride e l) i 0 ≡ getD l i 0
+  pub edge-kept : (i : ℕ) → Outside stride e l i → getD (segmentOf top stride kept e l) i 0 ≡ getD l i 0
   unfolding widthAt segmentOf storesOf placeOf
   edge-kept i o =
       let g = placeOf stride e in
       let p = place-same stride e .0 in
-      sample-other top (g .at) (g .step) (g .line) (min (chosenOf g (windowOf g l)) (mostBefore (g .pair))) (chosenOf g (windowOf g l)) (g .q) (windowOf g l) l i
-      (λ j k hj hk. o .before j k hj (rw p at hk)) (o .after)
+      puts-other (outside kept (storesOf top g (windowOf g l))) l i (outside-each kept (λ st. st .0 ≡ i → ⊥) (storesOf top g (windowOf g l))
+      (all-stores top (g .at) (g .step) (g .line) (min (chosenOf g (windowOf g l)) (mostBefore (g .pair))) (chosenOf g (windowOf g l)) (g .q) (windowOf g l) (λ st. st .0 ≡ i → ⊥)
+      (λ j k hj hk. o .before j k hj (rw p at hk)) (o .after)))
 
-  pub edge-most : (i : ℕ) → getD l i 0 ≤ top → getD (segmentOf top stride e l) i 0 ≤ top
+  -- and every one in a kept cell
+  pub edge-holds : (i : ℕ) → kept i ≡ true → getD (segmentOf top stride kept e l) i 0 ≡ getD l i 0
   unfolding segmentOf
-  edge-most i b = puts-most top i (storesOf top (placeOf stride e) (windowOf (placeOf stride e) l)) l (stores-most top (placeOf stride e) (windowOf (placeOf stride e) l)) b
+  edge-holds i h = outside-kept kept (storesOf top (placeOf stride e) (windowOf (placeOf stride e) l)) l i h
 
-  pub edge-length : length (segmentOf top stride e l) ≡ length l
+  pub edge-most : (i : ℕ) → getD l i 0 ≤ top → getD (segmentOf top stride kept e l) i 0 ≤ top
   unfolding segmentOf
-  edge-length = puts-length (storesOf top (placeOf stride e) (windowOf (placeOf stride e) l)) l
+  edge-most i b =
+      puts-most top i (openStores top stride kept e l) l
+      (outside-each kept (λ st. st .1 ≤ top) (storesOf top (placeOf stride e) (windowOf (placeOf stride e) l)) (stores-most top (placeOf stride e) (windowOf (placeOf stride e) l))) b
+
+  pub edge-length : length (segmentOf top stride kept e l) ≡ length l
+  unfolding segmentOf
+  edge-length = puts-length (openStores top stride kept e l) l

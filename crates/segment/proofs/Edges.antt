@@ -14,6 +14,7 @@ use lib.IntN.{ℤ}
 use Rattle.laws.specs.Loops.{each, each-same}
 use Rattle.laws.specs.Stores.{Store, puts}
 use Rattle.laws.specs.Changes.{changes, Put, put-as}
+use Rattle.laws.specs.Outside.{outside, outside-nothing}
 use Rattle.rules.specs.declared.edge.Edge.{Edge}
 use Rattle.rules.specs.declared.edge.Place.{Place}
 use Rattle.rules.specs.declared.edge.Line.{Line}
@@ -21,13 +22,13 @@ use Rattle.rules.specs.declared.counts.Counts.{Counts}
 use Rattle.rules.specs.Lengths.{mostBefore, mostAfter, reachBefore, reachAfter}
 use Rattle.rules.specs.Width.{blank}
 use Rattle.rules.specs.Taps.{mostOf, before, after}
-use Rattle.rules.specs.Segment.{placed, placeOf, hasRoom, pAt, qAt, differenceOf, windowOf, chosenOf, storesOf, fourStores, lineStores, widthAt, segmentOf}
+use Rattle.rules.specs.Segment.{placed, placeOf, hasRoom, pAt, qAt, differenceOf, windowOf, chosenOf, storesOf, fourStores, lineStores, noneKept, widthAt, segmentOf}
 use Rattle.rules.specs.Counts.{storedAt, changedAt}
 use Rattle.lengths.proofs.Lengths.{PairFacts, pair-facts}
 use Rattle.width.specs.Tests.{offOf}
 use Rattle.width.proofs.Most.{width-most}
 use Rattle.segment.specs.declared.outcome.Outcome.{Outcome}
-use Rattle.segment.specs.Fit.{Room, Spread, Fit, Filtered, InPlane, EdgeFiltered}
+use Rattle.segment.specs.Fit.{Room, Spread, Fit, Filtered, Chosen, InPlane, EdgeFiltered}
 use Rattle.segment.specs.Sides.{differenceIn, lineTaps, fourTaps, Lanes, none, Tapped}
 use Rattle.segment.proofs.Window.{window-p, window-q}
 use Rattle.segment.proofs.Cells.{Along, along-of, spread-of}
@@ -60,7 +61,7 @@ module _ (e : Place) {size : ℕ} (fit : Fit e size) where
 
 -- ---- the widths of an edge that filters
 module _ (e : Place) (l : List ℕ) {size : ℕ} (fit : Fit e size) {n w k : ℕ} (hw : w ≡ chosenOf e (windowOf e l)) (some : w ≡ 0 → ⊥) (hn : n ≡ mostBefore (e .pair)) (hk : k ≡ min w n) where
-  after-most : w ≤ mostAfter (e .pair)
+  pub after-most : w ≤ mostAfter (e .pair)
   unfolding chosenOf
   after-most = rw hw (width-most (windowOf e l) (mostBefore (e .pair)) (e .q) (e .side) (pair-facts (e .pair) (fit .pair-is) .after-is))
 
@@ -121,15 +122,19 @@ no-stores : (top at step line n q : ℕ) (ls : List Line) → n ≡ 0 → [] ≡
 unfolding fourStores lineStores each
 no-stores top at step line n q ls h = rw h
 
-pub filtered-none : (top : ℕ) (e : Place) (l : List ℕ) {w : ℕ} → w ≡ chosenOf e (windowOf e l) → w ≡ 0 → Filtered top e l record { width = 0; stored = 0; changed = 0 } l
-unfolding storesOf puts changes
-filtered-none top e l {w} hw hz =
+pub filtered-none : (top : ℕ) (kept : ℕ → Bool) (e : Place) (l : List ℕ) {w : ℕ} → w ≡ chosenOf e (windowOf e l) → w ≡ 0 → Filtered top kept e l record { width = 0; stored = 0; changed = 0 } l
+unfolding storesOf outside puts changes
+filtered-none top kept e l {w} hw hz =
     let z : chosenOf e (windowOf e l) ≡ 0 = cc in
     let f = no-stores top (e .at) (e .step) (e .line) (min 0 (mostBefore (e .pair))) (e .q) (windowOf e l) (omega arith) in
     record { width = sym z; plane = rw (z, ← f); stored = rw (z, ← f); changed = rw (z, ← f) }
 
+-- its width alone
+pub chosen-alone : (e : Place) (l : List ℕ) {w : ℕ} → w ≡ chosenOf e (windowOf e l) → Chosen e l record { width = w; stored = 0; changed = 0 } l
+chosen-alone e l h = record { width = h; plane = refl }
+
 pub filtered-some : (top : ℕ) (e : Place) (l m : List ℕ) {r : Counts} {size n w k lim : ℕ} → Fit e size → w ≡ chosenOf e (windowOf e l) → (w ≡ 0 → ⊥) → n ≡ mostBefore (e .pair) → k ≡ min w n
-    → Tapped (fourTaps top (e .at) (e .step) (e .line) k w lim l) l none r m → lim ≡ e .q * mostOf w → Filtered top e l record { width = w; stored = r .stored; changed = r .changed } m
+    → Tapped (fourTaps top (e .at) (e .step) (e .line) k w lim l) l none r m → lim ≡ e .q * mostOf w → Filtered top noneKept e l record { width = w; stored = r .stored; changed = r .changed } m
 unfolding storesOf
 filtered-some top e l m {r} {size} {n} {w} {k} {lim} fit hw some hn hk hm hl =
     let f = pair-facts (e .pair) (fit .pair-is) in
@@ -138,7 +143,8 @@ filtered-some top e l m {r} {size} {n} {w} {k} {lim} fit hw some hn hk hm hl =
     let g = after-most e l fit hw some hn hk in
     let t = taps-are top e l f k w (omega arith) (omega arith) in
     let z : min w n ≡ min (chosenOf e (windowOf e l)) (mostBefore (e .pair)) = cc in
-    let ss : fourTaps top (e .at) (e .step) (e .line) k w lim l ≡ storesOf top e (windowOf e l) = cc in
+    let all : fourTaps top (e .at) (e .step) (e .line) k w lim l ≡ storesOf top e (windowOf e l) = cc in
+    let ss = all ∙ sym (outside-nothing noneKept (λ i. refl) (storesOf top e (windowOf e l))) in
     record { width = hw; plane = put-as ss (hm .put) .list; stored = omega (arith, hm .stored, ap length ss); changed = omega (arith, put-as ss (hm .put) .count) }
 
 -- ---- room in a plane, over the direction
@@ -193,11 +199,11 @@ pub place-horizontal : (stride : ℕ) (e : Edge) → (e .dir ≡ 0 → ⊥) → 
 unfolding placeOf
 place-horizontal stride e h = rw (ne-eqb _ _ h)
 
-pub edge-filtered : (top stride : ℕ) (e : Edge) {g : Place} {l : List ℕ} {r : Outcome} {m : List ℕ} → g ≡ placeOf stride e → Filtered top g l r m → EdgeFiltered top stride e l r m
+pub edge-filtered : (top stride : ℕ) (kept : ℕ → Bool) (e : Edge) {g : Place} {l : List ℕ} {r : Outcome} {m : List ℕ} → g ≡ placeOf stride e → Filtered top kept g l r m → EdgeFiltered top stride kept e l r m
 unfolding widthAt segmentOf storedAt changedAt
-edge-filtered top stride e {g} {l} q f = record {
+edge-filtered top stride kept e {g} {l} q f = record {
   width = f .width ∙ ap (λ (p : Place). chosenOf p (windowOf p l)) q;
-  plane = f .plane ∙ ap (λ (p : Place). puts (storesOf top p (windowOf p l)) l) q;
-  stored = f .stored ∙ ap (λ (p : Place). length (storesOf top p (windowOf p l))) q;
-  changed = f .changed ∙ ap (λ (p : Place). changes (storesOf top p (windowOf p l)) l) q;
+  plane = f .plane ∙ ap (λ (p : Place). puts (outside kept (storesOf top p (windowOf p l))) l) q;
+  stored = f .stored ∙ ap (λ (p : Place). length (outside kept (storesOf top p (windowOf p l)))) q;
+  changed = f .changed ∙ ap (λ (p : Place). changes (outside kept (storesOf top p (windowOf p l))) l) q;
 }

@@ -90,7 +90,7 @@ module _ (l : List ℕ) (at step line b a : ℕ) where
   unfolding nearLines
   near-line j h = singles-at (λ j. nearLine l (at + j * line) step b a) blank 4 j h
 
-  near-p : (j k : ℕ) → j < 4 → k < b → b ≤ 8 → pOf (nearLines l at step line b a) j k ≡ getD l (pAt (at + j * line) step k) 0
+  pub near-p : (j k : ℕ) → j < 4 → k < b → b ≤ 8 → pOf (nearLines l at step line b a) j k ≡ getD l (pAt (at + j * line) step k) 0
   unfolding nearLine nearBefore
   near-p j k hj hk h =
       let m : min k (b - 1) ≡ k = omega arith in
@@ -99,7 +99,7 @@ module _ (l : List ℕ) (at step line b a : ℕ) where
       ∙ ap (λ (i : ℕ). getD l (at + j * line - step - step * i) 0) m
       ∙ ap (λ (i : ℕ). getD l i 0) (let x = mul-comm step k in let y = add-mul k 1 step in omega arith)
 
-  near-q : (j k : ℕ) → j < 4 → k < a → a ≤ 8 → qOf (nearLines l at step line b a) j k ≡ getD l (qAt (at + j * line) step k) 0
+  pub near-q : (j k : ℕ) → j < 4 → k < a → a ≤ 8 → qOf (nearLines l at step line b a) j k ≡ getD l (qAt (at + j * line) step k) 0
   unfolding nearLine nearAfter
   near-q j k hj hk h =
       let m : min k (a - 1) ≡ k = omega arith in

@@ -1,4 +1,4 @@
--- What stands at each place after an edge's stores: the new sample at each sample within the widths, and the old one anywhere else.
+-- What an edge stores: a property of every store, and what stands at each sample within the widths afterwards.
 -- Assumes nothing.
 use mathlib.Core.Path.{_≡_, refl, sym, ap, _∙_}
 use mathlib.Core.Logic.{inl}
@@ -8,7 +8,7 @@ use native.Mathlib.Omega.{arith}
 use lib.ListN.{getD, length}
 use Rattle.laws.specs.Lists.{Each, Some, each-append, each-loop, some-left, some-right, some-loop}
 use Rattle.laws.specs.Loops.{each}
-use Rattle.laws.specs.Stores.{Store, puts, Only, puts-at, puts-other}
+use Rattle.laws.specs.Stores.{Store, puts, Only, puts-at}
 use Rattle.rules.specs.declared.edge.Line.{Line}
 use Rattle.rules.specs.Width.{blank}
 use Rattle.rules.specs.Taps.{before, after}
@@ -71,6 +71,3 @@ module _ (top at step line n w q : ℕ) (ls : List Line) where
         (λ i m hi hm z. absurd (r .across i m j k hi (omega arith) hj (omega arith) z))
         (λ i m hi hm z. let f = r .afters i m j k hi (omega arith) hj (omega arith) z in rw (f .0, f .1)))
         (some-q (λ st. st .0 ≡ qP j k) j k hj hk refl)
-
-  pub sample-other : (l : List ℕ) (i : ℕ) → ((j k : ℕ) → j < 4 → k < n → pP j k ≡ i → ⊥) → ((j k : ℕ) → j < 4 → k < w → qP j k ≡ i → ⊥) → getD (puts stores l) i 0 ≡ getD l i 0
-  sample-other l i hp hq = puts-other stores l i (all-stores (λ st. st .0 ≡ i → ⊥) hp hq)

@@ -28,9 +28,9 @@ unfolding chosenOf
 zero-none e ls on = off-none ls _ _ (e .q) (e .side) refl on
 
 module _ (stride : ℕ) (e : Edge) {r : Bool} (says : r ≡ offOf (e .q) (e .side)) where
-  pub edge-none : (top : ℕ) (l : List ℕ) → r ≡ true → EdgeFiltered top stride e l record { width = 0; stored = 0; changed = 0 } l
-  edge-none top l on =
-      edge-filtered top stride e refl (filtered-none top (placeOf stride e) l (zero-none (placeOf stride e) _ (off-placed stride e ∙ sym says ∙ on)) refl)
+  pub edge-none : (top : ℕ) (kept : ℕ → Bool) (l : List ℕ) → r ≡ true → EdgeFiltered top stride kept e l record { width = 0; stored = 0; changed = 0 } l
+  edge-none top kept l on =
+      edge-filtered top stride kept e refl (filtered-none top kept (placeOf stride e) l (zero-none (placeOf stride e) _ (off-placed stride e ∙ sym says ∙ on)) refl)
 
   pub edge-lit : {p : Place} → p ≡ placeOf stride e → r ≡ false → offOf (p .q) (p .side) ≡ false
   edge-lit is lit = rw is (off-placed stride e ∙ sym says ∙ lit)

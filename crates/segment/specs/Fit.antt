@@ -1,11 +1,12 @@
 -- What an edge needs of a plane, and what it makes of one.
 -- Assumes nothing.
 use mathlib.Core.Path.{_≡_}
-use mathlib.Core.Bool.{true}
+use mathlib.Core.Bool.{Bool, true}
 use mathlib.Core.List.{List}
 use Prim.Native.Nat.{ℕ, _+_, _*_, _-_, _≤_, _<_}
 use lib.ListN.{length, getD}
 use Rattle.laws.specs.Stores.{puts}
+use Rattle.laws.specs.Outside.{outside}
 use Rattle.laws.specs.Changes.{changes}
 use Rattle.rules.specs.declared.edge.Edge.{Edge}
 use Rattle.rules.specs.declared.edge.Place.{Place}
@@ -36,12 +37,17 @@ pub record Fit (e : Place) (size : ℕ) : Type 0 where
   pub room : Room (e .at) (e .step) (e .line) (reachBefore (e .pair)) (reachAfter (e .pair)) size
   pub spread : Spread (e .at) (e .step) (e .line) (reachBefore (e .pair)) (reachAfter (e .pair))
 
--- what it answers, and what it leaves of a plane l
-pub record Filtered (top : ℕ) (e : Place) (l : List ℕ) (r : Outcome) (m : List ℕ) : Type 0 where
+-- what it answers, and what it leaves of a plane l, of which some samples may be kept
+pub record Filtered (top : ℕ) (kept : ℕ → Bool) (e : Place) (l : List ℕ) (r : Outcome) (m : List ℕ) : Type 0 where
   pub width : r .width ≡ chosenOf e (windowOf e l)
-  pub plane : m ≡ puts (storesOf top e (windowOf e l)) l
-  pub stored : r .stored ≡ length (storesOf top e (windowOf e l))
-  pub changed : r .changed ≡ changes (storesOf top e (windowOf e l)) l
+  pub plane : m ≡ puts (outside kept (storesOf top e (windowOf e l))) l
+  pub stored : r .stored ≡ length (outside kept (storesOf top e (windowOf e l)))
+  pub changed : r .changed ≡ changes (outside kept (storesOf top e (windowOf e l))) l
+
+-- its width alone, and the plane as it was
+pub record Chosen (e : Place) (l : List ℕ) (r : Outcome) (m : List ℕ) : Type 0 where
+  pub width : r .width ≡ chosenOf e (windowOf e l)
+  pub plane : m ≡ l
 
 -- an edge of a plane of columns by rows samples, of accepted numbers, that has room there
 pub record InPlane (stride columns rows : ℕ) (e : Edge) (size : ℕ) : Type 0 where
@@ -53,11 +59,11 @@ pub record InPlane (stride columns rows : ℕ) (e : Edge) (size : ℕ) : Type 0 
   pub room : hasRoom columns rows e ≡ true
 
 -- what it answers, and what it leaves of a plane l
-pub record EdgeFiltered (top stride : ℕ) (e : Edge) (l : List ℕ) (r : Outcome) (m : List ℕ) : Type 0 where
+pub record EdgeFiltered (top stride : ℕ) (kept : ℕ → Bool) (e : Edge) (l : List ℕ) (r : Outcome) (m : List ℕ) : Type 0 where
   pub width : r .width ≡ widthAt stride e l
-  pub plane : m ≡ segmentOf top stride e l
-  pub stored : r .stored ≡ storedAt top stride e l
-  pub changed : r .changed ≡ changedAt top stride e l
+  pub plane : m ≡ segmentOf top stride kept e l
+  pub stored : r .stored ≡ storedAt top stride kept e l
+  pub changed : r .changed ≡ changedAt top stride kept e l
 
 -- two planes are equal within an edge's reach on its four lines
 pub record Within (e : Place) (l m : List ℕ) : Type 0 where

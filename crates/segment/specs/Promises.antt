@@ -1,6 +1,7 @@
 -- What an edge promises of each sample: demand 3 within the widths, and nothing new outside of them.
 -- m is the plane after the edge, l the plane before it. Assumes nothing.
 use mathlib.Core.Path.{_≡_}
+use mathlib.Core.Bool.{Bool, false}
 use mathlib.Core.List.{List}
 use Prim.Native.Nat.{ℕ, _+_, _*_, _<_, min}
 use lib.ListN.{getD}
@@ -26,11 +27,11 @@ narrowAt stride e l = min (widthAt stride e l) (mostBefore (e .pair))
 abbrev pub differenceAt : ℕ → Edge → List ℕ → ℕ → ℤ
 differenceAt stride e l j = differenceOf (getD (windowOf (placeOf stride e) l) j blank) (e .q) (widthAt stride e l)
 
--- demand 3: every sample within the widths lies near the ramp
-pub record Demand3 (top stride : ℕ) (e : Edge) (l m : List ℕ) : Type 0 where
-  pub before : (j k : ℕ) → j < 4 → k < narrowAt stride e l
+-- demand 3: every sample within the widths lies near the ramp; ticket 7: "demand 3 holds for stored samples outside kept cells"
+pub record Demand3 (top stride : ℕ) (kept : ℕ → Bool) (e : Edge) (l m : List ℕ) : Type 0 where
+  pub before : (j k : ℕ) → j < 4 → k < narrowAt stride e l → kept (pPlace (placeOf stride e) j k) ≡ false
       → Near (getD m (pPlace (placeOf stride e) j k) 0) (rampBefore top (getD l (pPlace (placeOf stride e) j k) 0) (differenceAt stride e l j) (narrowAt stride e l) k) (differenceAt stride e l j) (narrowAt stride e l) k
-  pub after : (j k : ℕ) → j < 4 → k < widthAt stride e l
+  pub after : (j k : ℕ) → j < 4 → k < widthAt stride e l → kept (qPlace (placeOf stride e) j k) ≡ false
       → Near (getD m (qPlace (placeOf stride e) j k) 0) (rampAfter top (getD l (qPlace (placeOf stride e) j k) 0) (differenceAt stride e l j) (widthAt stride e l) k) (differenceAt stride e l j) (widthAt stride e l) k
 
 -- a place that is no sample within the widths

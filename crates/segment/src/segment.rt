@@ -17,9 +17,9 @@ ghost use mathlib.Core.Path.{_≡_};
 ghost use mathlib.Core.Bool.{true, false};
 ghost use Prim.Native.Nat.{_+_, _*_, _<_};
 ghost use lib.ListN.{length};
-ghost use Rattle.rules.specs.Segment.{placed, windowOf, chosenOf};
+ghost use Rattle.rules.specs.Segment.{placed, windowOf, chosenOf, noneKept};
 ghost use Rattle.width.specs.Tests.{offOf};
-ghost use Rattle.segment.specs.Fit.{Fit, Filtered, InPlane, EdgeFiltered};
+ghost use Rattle.segment.specs.Fit.{Fit, Filtered, Chosen, InPlane, EdgeFiltered};
 
 // How many samples after an edge are to be filtered, by its window and thresholds that are not 0. What else the choice takes is looked up
 // first, so that the compiler reads each sample only where a test wants it.
@@ -40,15 +40,23 @@ fn chosen_width(plane: &[u16], e: Place) -> usize
     filt_choice(lines, n, p, e.q, e.side)
 }
 
-// Filters an edge that is given by offsets and has no threshold of 0, and answers what it came to.
-fn filter_segment(plane: &mut [u16], e: Place, top: u16) -> Outcome
+// Filters an edge that is given by offsets and has no threshold of 0, and answers what it came to; or, where it is not to store, its width alone.
+// Both go through one call of the width choice: with two in the library the compiler passes its lines through memory.
+pub fn filter_segment(plane: &mut [u16], e: Place, top: u16, stores: bool) -> Outcome
     requires { ⌜ Fit e (length (now plane)) × (offOf (e .q) (e .side) ≡ false) ⌝ }
-    ensures { λ r. ⌜ Filtered top e (now (plane .entry)) r (now (plane .exit)) ⌝ }
+    ensures { λ r. ⌜ (stores ≡ true → Filtered top noneKept e (now (plane .entry)) r (now (plane .exit))) × (stores ≡ false → Chosen e (now (plane .entry)) r (now (plane .exit))) ⌝ }
 {
     let w = chosen_width(plane, e);
     if w == 0 {
         return Outcome {
             width: 0,
+            stored: 0,
+            changed: 0,
+        };
+    }
+    if !stores {
+        return Outcome {
+            width: w,
             stored: 0,
             changed: 0,
         };
@@ -74,7 +82,7 @@ fn filter_segment(plane: &mut [u16], e: Place, top: u16) -> Outcome
 }
 
 // Where a vertical edge stands in rows of stride samples.
-fn upright(e: Edge, stride: usize) -> Place
+pub fn upright(e: Edge, stride: usize) -> Place
     requires { ⌜ e .y * stride + e .x < 18446744073709551616 ⌝ }
     ensures { λ r. ⌜ r ≡ placed true stride e ⌝ }
 {
@@ -89,7 +97,7 @@ fn upright(e: Edge, stride: usize) -> Place
 }
 
 // Where a horizontal one stands.
-fn level(e: Edge, stride: usize) -> Place
+pub fn level(e: Edge, stride: usize) -> Place
     requires { ⌜ e .y * stride + e .x < 18446744073709551616 ⌝ }
     ensures { λ r. ⌜ r ≡ placed false stride e ⌝ }
 {
@@ -114,7 +122,7 @@ pub fn filter_edge(
     top: u16,
 ) -> Outcome
     requires { ⌜ InPlane stride columns rows e (length (now plane)) ⌝ }
-    ensures { λ r. ⌜ EdgeFiltered top stride e (now (plane .entry)) r (now (plane .exit)) ⌝ }
+    ensures { λ r. ⌜ EdgeFiltered top stride noneKept e (now (plane .entry)) r (now (plane .exit)) ⌝ }
 {
     if off(e.q, e.side) {
         return Outcome {
@@ -124,7 +132,7 @@ pub fn filter_edge(
         };
     }
     if e.dir == 0 {
-        return filter_segment(plane, upright(e, stride), top);
+        return filter_segment(plane, upright(e, stride), top, true);
     }
-    filter_segment(plane, level(e, stride), top)
+    filter_segment(plane, level(e, stride), top, true)
 }

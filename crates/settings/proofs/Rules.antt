@@ -31,6 +31,6 @@ module _ (n : ℕ) (start : List ℕ) where
   pub places-more : (kind v : ℕ) (q : List ℕ) → v ≡ fromOf n kind → q ≡ filled start (fromOf n) kind → set q kind v ≡ filled start (fromOf n) (kind + 1)
   places-more kind v q e inv = filled-more start (fromOf n) kind inv (ap (λ (x : ℕ). set q kind x) e)
 
-  pub places-end : (kind : ℕ) (q : List ℕ) → length start ≡ 23 → kind ≤ 23 → 23 ≤ kind → q ≡ filled start (fromOf n) kind → q ≡ firstPlaces n
+  pub places-end : (kind : ℕ) (q : List ℕ) → length start ≡ 24 → kind ≤ 24 → 24 ≤ kind → q ≡ filled start (fromOf n) kind → q ≡ firstPlaces n
   unfolding firstPlaces
-  places-end kind q l a b inv = filled-end start (fromOf n) kind 23 inv a b ∙ filled-all start (fromOf n) 23 l
+  places-end kind q l a b inv = filled-end start (fromOf n) kind 24 inv a b ∙ filled-all start (fromOf n) 24 l

@@ -178,7 +178,7 @@ module _ (xs : List ℕ) (from end at : ℕ) (s : State) (walked : at ≡ seek (
   line-empty h = rw (← walked, eq-eqb _ _ h)
 
   module _ (w : Word) (k : ℕ) (some : (at ≡ end → ⊥)) (read : w ≡ wordAt xs at end) (known : k ≡ kindOf (w .value)) where
-    pub line-unknown : k ≡ 0 → record { state = s; answer = 23 } ≡ lineOf xs from end s
+    pub line-unknown : k ≡ 0 → record { state = s; answer = 24 } ≡ lineOf xs from end s
     unfolding lineOf inkedOf namedOf pick
     line-unknown h = rw (← walked, ne-eqb _ _ some, ← read, ← known, eq-eqb _ _ h)
 

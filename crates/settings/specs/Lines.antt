@@ -150,9 +150,9 @@ tooSoon kind first = both (not (eqb kind 1)) (eqb first 0)
 unfoldable pub settingOf : List ℕ → ℕ → ℕ → ℕ → State → Said
 settingOf xs at end kind s = pick (tooSoon kind (getD (s .places) 1 0)) (record { state = s; answer = 1 }) (fillOf xs at end kind s)
 
--- 23 stands for any name
+-- 24 stands for any name
 unfoldable pub namedOf : List ℕ → ℕ → Word → State → Said
-namedOf xs end w s = pick (eqb (kindOf (w .value)) 0) (record { state = s; answer = 23 }) (settingOf xs (w .next) end (kindOf (w .value)) s)
+namedOf xs end w s = pick (eqb (kindOf (w .value)) 0) (record { state = s; answer = 24 }) (settingOf xs (w .next) end (kindOf (w .value)) s)
 
 -- from a first byte that is no space on; an empty line says nothing
 unfoldable pub inkedOf : List ℕ → ℕ → ℕ → State → Said

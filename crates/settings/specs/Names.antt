@@ -3,7 +3,7 @@ use Prim.Native.Nat.{ℕ}
 use lib.Dec.{eqb}
 use Rattle.laws.specs.Choose.{pick}
 
--- settings, qindex, steps, leaf, leaf_uv, skip, delta_y, delta_uv, cap_y, cap_uv, chroma, ccso_y, ccso_u, ccso_v, flags_y, flags_u, flags_v, offset_y, offset_u, offset_v, tiles_y, tiles_uv; 0 for any other word
+-- settings, qindex, steps, leaf, leaf_uv, skip, delta_y, delta_uv, cap_y, cap_uv, chroma, ccso_y, ccso_u, ccso_v, flags_y, flags_u, flags_v, offset_y, offset_u, offset_v, tiles_y, tiles_uv, keep; 0 for any other word
 unfoldable pub kindOf : ℕ → ℕ
 kindOf name =
     pick (eqb name 8315180330343360371) 1
@@ -28,4 +28,5 @@ kindOf name =
     (pick (eqb name 8027216031643885430) 20
     (pick (eqb name 32767011577880441) 21
     (pick (eqb name 8388354963937391990) 22
-    0)))))))))))))))))))))
+    (pick (eqb name 1801807216) 23
+    0))))))))))))))))))))))

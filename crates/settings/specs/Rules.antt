@@ -10,13 +10,17 @@ use Rattle.settings.specs.declared.names.Rule.{Rule}
 abbrev pub room : ℕ → ℕ → ℕ → ℕ → Rule
 room list from size each = record { list = list; from = from; end = from + size; each = each }
 
--- how many numbers each sort of leaves has room for in a list of n short numbers: a third of what the 4096 qindex entries and the 2046 tile starts leave, 1048576 leaves at most
+-- how many numbers each sort of leaves has room for in a list of n short numbers: a third of what the 4096 qindex entries, the 2046 tile starts and the 4096 kept rectangles leave, 1048576 leaves at most
 unfoldable pub leafRoom : ℕ → ℕ
-leafRoom n = min ((n - 6142) / 3) (4 * 1048576)
+leafRoom n = min ((n - 22526) / 3) (4 * 1048576)
 
 -- where the skip leaves end and luma's tile starts begin, 1023 of them as chroma's after them: more columns have no plane
 unfoldable pub tilesFrom : ℕ → ℕ
 tilesFrom n = 4096 + leafRoom n + leafRoom n + leafRoom n
+
+-- where chroma's tile starts end and the rectangles of kept cells begin, 4096 of them, four numbers each
+unfoldable pub keepsFrom : ℕ → ℕ
+keepsFrom n = tilesFrom n + 1023 + 1023
 
 -- The lists: 0 signed numbers, 1 short ones, 2 steps, 3 flags, 4 offsets, 5 short ones of a setting of one line. A kind that is none has no room.
 -- Of n short numbers 4096 are qindex entries, and then come the leaves of each sort, four numbers a leaf; sixteen places for the CCSO numbers of a plane.
@@ -44,8 +48,9 @@ ruleOf n kind =
     (pick (eqb kind 20) (room 4 256 128 0)
     (pick (eqb kind 21) (room 5 (tilesFrom n) 1023 0)
     (pick (eqb kind 22) (room 5 (tilesFrom n + 1023) 1023 0)
-    (room 0 0 0 0))))))))))))))))))))))
+    (pick (eqb kind 23) (room 1 (keepsFrom n) 16384 4)
+    (room 0 0 0 0)))))))))))))))))))))))
 
--- the first places of the kinds 0 to 22, in this order
+-- the first places of the kinds 0 to 23, in this order
 unfoldable pub firstPlaces : ℕ → List ℕ
-firstPlaces n = each 23 (λ kind. ruleOf n kind .from ∷ [])
+firstPlaces n = each 24 (λ kind. ruleOf n kind .from ∷ [])

@@ -13,7 +13,7 @@ use words::spell::read_word;
 // The kind of a line that says something up to a place, 0 for none.
 fn kind_of(text: &[u8], from: usize, stop: usize) -> usize
     requires { ⌜ (from ≤ stop) × (stop ≤ length (now text)) ⌝ }
-    ensures { λ r. ⌜ (r ≡ kindTo (now (text .entry)) from stop) × (r ≤ 22) ⌝ }
+    ensures { λ r. ⌜ (r ≡ kindTo (now (text .entry)) from stop) × (r ≤ 23) ⌝ }
 {
     let at = spaces(text, from, stop);
     let w = read_word(text, at, stop);
@@ -21,7 +21,7 @@ fn kind_of(text: &[u8], from: usize, stop: usize) -> usize
 }
 
 // The last line of each kind; a line of none is counted at 0.
-pub fn lines_of(text: &[u8], lines: &mut [usize; 23])
+pub fn lines_of(text: &[u8], lines: &mut [usize; 24])
     ensures { λ _. ⌜ now (lines .exit) ≡ linesOf (now (text .entry)) (now (lines .entry)) ⌝ }
 {
     let n = text.len();

@@ -16,7 +16,7 @@ pub struct Rule {
 
 // The number of a name, 0 for none.
 pub fn kind(name: usize) -> usize
-    ensures { λ r. ⌜ (r ≡ kindOf name) × (r ≤ 22) ⌝ }
+    ensures { λ r. ⌜ (r ≡ kindOf name) × (r ≤ 23) ⌝ }
 {
     match name {
         // settings
@@ -63,6 +63,8 @@ pub fn kind(name: usize) -> usize
         32767011577880441 => 21,
         // tiles_uv
         8388354963937391990 => 22,
+        // keep
+        1801807216 => 23,
         _ => 0,
     }
 }
@@ -81,12 +83,12 @@ fn put(list: usize, from: usize, end: usize, each: usize) -> Rule
 
 // How many of n short numbers each sort of leaves has room for.
 pub fn leaf_room(n: usize) -> usize
-    ensures { λ r. ⌜ (r ≡ leafRoom n) × (r ≤ 4194304) × (3 * r ≤ n - 6142) ⌝ }
+    ensures { λ r. ⌜ (r ≡ leafRoom n) × (r ≤ 4194304) × (3 * r ≤ n - 22526) ⌝ }
 {
-    if n < 6142 {
+    if n < 22526 {
         return 0;
     }
-    least((n - 6142) / 3, 4194304)
+    least((n - 22526) / 3, 4194304)
 }
 
 // Where the numbers of a kind go, where there are n short ones.
@@ -98,6 +100,7 @@ pub fn rule_of(kind: usize, n: usize) -> Rule
     let skips = chroma + room;
     let tiles = skips + room;
     let chromatiles = tiles + 1023;
+    let keeps = chromatiles + 1023;
     match kind {
         1 => put(0, 0, 1, 1),
         2 => put(1, 0, 4096, 0),
@@ -120,18 +123,19 @@ pub fn rule_of(kind: usize, n: usize) -> Rule
         19 => put(4, 128, 256, 0),
         20 => put(4, 256, 384, 0),
         21 => put(5, tiles, chromatiles, 0),
-        22 => put(5, chromatiles, chromatiles + 1023, 0),
+        22 => put(5, chromatiles, keeps, 0),
+        23 => put(1, keeps, keeps + 16384, 4),
         _ => put(0, 0, 0, 0),
     }
 }
 
 // The first place of each kind, where there are n short numbers; as numbers are read it moves to the place after the last one.
-pub fn first_places(n: usize) -> [usize; 23]
+pub fn first_places(n: usize) -> [usize; 24]
     ensures { λ r. ⌜ r ≡ firstPlaces n ⌝ }
 {
-    let mut places: [usize; 23] = [0; 23];
+    let mut places: [usize; 24] = [0; 24];
     let mut kind = 0;
-    while kind < 23 {
+    while kind < 24 {
         let rule = rule_of(kind, n);
         places[kind] = rule.from;
         kind += 1;

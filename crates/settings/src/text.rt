@@ -15,7 +15,7 @@ use words::place::line_end;
 use words::place::spaces;
 use words::spell::read_word;
 
-// The line, the kind of setting that was expected there, and the place where the line starts; kind 0 is no fault, 23 is any name.
+// The line, the kind of setting that was expected there, and the place where the line starts; kind 0 is no fault, 24 is any name.
 pub struct Fault {
     pub line: usize,
     pub kind: usize,
@@ -144,9 +144,9 @@ fn fill(
     steps: &mut [u32],
     flags: &mut [u8],
     offsets: &mut [i8],
-    places: &mut [usize; 23],
+    places: &mut [usize; 24],
 ) -> usize
-    requires { ⌜ kind ≤ 22 ⌝ }
+    requires { ⌜ kind ≤ 23 ⌝ }
     ensures { λ _. ⌜ Kept (lists (now (numbers .entry)) (now (shorts .entry)) (now (steps .entry)) (now (flags .entry)) (now (offsets .entry))) (lists (now (numbers .exit)) (now (shorts .exit)) (now (steps .exit)) (now (flags .exit)) (now (offsets .exit))) ⌝ }
     ensures { λ r. ⌜ record { state = state (now (numbers .exit)) (now (shorts .exit)) (now (steps .exit)) (now (flags .exit)) (now (offsets .exit)) (now (places .exit)); answer = r }
         ≡ fillOf (now (text .entry)) at end kind (state (now (numbers .entry)) (now (shorts .entry)) (now (steps .entry)) (now (flags .entry)) (now (offsets .entry)) (now (places .entry))) ⌝ }
@@ -199,9 +199,9 @@ fn setting(
     steps: &mut [u32],
     flags: &mut [u8],
     offsets: &mut [i8],
-    places: &mut [usize; 23],
+    places: &mut [usize; 24],
 ) -> usize
-    requires { ⌜ kind ≤ 22 ⌝ }
+    requires { ⌜ kind ≤ 23 ⌝ }
     ensures { λ _. ⌜ Kept (lists (now (numbers .entry)) (now (shorts .entry)) (now (steps .entry)) (now (flags .entry)) (now (offsets .entry))) (lists (now (numbers .exit)) (now (shorts .exit)) (now (steps .exit)) (now (flags .exit)) (now (offsets .exit))) ⌝ }
     ensures { λ r. ⌜ record { state = state (now (numbers .exit)) (now (shorts .exit)) (now (steps .exit)) (now (flags .exit)) (now (offsets .exit)) (now (places .exit)); answer = r }
         ≡ settingOf (now (text .entry)) at end kind (state (now (numbers .entry)) (now (shorts .entry)) (now (steps .entry)) (now (flags .entry)) (now (offsets .entry)) (now (places .entry))) ⌝ }
@@ -233,7 +233,7 @@ fn line(
     steps: &mut [u32],
     flags: &mut [u8],
     offsets: &mut [i8],
-    places: &mut [usize; 23],
+    places: &mut [usize; 24],
 ) -> usize
     requires { ⌜ (from ≤ end) × (end ≤ length (now text)) ⌝ }
     ensures { λ _. ⌜ Kept (lists (now (numbers .entry)) (now (shorts .entry)) (now (steps .entry)) (now (flags .entry)) (now (offsets .entry))) (lists (now (numbers .exit)) (now (shorts .exit)) (now (steps .exit)) (now (flags .exit)) (now (offsets .exit))) ⌝ }
@@ -247,7 +247,7 @@ fn line(
     let w = read_word(text, at, end);
     let k = kind(w.value);
     if k == 0 {
-        return 23;
+        return 24;
     }
     setting(
         text,
@@ -274,7 +274,7 @@ fn alone(ccso: usize, none: usize, offsets: usize, first: usize) -> bool
 }
 
 // What is missing where every line was good: the first setting, a qindex, or the CCSO numbers of a plane with offsets.
-fn missing(places: &[usize; 23]) -> usize
+fn missing(places: &[usize; 24]) -> usize
     ensures { λ r. ⌜ r ≡ missingOf (now (places .entry)) ⌝ }
 {
     if places[1] == 0 {
@@ -303,7 +303,7 @@ pub fn parse(
     steps: &mut [u32],
     flags: &mut [u8],
     offsets: &mut [i8],
-    places: &mut [usize; 23],
+    places: &mut [usize; 24],
 ) -> Fault
     ensures { λ _. ⌜ Kept (lists (now (numbers .entry)) (now (shorts .entry)) (now (steps .entry)) (now (flags .entry)) (now (offsets .entry))) (lists (now (numbers .exit)) (now (shorts .exit)) (now (steps .exit)) (now (flags .exit)) (now (offsets .exit))) ⌝ }
     ensures { λ r. ⌜ record { state = state (now (numbers .exit)) (now (shorts .exit)) (now (steps .exit)) (now (flags .exit)) (now (offsets .exit)) (now (places .exit)); fault = r }

@@ -1,2 +1,3 @@
--- What `specs/` holds: the shapes of a stream's planes.
+-- What `specs/` holds: the shapes of a stream's planes, and the marks of their kept cells.
 pub mod Shaped
+pub mod Kept

@@ -51,9 +51,9 @@ pub fn fours(n: usize) -> bool
     n % 4 == 0
 }
 
-// Four lists have n entries each.
-pub fn marks_long(n: usize, v: usize, h: usize, w: usize, t: usize) -> bool
-    ensures { λ r. ⌜ r ≡ all (leb n v ∷ leb n h ∷ leb n w ∷ leb n t ∷ []) ⌝ }
+// Five lists have n entries each.
+pub fn lists_long(n: usize, v: usize, h: usize, w: usize, t: usize, k: usize) -> bool
+    ensures { λ r. ⌜ r ≡ all (leb n v ∷ leb n h ∷ leb n w ∷ leb n t ∷ leb n k ∷ []) ⌝ }
 {
     if v < n {
         return false;
@@ -64,22 +64,26 @@ pub fn marks_long(n: usize, v: usize, h: usize, w: usize, t: usize) -> bool
     if w < n {
         return false;
     }
-    n <= t
+    if t < n {
+        return false;
+    }
+    n <= k
 }
 
-// Four lists are long enough, and two lists of leaves have four numbers a leaf.
+// Five lists are long enough, and two lists of leaves have four numbers a leaf.
 pub fn lists_ok(
     n: usize,
     v: usize,
     h: usize,
     w: usize,
     t: usize,
+    k: usize,
     leaves: usize,
     skips: usize,
 ) -> bool
-    ensures { λ r. ⌜ r ≡ all (all (leb n v ∷ leb n h ∷ leb n w ∷ leb n t ∷ []) ∷ foursOk leaves ∷ foursOk skips ∷ []) ⌝ }
+    ensures { λ r. ⌜ r ≡ all (all (leb n v ∷ leb n h ∷ leb n w ∷ leb n t ∷ leb n k ∷ []) ∷ foursOk leaves ∷ foursOk skips ∷ []) ⌝ }
 {
-    if !marks_long(n, v, h, w, t) {
+    if !lists_long(n, v, h, w, t, k) {
         return false;
     }
     if !fours(leaves) {

@@ -31,6 +31,9 @@ add-tiles c = search needs
 add-chromatiles : tie.Need-add-chromatiles
 add-chromatiles c = search needs
 
+add-keeps : tie.Need-add-keeps
+add-keeps c = search needs
+
 shared-slice-read-limit-3 : tie.Need-shared-slice-read-limit-3
 shared-slice-read-limit-3 c = search needs
 
@@ -46,18 +49,25 @@ limit-requires-4 c κs = tt
 shared-slice-read-limit-5 : tie.Need-shared-slice-read-limit-5
 shared-slice-read-limit-5 c = search needs
 
-add-limit : tie.Need-add-limit
-add-limit c = search needs
-
 limit-requires-5 : tie.Need-limit-requires-5
 limit-requires-5 c κs = tt
 
+shared-slice-read-limit-6 : tie.Need-shared-slice-read-limit-6
+shared-slice-read-limit-6 c = search needs
+
+add-limit : tie.Need-add-limit
+add-limit c = search needs
+
+limit-requires-6 : tie.Need-limit-requires-6
+limit-requires-6 c κs = tt
+
 returns : tie.Need-returns
 returns c =
-    let s = c .before .before .before .before .before in
+    let t = c .before .before .before .before .before in
+    let s = t .before .before in
     let l = s .before .before .before .before in
     let r = l .before .before in
-    (search listing, within-shared _ _ _ _ _ _ _ _ _ _ (r .before .before .pre .1) (r .leaf-room .ensures .2) (l .limit .ensures) (s .limit3 .ensures) (c .before .before .before .limit4 .ensures) (c .before .limit5 .ensures))
+    (search listing, within-shared _ _ _ _ _ _ _ _ _ _ _ _ (r .before .before .pre .1) (r .leaf-room .ensures .2) (l .limit .ensures) (s .limit3 .ensures) (t .limit4 .ensures) (c .before .before .before .limit5 .ensures) (c .before .limit6 .ensures))
 
 returns-2 : tie.Need-returns-2
 returns-2 c = (search listing, search listing)
@@ -75,12 +85,15 @@ lists-of-spec =
     limit-requires-2
     add-tiles
     add-chromatiles
+    add-keeps
     shared-slice-read-limit-3
     limit-requires-3
     shared-slice-read-limit-4
     limit-requires-4
     shared-slice-read-limit-5
-    add-limit
     limit-requires-5
+    shared-slice-read-limit-6
+    add-limit
+    limit-requires-6
     returns
     returns-2)

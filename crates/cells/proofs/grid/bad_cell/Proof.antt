@@ -10,7 +10,7 @@ all-good-requires : tie.Need-all-good-requires
 all-good-requires c κs = search bads
 
 returns : tie.Need-returns
-returns c = bad-is _ _ _ _ _ _ (small-none _ _ _ (c .before .all-good .ensures) (c .if1 .taken))
+returns c = bad-is _ _ _ _ _ _ _ (small-none _ _ _ (c .before .all-good .ensures) (c .if1 .taken))
 
 first-bad-requires : tie.Need-first-bad-requires
 first-bad-requires c κs = search bads

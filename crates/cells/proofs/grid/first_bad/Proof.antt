@@ -3,7 +3,7 @@ use mathlib.Core.Path.{_≡_}
 use mathlib.Core.List.{[]}
 use Prim.Native.Nat.{_≤_, _-_}
 use Rattle.rules.specs.declared.refusals.Found.the-variants.{Nothing}
-use Rattle.rules.specs.Plane.{grid, cellGood}
+use Rattle.rules.specs.Plane.{keeping, cellGood}
 use Rattle.rules.specs.Refusals.{first, foundUnless}
 use Rattle.cells.specs.Fit.{badOf}
 use Rattle.cells.proofs.Marks.{finds}
@@ -11,10 +11,10 @@ use Rattle.cells.proofs.grid.first_bad.Statement.{statement}
 use Rattle.cells.proofs.grid.first_bad.Tie as tie
 
 abbrev Inv-loop : tie.InvT-loop
-Inv-loop vedge hedge sqw sqh count k₀ k = (k ≤ count) × (first k (λ i. foundUnless (cellGood (grid vedge hedge sqw sqh []) i) i) ≡ Nothing)
+Inv-loop vedge hedge sqw sqh keep count k₀ k = (k ≤ count) × (first k (λ i. foundUnless (cellGood (keeping vedge hedge sqw sqh [] [] keep) i) i) ≡ Nothing)
 
 abbrev μ-loop : tie.MeasureT-loop
-μ-loop vedge hedge sqw sqh count k₀ k = count - k
+μ-loop vedge hedge sqw sqh keep count k₀ k = count - k
 
 loop-holds : tie.Need-loop-holds Inv-loop μ-loop
 loop-holds c = search finds

@@ -37,7 +37,11 @@ returns-5 c = λ ts. all-ok _ _ _ (search tests) (all-ok _ _ _ (search tests) (a
 
 returns-6 : tie.Need-returns-6
 unfolding planeLengthsOk
-returns-6 c = λ ts. all-ok _ _ _ (search tests) (all-ok _ _ _ (search tests) (all-ok _ _ _ (search tests) (all-ok _ _ _ (search tests) (all-ok _ _ _ (search tests) (all-last _ _ refl)))))
+returns-6 c = λ ts. all-ok _ _ _ (search tests) (all-ok _ _ _ (search tests) (all-ok _ _ _ (search tests) (all-ok _ _ _ (search tests) (all-ok _ _ _ (search tests) (all-bad _ _ (search tests))))))
+
+returns-7 : tie.Need-returns-7
+unfolding planeLengthsOk
+returns-7 c = λ ts. all-ok _ _ _ (search tests) (all-ok _ _ _ (search tests) (all-ok _ _ _ (search tests) (all-ok _ _ _ (search tests) (all-ok _ _ _ (search tests) (all-ok _ _ _ (search tests) (all-last _ _ refl))))))
 
 pub lengths-ok-spec : {M : Type 1} → statement M
 lengths-ok-spec =
@@ -51,4 +55,5 @@ lengths-ok-spec =
     returns-3
     returns-4
     returns-5
-    returns-6)
+    returns-6
+    returns-7)

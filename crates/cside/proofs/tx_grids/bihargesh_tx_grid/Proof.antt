@@ -25,8 +25,11 @@ same-length-4 c = search needs
 same-length-5 : tie.Need-same-length-5
 same-length-5 c = search needs
 
+same-length-6 : tie.Need-same-length-6
+same-length-6 c = search needs
+
 returns : tie.Need-returns
-returns c = reported (c .before .before .before .before .before .before .before .before .before .before .before .before .build .ensures) (c .before .before .told .ensures)
+returns c = reported (c .before .before .before .before .before .before .before .before .before .before .before .before .before .before .build .ensures) (c .before .before .told .ensures)
 
 pub bihargesh-tx-grid-spec : {M : Type 1} → statement M
 bihargesh-tx-grid-spec =
@@ -39,4 +42,5 @@ bihargesh-tx-grid-spec =
     same-length-3
     same-length-4
     same-length-5
+    same-length-6
     returns)

@@ -5,7 +5,7 @@ use Rattle.entries.proofs.replays.run_again.Statement.{statement}
 use Rattle.entries.proofs.replays.run_again.Tie as tie
 
 returns : tie.Need-returns
-returns c = replay-short _ _ _ (c .if1 .taken)
+returns c = replay-short _ _ _ _ (c .if1 .taken)
 
 replay-of-requires : tie.Need-replay-of-requires
 replay-of-requires c κs = search needs
@@ -17,7 +17,7 @@ same-length : tie.Need-same-length
 same-length c = search needs
 
 returns-2 : tie.Need-returns-2
-returns-2 c = replay-done _ _ _ (c .before .before .before .before .before .if1 .left) (c .before .before .before .before .replay-of .ensures) (c .before .before .replay-plane .ensures)
+returns-2 c = replay-done _ _ _ _ (c .before .before .before .before .before .if1 .left) (c .before .before .before .before .replay-of .ensures) (c .before .before .replay-plane .ensures)
 
 pub run-again-spec : {M : Type 1} → statement M
 run-again-spec =

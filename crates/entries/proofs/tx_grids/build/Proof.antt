@@ -26,8 +26,13 @@ same-length-3 c = search needs
 same-length-4 : tie.Need-same-length-4
 same-length-4 c = search needs
 
+same-length-5 : tie.Need-same-length-5
+same-length-5 c = search needs
+
 returns-2 : tie.Need-returns-2
-returns-2 c = tx-done _ _ _ _ (c .before .before .before .before .before .before .before .before .before .before .before .before .before .before .if1 .left) (c .before .before .before .before .before .before .before .before .before .before .before .before .before .tu-grid-of .ensures) (c .before .before .before .before .before .before .before .before .build-tx-grid .ensures)
+returns-2 c =
+    let done = c .before .before .before .before .before .before .before .before .before .before in
+    tx-done _ _ _ _ _ (done .before .before .before .before .before .before .before .if1 .left) (done .before .before .before .before .before .before .tu-grid-of .ensures) (done .build-tx-grid .ensures)
 
 pub build-spec : {M : Type 1} → statement M
 build-spec =
@@ -40,4 +45,5 @@ build-spec =
     same-length-2
     same-length-3
     same-length-4
+    same-length-5
     returns-2)

@@ -23,7 +23,7 @@ slice-aggregate-work : tie.Need-slice-aggregate-work
 slice-aggregate-work c = front _ _ (search needs)
 
 work-requires : tie.Need-work-requires
-work-requires c κs = c .before .before .before .before .before .before .before .before .before .before .before .before .before .before .before .before .before .before .before .before .before .before .before .before .pre
+work-requires c κs = c .before .before .before .before .before .before .before .before .before .before .before .before .before .before .before .before .before .before .before .before .before .before .before .before .before .before .pre
 
 same-length : tie.Need-same-length
 same-length c = c .before .before .before .before .before .before .before .before .before .before .work .kept .0

@@ -5,7 +5,7 @@ use Rattle.filter.proofs.frame.work.Statement.{statement}
 use Rattle.filter.proofs.frame.work.Tie as tie
 
 taken-requires : tie.Need-taken-requires
-taken-requires c κs = c .before .before .before .before .before .before .before .before .before .before .before .before .before .before .before .before .before .pre .0
+taken-requires c κs = c .before .before .before .before .before .before .before .before .before .before .before .before .before .before .before .before .before .before .before .pre .0
 
 ended-requires : tie.Need-ended-requires
 ended-requires c κs = tt
@@ -26,7 +26,7 @@ returns : tie.Need-returns
 returns c = search needs
 
 treat-requires : tie.Need-treat-requires
-treat-requires c κs = c .before .before .before .before .before .before .before .before .before .before .before .before .before .before .before .before .before .before .before .before .before .before .before .before .before .before .before .before .before .before .before .pre
+treat-requires c κs = c .before .before .before .before .before .before .before .before .before .before .before .before .before .before .before .before .before .before .before .before .before .before .before .before .before .before .before .before .before .before .before .before .before .pre
 
 ended-requires-2 : tie.Need-ended-requires-2
 ended-requires-2 c κs = tt
@@ -51,8 +51,7 @@ returns-2 c = search needs
 
 finished-requires : tie.Need-finished-requires
 finished-requires c κs =
-    c .before .before .before .before .before .before .before .before .before .before .before .before .before .before .before .before .before .before .before .before .before .before .before .before .before .before .before .before .before .before .before .before .before .before .before .before
-    .before .before .before .before .before .before .before .before .before .before .pre .0
+    c .before .before .before .before .before .before .before .before .before .before .before .before .before .before .before .before .before .before .before .before .before .before .before .before .before .before .before .before .before .before .before .before .before .before .before .before .before .before .before .before .before .before .before .before .before .before .before .before .pre .0
 
 same-length-10 : tie.Need-same-length-10
 same-length-10 c =

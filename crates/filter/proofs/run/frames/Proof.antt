@@ -7,11 +7,11 @@ use Rattle.filter.proofs.run.frames.Statement.{statement}
 use Rattle.filter.proofs.run.frames.Tie as tie
 
 abbrev Inv-loop : tie.InvT-loop
-Inv-loop y₀ u₀ v₀ was₀ luma₀ name head j numbers shorts steps flags offsets places text shown k₀ told₀ y u v was luma k told =
+Inv-loop y₀ u₀ v₀ was₀ luma₀ name head j numbers shorts steps flags offsets places keep chromakeep text shown k₀ told₀ y u v was luma k told =
     (k ≤ 18446744073709551615) × (length y ≡ length y₀) × (length u ≡ length u₀) × (length v ≡ length v₀) × (length was ≡ length was₀) × (length luma ≡ length luma₀)
 
 abbrev μ-loop : tie.MeasureT-loop
-μ-loop y₀ u₀ v₀ was₀ luma₀ name head j numbers shorts steps flags offsets places text shown k₀ told₀ y u v was luma k told = 18446744073709551615 - k
+μ-loop y₀ u₀ v₀ was₀ luma₀ name head j numbers shorts steps flags offsets places keep chromakeep text shown k₀ told₀ y u v was luma k told = 18446744073709551615 - k
 
 isatty-requires : tie.Need-isatty-requires Inv-loop μ-loop
 isatty-requires c κs = search needs
@@ -26,7 +26,7 @@ count-requires : tie.Need-count-requires Inv-loop μ-loop
 count-requires c κs = tt
 
 next-requires : tie.Need-next-requires Inv-loop μ-loop
-next-requires c κs = c .before .before .before .before .before .before .before .before .before .before .before .before .before .before .before .before .before .before .before .before .before .before .pre
+next-requires c κs = c .before .before .before .before .before .before .before .before .before .before .before .before .before .before .before .before .before .before .before .before .before .before .before .before .pre
 
 closed-requires : tie.Need-closed-requires Inv-loop μ-loop
 closed-requires c κs = tt

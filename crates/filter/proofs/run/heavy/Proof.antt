@@ -40,6 +40,12 @@ large-room-requires-4 c κs = tt
 large-room-requires-5 : tie.Need-large-room-requires-5
 large-room-requires-5 c κs = tt
 
+large-marks-requires : tie.Need-large-marks-requires
+large-marks-requires c κs = search needs
+
+large-marks-requires-2 : tie.Need-large-marks-requires-2
+large-marks-requires-2 c κs = search needs
+
 slice-aggregate-told : tie.Need-slice-aggregate-told
 slice-aggregate-told c = search needs
 
@@ -64,6 +70,12 @@ slice-aggregate-told-6 c = front _ _ (search needs)
 slice-aggregate-told-7 : tie.Need-slice-aggregate-told-7
 slice-aggregate-told-7 c = search needs
 
+slice-aggregate-told-8 : tie.Need-slice-aggregate-told-8
+slice-aggregate-told-8 c = search needs
+
+slice-aggregate-told-9 : tie.Need-slice-aggregate-told-9
+slice-aggregate-told-9 c = search needs
+
 told-requires : tie.Need-told-requires
 told-requires c κs = search needs
 
@@ -86,6 +98,8 @@ heavy-spec =
     large-room-requires-3
     large-room-requires-4
     large-room-requires-5
+    large-marks-requires
+    large-marks-requires-2
     slice-aggregate-told
     slice-aggregate-told-2
     slice-aggregate-told-3
@@ -94,5 +108,7 @@ heavy-spec =
     array-share-prefix-text
     slice-aggregate-told-6
     slice-aggregate-told-7
+    slice-aggregate-told-8
+    slice-aggregate-told-9
     told-requires
     returns-2)

@@ -21,6 +21,12 @@ small-room-requires-4 c κs = tt
 small-room-requires-5 : tie.Need-small-room-requires-5
 small-room-requires-5 c κs = tt
 
+small-marks-requires : tie.Need-small-marks-requires
+small-marks-requires c κs = search needs
+
+small-marks-requires-2 : tie.Need-small-marks-requires-2
+small-marks-requires-2 c κs = search needs
+
 slice-aggregate-told : tie.Need-slice-aggregate-told
 slice-aggregate-told c = search needs
 
@@ -39,6 +45,12 @@ slice-aggregate-told-5 c = search needs
 slice-aggregate-told-6 : tie.Need-slice-aggregate-told-6
 slice-aggregate-told-6 c = search needs
 
+slice-aggregate-told-7 : tie.Need-slice-aggregate-told-7
+slice-aggregate-told-7 c = search needs
+
+slice-aggregate-told-8 : tie.Need-slice-aggregate-told-8
+slice-aggregate-told-8 c = search needs
+
 told-requires : tie.Need-told-requires
 told-requires c κs = search needs
 
@@ -55,11 +67,15 @@ light-spec =
     small-room-requires-3
     small-room-requires-4
     small-room-requires-5
+    small-marks-requires
+    small-marks-requires-2
     slice-aggregate-told
     slice-aggregate-told-2
     slice-aggregate-told-3
     slice-aggregate-told-4
     slice-aggregate-told-5
     slice-aggregate-told-6
+    slice-aggregate-told-7
+    slice-aggregate-told-8
     told-requires
     returns)

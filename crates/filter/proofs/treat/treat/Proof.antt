@@ -12,10 +12,10 @@ plain-asked-requires : tie.Need-plain-asked-requires
 plain-asked-requires c κs = tt
 
 deblock-asked-requires : tie.Need-deblock-asked-requires
-deblock-asked-requires c κs = let p = c .before .before .before .before .before .before .before .before .before .before .before .before .before .before .pre .1 in record { shorts-long = p .shorts; steps-long = p .steps; places-long = search needs }
+deblock-asked-requires c κs = let p = c .before .before .before .before .before .before .before .before .before .before .before .before .before .before .before .before .pre .1 in record { shorts-long = p .shorts; steps-long = p .steps; places-long = search needs }
 
 starts-good-requires : tie.Need-starts-good-requires
-starts-good-requires c κs = let p = c .before .before .before .before .before .before .before .before .before .before .before .before .before .before .before .before .before .before .before .before .before .pre .1 in (p .shorts, p .places)
+starts-good-requires c κs = let p = c .before .before .before .before .before .before .before .before .before .before .before .before .before .before .before .before .before .before .before .before .before .before .before .pre .1 in (p .shorts, p .places)
 
 deblocked-requires : tie.Need-deblocked-requires
 deblocked-requires c κs = tt
@@ -33,7 +33,7 @@ returns : tie.Need-returns
 returns c = search needs
 
 pack-requires : tie.Need-pack-requires
-pack-requires c κs = c .before .before .before .before .before .before .before .before .before .before .before .before .before .before .before .before .before .before .before .before .before .before .before .before .before .before .before .pre .0
+pack-requires c κs = c .before .before .before .before .before .before .before .before .before .before .before .before .before .before .before .before .before .before .before .before .before .before .before .before .before .before .before .before .before .pre .0
 
 copy-requires : tie.Need-copy-requires
 copy-requires c κs = tt
@@ -41,8 +41,7 @@ copy-requires c κs = tt
 offset-planes-requires : tie.Need-offset-planes-requires
 offset-planes-requires c κs =
     let p =
-    c .before .before .before .before .before .before .before .before .before .before .before .before .before .before .before .before .before .before .before .before .before .before .before .before .before .before .before .before .before .before .before .before .before .before .before .before
-    .before .before .before .before .before .before .before .pre .1
+    c .before .before .before .before .before .before .before .before .before .before .before .before .before .before .before .before .before .before .before .before .before .before .before .before .before .before .before .before .before .before .before .before .before .before .before .before .before .before .before .before .before .before .before .before .before .pre .1
     in
     record { numbers-long = p .numbers; flags-long = p .flags; offsets-long = p .offsets; places-long = omega (arith, p .places) }
 

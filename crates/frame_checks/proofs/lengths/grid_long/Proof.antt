@@ -1,4 +1,4 @@
--- `grid_long` tests the five lists of a grid; its cells' number fits. Assumes nothing.
+-- `grid_long` tests the six lists of a grid; its cells' number fits. Assumes nothing.
 use Rattle.cells.proofs.Accepted.{sizing}
 use Rattle.rules.specs.Frame.{gridLong}
 use Rattle.laws.specs.Choose.{tests}
@@ -29,5 +29,9 @@ returns-5 : tie.Need-returns-5
 unfolding gridLong
 returns-5 c = search tests
 
+returns-6 : tie.Need-returns-6
+unfolding gridLong
+returns-6 c = search tests depth 7
+
 pub grid-long-spec : {M : Type 1} → statement M
-grid-long-spec = tie.close (tie.spec mul-cells returns returns-2 returns-3 returns-4 returns-5)
+grid-long-spec = tie.close (tie.spec mul-cells returns returns-2 returns-3 returns-4 returns-5 returns-6)

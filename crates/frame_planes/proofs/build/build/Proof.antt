@@ -10,7 +10,7 @@ kind-on-requires : tie.Need-kind-on-requires
 kind-on-requires c κs = search needs
 
 returns : tie.Need-returns
-returns c = λ ts. where-off _ _ (told-no-not _ _ (c .before .kind-on .ensures) (c .if1 .taken))
+returns c = λ ts ks. where-off _ _ (told-no-not _ _ (c .before .kind-on .ensures) (c .if1 .taken))
 
 tu-of-requires : tie.Need-tu-of-requires
 tu-of-requires c κs = c .before .before .before .before .before .before .before .before .before .before .before .before .before .before .pre (sym (told-yes-not _ _ (c .before .before .before .before .before .kind-on .ensures) (c .before .before .before .before .if1 .left))) .sized
@@ -47,8 +47,8 @@ same-length-5 c = search needs
 
 returns-2 : tie.Need-returns-2
 returns-2 c =
-    λ ts. where-on _ (told-yes-not _ _ (c .before .before .before .before .before .before .before .before .before .before .before .before .before .before .before .before .before .before .before .before .kind-on .ensures) (c .before .before .before .before .before .before .before .before .before .before .before .before .before .before .before .before .before .before .before .if1 .left))
-    (grid-by _ _ _ _ _ _ _ _ _ _ _ _ _ ts (c .before .before .before .before .before .before .before .before .before .before .before .before .before .before .tu-of .ensures) (c .before .before .before .q-of .ensures) (c .before .before .before .before .before .before .before .before .before .before .before .before .before .tx-grid .ensures) (c .before .before .qindex-grid .ensures))
+    λ ts ks. where-on _ (told-yes-not _ _ (c .before .before .before .before .before .before .before .before .before .before .before .before .before .before .before .before .before .before .before .before .kind-on .ensures) (c .before .before .before .before .before .before .before .before .before .before .before .before .before .before .before .before .before .before .before .if1 .left))
+    (grid-by _ _ _ _ _ _ _ _ _ _ _ _ _ ts ks (c .before .before .before .before .before .before .before .before .before .before .before .before .before .before .tu-of .ensures) (c .before .before .before .q-of .ensures) (c .before .before .before .before .before .before .before .before .before .before .before .before .before .tx-grid .ensures) (c .before .before .qindex-grid .ensures))
 
 pub build-spec : {M : Type 1} → statement M
 build-spec = tie.close (tie.spec kind-on-requires returns tu-of-requires tx-grid-requires q-of-requires qindex-grid-requires same-length same-length-2 same-length-3 same-length-4 same-length-5 returns-2)

@@ -13,7 +13,7 @@ enum-known-a : tie.Need-enum-known-a
 enum-known-a c = search needs
 
 returns : tie.Need-returns
-returns c = λ q d. stop-by _ _ _ (c .before .before .before .room .ensures q) (c .before .a .given .1) ∙ sym (late-is _ _ _ _)
+returns c = λ q d ks es. stop-by _ _ _ (c .before .before .before .room .ensures q ks) (c .before .a .given .1) ∙ sym (late-is _ _ _ _)
 
 enum-told : tie.Need-enum-told
 enum-told c = search needs
@@ -25,7 +25,7 @@ enum-known-b : tie.Need-enum-known-b
 enum-known-b c = search needs
 
 returns-2 : tie.Need-returns-2
-returns-2 c = λ q d. go-on-by _ _ _ _ (c .before .before .before .before .before .before .room .ensures q) (c .before .before .before .before .enum-told .given .1) (stop-by _ _ _ (c .before .before .before .room2 .ensures d) (c .before .b .given .1)) ∙ sym (late-is _ _ _ _)
+returns-2 c = λ q d ks es. go-on-by _ _ _ _ (c .before .before .before .before .before .before .room .ensures q ks) (c .before .before .before .before .enum-told .given .1) (stop-by _ _ _ (c .before .before .before .room2 .ensures d es) (c .before .b .given .1)) ∙ sym (late-is _ _ _ _)
 
 enum-told-2 : tie.Need-enum-told-2
 enum-told-2 c = search needs
@@ -35,8 +35,8 @@ overs-requires c κs = c .before .before .before .before .before .before .before
 
 returns-3 : tie.Need-returns-3
 returns-3 c =
-    λ q d. go-on-by _ _ _ _ (c .before .before .before .before .before .before .room .ensures q) (c .before .before .before .before .enum-told .given .1)
-    (go-on-by _ _ _ _ (c .before .before .before .room2 .ensures d) (c .before .enum-told2 .given .1) (c .overs .ensures))
+    λ q d ks es. go-on-by _ _ _ _ (c .before .before .before .before .before .before .room .ensures q ks) (c .before .before .before .before .enum-told .given .1)
+    (go-on-by _ _ _ _ (c .before .before .before .room2 .ensures d es) (c .before .enum-told2 .given .1) (c .overs .ensures))
     ∙ sym (late-is _ _ _ _)
 
 pub late-spec : {M : Type 1} → statement M

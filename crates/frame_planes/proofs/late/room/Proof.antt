@@ -11,7 +11,7 @@ kind-on-requires : tie.Need-kind-on-requires
 kind-on-requires c κs = search needs
 
 returns : tie.Need-returns
-returns c = λ q. only-no _ _ (told-no-not _ _ (c .before .kind-on .ensures) (c .if1 .taken))
+returns c = λ q ks. only-no _ _ (told-no-not _ _ (c .before .kind-on .ensures) (c .if1 .taken))
 
 plane-of-requires : tie.Need-plane-of-requires
 plane-of-requires c κs = c .before .before .before .before .before .before .before .pre (sym (told-yes-not _ _ (c .before .kind-on .ensures) (c .if1 .left))) .sized
@@ -26,16 +26,16 @@ enum-known-bad c = search needs
 
 returns-2 : tie.Need-returns-2
 returns-2 c =
-    λ q. only-yes _ _ _ (told-yes-not _ _ (c .before .before .before .before .before .before .kind-on .ensures) (c .before .before .before .before .before .if1 .left))
-    (found-bad-by _ _ Room _ (rw (c .before .before .before .before .plane-of .ensures) at (c .before .before .before .no-room .ensures q)) (c .before .bad .given .1) refl)
+    λ q ks. only-yes _ _ _ (told-yes-not _ _ (c .before .before .before .before .before .before .kind-on .ensures) (c .before .before .before .before .before .if1 .left))
+    (found-bad-by _ _ Room _ (rw (c .before .before .before .before .plane-of .ensures) at (c .before .before .before .no-room .ensures q ks)) (c .before .bad .given .1) refl)
 
 enum-told : tie.Need-enum-told
 enum-told c = search needs
 
 returns-3 : tie.Need-returns-3
 returns-3 c =
-    λ q. only-yes _ _ _ (told-yes-not _ _ (c .before .before .before .before .before .kind-on .ensures) (c .before .before .before .before .if1 .left))
-    (found-good-by _ _ Room (rw (c .before .before .before .plane-of .ensures) at (c .before .before .no-room .ensures q)) (c .enum-told .given .1))
+    λ q ks. only-yes _ _ _ (told-yes-not _ _ (c .before .before .before .before .before .kind-on .ensures) (c .before .before .before .before .if1 .left))
+    (found-good-by _ _ Room (rw (c .before .before .before .plane-of .ensures) at (c .before .before .no-room .ensures q ks)) (c .enum-told .given .1))
 
 pub room-spec : {M : Type 1} → statement M
 room-spec = tie.close (tie.spec kind-on-requires returns plane-of-requires no-room-requires enum-known-bad returns-2 enum-told returns-3)

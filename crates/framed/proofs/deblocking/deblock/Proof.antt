@@ -78,19 +78,18 @@ same-length-3 c = search needs
 
 returns : tie.Need-returns
 returns c =
-    let grids = c .before .before .before .before .before .before .before .before .before .before .before .before .before .before .before .before .before .before .before .before .before .before .before .before .before .before .before .before .before .before in
     by-zeros _ _ _
     (c .before .before .before .before .before .before .before .before .before .before .before .before .before .before .before .before .deblock-frame .ensures)
-    (grids .before .before .before .before .before .before .before .before .before .marks .ensures)
-    (grids .before .before .before .before .before .before .before .before .marks2 .ensures)
-    (grids .before .before .before .before .before .before .before .marks3 .ensures)
-    (grids .before .before .before .before .before .before .marks4 .ensures)
-    (grids .before .before .before .before .before .indices .ensures)
-    (grids .before .before .before .before .marks5 .ensures)
-    (grids .before .before .before .marks6 .ensures)
-    (grids .before .before .marks7 .ensures)
-    (grids .before .marks8 .ensures)
-    (grids .indices2 .ensures)
+    (c .before .before .before .before .before .before .before .before .before .before .before .before .before .before .before .before .before .before .before .before .before .before .before .before .before .before .before .before .before .before .before .before .before .before .before .before .before .before .before .marks .ensures)
+    (c .before .before .before .before .before .before .before .before .before .before .before .before .before .before .before .before .before .before .before .before .before .before .before .before .before .before .before .before .before .before .before .before .before .before .before .before .before .before .marks2 .ensures)
+    (c .before .before .before .before .before .before .before .before .before .before .before .before .before .before .before .before .before .before .before .before .before .before .before .before .before .before .before .before .before .before .before .before .before .before .before .before .before .marks3 .ensures)
+    (c .before .before .before .before .before .before .before .before .before .before .before .before .before .before .before .before .before .before .before .before .before .before .before .before .before .before .before .before .before .before .before .before .before .before .before .before .marks4 .ensures)
+    (c .before .before .before .before .before .before .before .before .before .before .before .before .before .before .before .before .before .before .before .before .before .before .before .before .before .before .before .before .before .before .before .before .before .before .before .indices .ensures)
+    (c .before .before .before .before .before .before .before .before .before .before .before .before .before .before .before .before .before .before .before .before .before .before .before .before .before .before .before .before .before .before .before .before .before .before .marks5 .ensures)
+    (c .before .before .before .before .before .before .before .before .before .before .before .before .before .before .before .before .before .before .before .before .before .before .before .before .before .before .before .before .before .before .before .before .before .marks6 .ensures)
+    (c .before .before .before .before .before .before .before .before .before .before .before .before .before .before .before .before .before .before .before .before .before .before .before .before .before .before .before .before .before .before .before .before .marks7 .ensures)
+    (c .before .before .before .before .before .before .before .before .before .before .before .before .before .before .before .before .before .before .before .before .before .before .before .before .before .before .before .before .before .before .before .marks8 .ensures)
+    (c .before .before .before .before .before .before .before .before .before .before .before .before .before .before .before .before .before .before .before .before .before .before .before .before .before .before .before .before .before .before .indices2 .ensures)
 
 pub deblock-spec : {M : Type 1} → statement M
 deblock-spec =

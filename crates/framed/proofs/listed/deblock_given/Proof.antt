@@ -11,29 +11,19 @@ enum-known-answer : tie.Need-enum-known-answer
 enum-known-answer c = search needs
 
 place-of-requires : tie.Need-place-of-requires
-place-of-requires c κs =
-    let s0 = c .before .before .before .before .before .before .before .before .before .before .before in
-    λ k is. luma-fit (s0 .deblock .ensures) (c .before .before .before .answer .given .1) is
+place-of-requires c κs = λ k is. luma-fit (c .before .before .before .before .before .before .before .before .before .before .before .deblock .ensures) (c .before .before .before .answer .given .1) is
 
 same-length : tie.Need-same-length
-same-length c =
-    let s0 = c .before .before .before .before .before .before .before .before .before .before .before .before in
-    s0 .deblock .kept .0
+same-length c = c .before .before .before .before .before .before .before .before .before .before .before .before .deblock .kept .0
 
 same-length-2 : tie.Need-same-length-2
-same-length-2 c =
-    let s0 = c .before .before .before .before .before .before .before .before .before .before .before .before in
-    s0 .deblock .kept .1 .0
+same-length-2 c = c .before .before .before .before .before .before .before .before .before .before .before .before .deblock .kept .1 .0
 
 same-length-3 : tie.Need-same-length-3
-same-length-3 c =
-    let s0 = c .before .before .before .before .before .before .before .before .before .before .before .before in
-    s0 .deblock .kept .1 .1 .0
+same-length-3 c = c .before .before .before .before .before .before .before .before .before .before .before .before .deblock .kept .1 .1 .0
 
 returns : tie.Need-returns
-returns c =
-    let s0 = c .before .before .before .before .before .before .before .before .before .before .before .before in
-    told-refused (s0 .deblock .ensures) (c .before .before .before .before .answer .given .1) (c .place-of .ensures _ _)
+returns c = told-refused (c .before .before .before .before .before .before .before .before .before .before .before .before .deblock .ensures) (c .before .before .before .before .answer .given .1) (c .place-of .ensures _ _)
 
 enum-told : tie.Need-enum-told
 enum-told c = search needs
@@ -42,24 +32,16 @@ at-requires : tie.Need-at-requires
 at-requires c κs = tt
 
 same-length-4 : tie.Need-same-length-4
-same-length-4 c =
-    let s0 = c .before .before .before .before .before .before .before .before .before in
-    s0 .deblock .kept .0
+same-length-4 c = c .before .before .before .before .before .before .before .before .before .deblock .kept .0
 
 same-length-5 : tie.Need-same-length-5
-same-length-5 c =
-    let s0 = c .before .before .before .before .before .before .before .before .before in
-    s0 .deblock .kept .1 .0
+same-length-5 c = c .before .before .before .before .before .before .before .before .before .deblock .kept .1 .0
 
 same-length-6 : tie.Need-same-length-6
-same-length-6 c =
-    let s0 = c .before .before .before .before .before .before .before .before .before in
-    s0 .deblock .kept .1 .1 .0
+same-length-6 c = c .before .before .before .before .before .before .before .before .before .deblock .kept .1 .1 .0
 
 returns-2 : tie.Need-returns-2
-returns-2 c =
-    let s0 = c .before .before .before .before .before .before .before .before .before in
-    told-accepted (s0 .deblock .ensures) (c .before .enum-told .given .1) (c .at .ensures)
+returns-2 c = told-accepted (c .before .before .before .before .before .before .before .before .before .deblock .ensures) (c .before .enum-told .given .1) (c .at .ensures)
 
 pub deblock-given-spec : {M : Type 1} → statement M
 deblock-given-spec =

@@ -4,7 +4,8 @@ use mathlib.Core.List.{List, []}
 use Prim.Native.Nat.{ℕ}
 use lib.ListN.{length}
 use Rattle.frame.proofs.Grids.{gridded, marked}
-use Rattle.framed.proofs.Zeroed.{one-tile, luma-room-is}
+use Rattle.framed.proofs.Zeroed.{one-tile, zeros-kept, luma-room-is}
+use Rattle.framed.specs.Deblocked.{zeros}
 use borrow.Author.Needs.{needs}
 use Rattle.framed.proofs.places.luma_room.Statement.{statement}
 use Rattle.framed.proofs.places.luma_room.Tie as tie
@@ -72,13 +73,13 @@ room-requires c κs =
     let s6 = s5 .before .before .before .before .before in
     let k = s0 .build .kept in
     λ _. marked
-    (gridded _ _ [] (s6 .pre .sampled) (s6 .pre .built)
+    (gridded _ _ [] zeros (s6 .pre .sampled) (s6 .pre .built)
     (k .0 ∙ ap (λ (x : List ℕ). length x) (s5 .marks .ensures))
     (k .1 .0 ∙ ap (λ (x : List ℕ). length x) (s4 .marks2 .ensures))
     (k .1 .1 .0 ∙ ap (λ (x : List ℕ). length x) (s3 .marks3 .ensures))
     (k .1 .1 .1 .0 ∙ ap (λ (x : List ℕ). length x) (s2 .marks4 .ensures))
     (k .1 .1 .1 .1 .0 ∙ ap (λ (x : List ℕ). length x) (s1 .indices .ensures))
-    refl (one-tile _) (s0 .build .ensures []))
+    refl (one-tile _) (zeros-kept _ (s6 .pre .built)) (s0 .build .ensures [] zeros))
 
 returns : tie.Need-returns
 returns c =
@@ -88,7 +89,7 @@ returns c =
     let s3 = s2 .before in
     let s4 = s3 .before in
     let s5 = s4 .before in
-    luma-room-is _ _ _ _ _ (λ p. c .room .ensures p) (s0 .build .ensures _) (s5 .marks .ensures) (s4 .marks2 .ensures) (s3 .marks3 .ensures) (s2 .marks4 .ensures) (s1 .indices .ensures)
+    luma-room-is _ _ _ _ _ (λ p. c .room .ensures p []) (s0 .build .ensures _ []) (s5 .marks .ensures) (s4 .marks2 .ensures) (s3 .marks3 .ensures) (s2 .marks4 .ensures) (s1 .indices .ensures)
 
 pub luma-room-spec : {M : Type 1} → statement M
 luma-room-spec =

@@ -12,7 +12,7 @@ sizes-ok-requires c κs = search needs
 
 returns : tie.Need-returns
 unfolding txGridCheck
-returns c = record { of = λ g m. stop _ _ (unless-bad _ _ (told-no-not _ _ (c .before .sizes-ok .ensures) (c .if1 .taken))) }
+returns c = record { of = λ g k m. stop _ _ (unless-bad _ _ (told-no-not _ _ (c .before .sizes-ok .ensures) (c .if1 .taken))) }
 
 mul-lists-ok : tie.Need-mul-lists-ok
 mul-lists-ok c = tx-cells (c .before .before .before .before .before .args .s) (told-yes-not _ _ (c .before .before .sizes-ok .ensures) (c .before .if1 .left))
@@ -22,7 +22,7 @@ lists-ok-requires c κs = search needs
 
 returns-2 : tie.Need-returns-2
 unfolding txGridCheck
-returns-2 c = record { of = λ g m. rw (← long-by _ _ _ _ _ g m) (go-on _ _ _ (unless-good _ _ (told-yes-not _ _ (c .before .before .before .before .sizes-ok .ensures) (c .before .before .before .if1 .left))) (stop _ _ (unless-bad _ _ (told-no-not _ _ (c .before .lists-ok .ensures) (c .if2 .taken))))) }
+returns-2 c = record { of = λ g k m. rw (← long-by _ _ _ _ _ _ g k m) (go-on _ _ _ (unless-good _ _ (told-yes-not _ _ (c .before .before .before .before .sizes-ok .ensures) (c .before .before .before .if1 .left))) (stop _ _ (unless-bad _ _ (told-no-not _ _ (c .before .lists-ok .ensures) (c .if2 .taken))))) }
 
 caps-ok-requires : tie.Need-caps-ok-requires
 caps-ok-requires c κs = search needs
@@ -32,9 +32,9 @@ unfolding txGridCheck
 returns-3 c =
     record {
       of =
-          λ g m.
+          λ g k m.
           rw
-          (← long-by _ _ _ _ _ g m)
+          (← long-by _ _ _ _ _ _ g k m)
           (go-on _ _ _
           (unless-good _ _ (told-yes-not _ _ (c .before .before .before .before .before .before .sizes-ok .ensures) (c .before .before .before .before .before .if1 .left)))
           (go-on _ _ _ (unless-good _ _ (told-yes-not _ _ (c .before .before .before .lists-ok .ensures) (c .before .before .if2 .left))) (stop _ _ (unless-bad _ _ (told-no-not _ _ (c .before .caps-ok .ensures) (c .if3 .taken))))));
@@ -48,9 +48,9 @@ unfolding txGridCheck
 returns-4 c =
     record {
       of =
-          λ g m.
+          λ g k m.
           rw
-          (← long-by _ _ _ _ _ g m)
+          (← long-by _ _ _ _ _ _ g k m)
           (go-on _ _ _
           (unless-good _ _ (told-yes-not _ _ (c .before .before .before .before .before .before .before .sizes-ok .ensures) (c .before .before .before .before .before .before .if1 .left)))
           (go-on _ _ _ (unless-good _ _ (told-yes-not _ _ (c .before .before .before .before .lists-ok .ensures) (c .before .before .before .if2 .left))) (go-on _ _ _ (unless-good _ _ (told-yes-not _ _ (c .before .before .caps-ok .ensures) (c .before .if3 .left))) (c .leaves-ok .ensures))));

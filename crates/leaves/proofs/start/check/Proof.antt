@@ -12,17 +12,17 @@ sizes-ok-requires c κs = search needs
 
 returns : tie.Need-returns
 unfolding recordCheck
-returns c = record { of = λ g m. stop _ _ (unless-bad _ _ (told-no-not _ _ (c .before .sizes-ok .ensures) (c .if1 .taken))) }
+returns c = record { of = λ g k m. stop _ _ (unless-bad _ _ (told-no-not _ _ (c .before .sizes-ok .ensures) (c .if1 .taken))) }
 
-mul-marks-long : tie.Need-mul-marks-long
-mul-marks-long c = tx-cells (c .before .before .before .args .s) (told-yes-not _ _ (c .before .before .sizes-ok .ensures) (c .before .if1 .left))
+mul-lists-long : tie.Need-mul-lists-long
+mul-lists-long c = tx-cells (c .before .before .before .args .s) (told-yes-not _ _ (c .before .before .sizes-ok .ensures) (c .before .if1 .left))
 
-marks-long-requires : tie.Need-marks-long-requires
-marks-long-requires c κs = search needs
+lists-long-requires : tie.Need-lists-long-requires
+lists-long-requires c κs = search needs
 
 returns-2 : tie.Need-returns-2
 unfolding recordCheck
-returns-2 c = record { of = λ g m. rw (← long-by _ _ _ _ _ g m) (go-on _ _ _ (unless-good _ _ (told-yes-not _ _ (c .before .before .before .before .sizes-ok .ensures) (c .before .before .before .if1 .left))) (stop _ _ (unless-bad _ _ (told-no-not _ _ (c .before .marks-long .ensures) (c .if2 .taken))))) }
+returns-2 c = record { of = λ g k m. rw (← long-by _ _ _ _ _ _ g k m) (go-on _ _ _ (unless-good _ _ (told-yes-not _ _ (c .before .before .before .before .sizes-ok .ensures) (c .before .before .before .if1 .left))) (stop _ _ (unless-bad _ _ (told-no-not _ _ (c .before .lists-long .ensures) (c .if2 .taken))))) }
 
 caps-ok-requires : tie.Need-caps-ok-requires
 caps-ok-requires c κs = search needs
@@ -32,12 +32,12 @@ unfolding recordCheck
 returns-3 c =
     record {
       of =
-          λ g m.
+          λ g k m.
           rw
-          (← long-by _ _ _ _ _ g m)
+          (← long-by _ _ _ _ _ _ g k m)
           (go-on _ _ _
           (unless-good _ _ (told-yes-not _ _ (c .before .before .before .before .before .before .sizes-ok .ensures) (c .before .before .before .before .before .if1 .left)))
-          (go-on _ _ _ (unless-good _ _ (told-yes-not _ _ (c .before .before .before .marks-long .ensures) (c .before .before .if2 .left))) (stop _ _ (unless-bad _ _ (told-no-not _ _ (c .before .caps-ok .ensures) (c .if3 .taken))))));
+          (go-on _ _ _ (unless-good _ _ (told-yes-not _ _ (c .before .before .before .lists-long .ensures) (c .before .before .if2 .left))) (stop _ _ (unless-bad _ _ (told-no-not _ _ (c .before .caps-ok .ensures) (c .if3 .taken))))));
     }
 
 leaves-ok-requires : tie.Need-leaves-ok-requires
@@ -48,12 +48,12 @@ unfolding recordCheck
 returns-4 c =
     record {
       of =
-          λ g m.
+          λ g k m.
           rw
-          (← long-by _ _ _ _ _ g m)
+          (← long-by _ _ _ _ _ _ g k m)
           (go-on _ _ _
           (unless-good _ _ (told-yes-not _ _ (c .before .before .before .before .before .before .before .sizes-ok .ensures) (c .before .before .before .before .before .before .if1 .left)))
-          (go-on _ _ _ (unless-good _ _ (told-yes-not _ _ (c .before .before .before .before .marks-long .ensures) (c .before .before .before .if2 .left))) (go-on _ _ _ (unless-good _ _ (told-yes-not _ _ (c .before .before .caps-ok .ensures) (c .before .if3 .left))) (c .leaves-ok .ensures))));
+          (go-on _ _ _ (unless-good _ _ (told-yes-not _ _ (c .before .before .before .before .lists-long .ensures) (c .before .before .before .if2 .left))) (go-on _ _ _ (unless-good _ _ (told-yes-not _ _ (c .before .before .caps-ok .ensures) (c .before .if3 .left))) (c .leaves-ok .ensures))));
     }
 
 pub check-spec : {M : Type 1} → statement M
@@ -62,8 +62,8 @@ check-spec =
     (tie.spec
     sizes-ok-requires
     returns
-    mul-marks-long
-    marks-long-requires
+    mul-lists-long
+    lists-long-requires
     returns-2
     caps-ok-requires
     returns-3

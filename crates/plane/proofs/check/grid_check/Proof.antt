@@ -21,14 +21,14 @@ enum-told : tie.Need-enum-told
 enum-told c = search needs
 
 no-room-requires : tie.Need-no-room-requires
-no-room-requires c κs = readies-by _ _ _ _ (c .before .before .before .before .before .before .before .before .before .pre) (c .before .before .bad-cell .ensures) (search needs)
+no-room-requires c κs = readies-by _ _ _ _ _ (c .before .before .before .before .before .before .before .before .before .before .pre) (c .before .before .bad-cell .ensures) (search needs)
 
 enum-known-narrow : tie.Need-enum-known-narrow
 enum-known-narrow c = search needs
 
 returns-2 : tie.Need-returns-2
 unfolding gridCheck
-returns-2 c = λ q. go-on _ _ _ (found-good-by _ _ _ (c .before .before .before .before .before .before .bad-cell .ensures q _) (search needs)) (stop _ _ (found-bad-by _ _ _ _ (c .before .before .before .no-room .ensures q) (search needs) refl))
+returns-2 c = λ q. go-on _ _ _ (found-good-by _ _ _ (c .before .before .before .before .before .before .bad-cell .ensures q _) (search needs)) (stop _ _ (found-bad-by _ _ _ _ (c .before .before .before .no-room .ensures q _) (search needs) refl))
 
 enum-told-2 : tie.Need-enum-told-2
 enum-told-2 c = search needs
@@ -41,14 +41,14 @@ enum-known-over c = search needs
 
 returns-3 : tie.Need-returns-3
 unfolding gridCheck
-returns-3 c = λ q. go-on _ _ _ (found-good-by _ _ _ (c .before .before .before .before .before .before .before .before .before .bad-cell .ensures q _) (search needs)) (go-on _ _ _ (found-good-by _ _ _ (c .before .before .before .before .before .before .no-room .ensures q) (search needs)) (found-bad-by _ _ _ _ (c .before .before .before .over-plane .ensures) (search needs) refl))
+returns-3 c = λ q. go-on _ _ _ (found-good-by _ _ _ (c .before .before .before .before .before .before .before .before .before .bad-cell .ensures q _) (search needs)) (go-on _ _ _ (found-good-by _ _ _ (c .before .before .before .before .before .before .no-room .ensures q _) (search needs)) (found-bad-by _ _ _ _ (c .before .before .before .over-plane .ensures) (search needs) refl))
 
 enum-told-3 : tie.Need-enum-told-3
 enum-told-3 c = search needs
 
 returns-4 : tie.Need-returns-4
 unfolding gridCheck
-returns-4 c = λ q. go-on _ _ _ (found-good-by _ _ _ (c .before .before .before .before .before .before .before .before .bad-cell .ensures q _) (search needs)) (go-on _ _ _ (found-good-by _ _ _ (c .before .before .before .before .before .no-room .ensures q) (search needs)) (found-good-by _ _ _ (c .before .before .over-plane .ensures) (search needs)))
+returns-4 c = λ q. go-on _ _ _ (found-good-by _ _ _ (c .before .before .before .before .before .before .before .before .bad-cell .ensures q _) (search needs)) (go-on _ _ _ (found-good-by _ _ _ (c .before .before .before .before .before .no-room .ensures q _) (search needs)) (found-good-by _ _ _ (c .before .before .over-plane .ensures) (search needs)))
 
 pub grid-check-spec : {M : Type 1} → statement M
 grid-check-spec =

@@ -13,22 +13,22 @@ use Rattle.plane.proofs.order.run.Statement.{statement}
 use Rattle.plane.proofs.order.run.Tie as tie
 
 abbrev Inv-loop : tie.InvT-loop
-Inv-loop plane₀ buffer₀ vedge hedge sqw sqh qindex table s n done₀ sb₀ plane buffer done sb =
+Inv-loop plane₀ buffer₀ vedge hedge sqw sqh qindex keep table s n done₀ sb₀ plane buffer done sb =
     (sb ≤ n)
-    × Ran s table (λ steps ts. each sb (λ k. turnOf s steps (tiled vedge hedge sqw sqh qindex ts) k)) (state plane₀ buffer₀ none) (state plane buffer done)
+    × Ran s table keep (λ steps ts. each sb (λ k. turnOf s steps (tiled vedge hedge sqw sqh qindex ts) k)) (state plane₀ buffer₀ none) (state plane buffer done)
     × (length plane ≡ length plane₀) × (length buffer ≡ length buffer₀) × Few (sb * 2097152) none done
 
 abbrev μ-loop : tie.MeasureT-loop
-μ-loop plane₀ buffer₀ vedge hedge sqw sqh qindex table s n done₀ sb₀ plane buffer done sb = n - sb
+μ-loop plane₀ buffer₀ vedge hedge sqw sqh qindex keep table s n done₀ sb₀ plane buffer done sb = n - sb
 
 add-n : tie.Need-add-n Inv-loop μ-loop
-add-n c = record { fits = omega (arith, c .before .before .before .before .before .before .before .before .pre .0 .ready .sizes-ok .cols-most, c .before .before .before .before .before .before .before .before .pre .0 .ready .sizes-ok .sbw-most) }
+add-n c = record { fits = omega (arith, c .before .before .before .before .before .before .before .before .before .pre .0 .ready .sizes-ok .cols-most, c .before .before .before .before .before .before .before .before .before .pre .0 .ready .sizes-ok .sbw-most) }
 
 sub-n : tie.Need-sub-n Inv-loop μ-loop
-sub-n c = omega (arith, c .before .before .before .before .before .before .before .before .pre .0 .ready .sizes-ok .some-cols)
+sub-n c = omega (arith, c .before .before .before .before .before .before .before .before .before .pre .0 .ready .sizes-ok .some-cols)
 
 div-n : tie.Need-div-n Inv-loop μ-loop
-div-n c = let some = c .before .before .before .before .before .before .before .before .before .pre .0 .ready .sizes-ok .some-sbw in search needs
+div-n c = let some = c .before .before .before .before .before .before .before .before .before .before .pre .0 .ready .sizes-ok .some-sbw in search needs
 
 loop-holds : tie.Need-loop-holds Inv-loop μ-loop
 loop-holds c = (search needs, ran-none _ _, refl, refl, few-none _ _)
@@ -36,13 +36,13 @@ loop-holds c = (search needs, ran-none _ _, refl, refl, few-none _ _)
 turn-requires : tie.Need-turn-requires Inv-loop μ-loop
 unfolding sbCols
 turn-requires c κs =
-    let given = c .before .before .before .before .before .before .before .before .before .before .before .before .before .pre in
+    let given = c .before .before .before .before .before .before .before .before .before .before .before .before .before .before .pre in
     let turns = c .before .before .before .loop in
     (field-same (turns .inv .2) (given .0), field-same (turns .inv .2) (given .1), search needs, few-most most-none (turns .inv .4) (omega (arith, turns .inv .0, sb-most (given .0 .ready .sizes-ok))))
 
 add-sb : tie.Need-add-sb Inv-loop μ-loop
 unfolding sbCols
-add-sb c = record { fits = omega (arith, sb-most (c .before .before .before .before .before .before .before .before .before .before .before .before .before .before .before .before .before .before .pre .0 .ready .sizes-ok)) }
+add-sb c = record { fits = omega (arith, sb-most (c .before .before .before .before .before .before .before .before .before .before .before .before .before .before .before .before .before .before .before .pre .0 .ready .sizes-ok)) }
 
 loop-less : tie.Need-loop-less Inv-loop μ-loop
 loop-less c = search needs
@@ -54,16 +54,16 @@ loop-again c =
 
 sub-superblock : tie.Need-sub-superblock Inv-loop μ-loop
 unfolding sbCols
-sub-superblock c = omega (arith, sb-some (c .before .before .before .before .before .before .before .before .before .before .before .before .before .pre .0 .ready .sizes-ok))
+sub-superblock c = omega (arith, sb-some (c .before .before .before .before .before .before .before .before .before .before .before .before .before .before .pre .0 .ready .sizes-ok))
 
 superblock-requires : tie.Need-superblock-requires Inv-loop μ-loop
 unfolding sbCols
-superblock-requires c κs = (c .before .before .before .before .before .before .before .before .before .before .before .before .before .pre .0 .ready .sizes-ok, sb-last (c .before .before .before .before .before .before .before .before .before .before .before .before .before .pre .0 .ready .sizes-ok))
+superblock-requires c κs = (c .before .before .before .before .before .before .before .before .before .before .before .before .before .before .pre .0 .ready .sizes-ok, sb-last (c .before .before .before .before .before .before .before .before .before .before .before .before .before .before .pre .0 .ready .sizes-ok))
 
 sweep-requires : tie.Need-sweep-requires Inv-loop μ-loop
 unfolding sbCols
 sweep-requires c κs =
-    let given = c .before .before .before .before .before .before .before .before .before .before .before .before .before .before .pre in
+    let given = c .before .before .before .before .before .before .before .before .before .before .before .before .before .before .before .pre in
     let turns = c .before .before .before .before .loop in
     let last = sb-last (given .0 .ready .sizes-ok) in
     (field-same (turns .inv .2) (given .1), sb-part (given .0 .ready .sizes-ok) _ (c .superblock .ensures) last, omega arith, few-most most-none (turns .inv .4) (omega (arith, turns .inv .0, sb-most (given .0 .ready .sizes-ok))))

@@ -13,13 +13,13 @@ use Rattle.plane.proofs.order.sweep.Statement.{statement}
 use Rattle.plane.proofs.order.sweep.Tie as tie
 
 abbrev Inv-loop : tie.InvT-loop
-Inv-loop plane₀ buffer₀ marks sizes qindex table s dir p n done₀ k₀ plane buffer done k =
+Inv-loop plane₀ buffer₀ marks sizes qindex keep table s dir p n done₀ k₀ plane buffer done k =
     (k ≤ n)
-    × Ran s table (λ steps ts. each k (λ i. lineOf s steps (oneWay marks sizes qindex ts) dir p i)) (state plane₀ buffer₀ done₀) (state plane buffer done)
+    × Ran s table keep (λ steps ts. each k (λ i. lineOf s steps (oneWay marks sizes qindex ts) dir p i)) (state plane₀ buffer₀ done₀) (state plane buffer done)
     × (length plane ≡ length plane₀) × (length buffer ≡ length buffer₀) × Few (k * 1024) done₀ done
 
 abbrev μ-loop : tie.MeasureT-loop
-μ-loop plane₀ buffer₀ marks sizes qindex table s dir p n done₀ k₀ plane buffer done k = n - k
+μ-loop plane₀ buffer₀ marks sizes qindex keep table s dir p n done₀ k₀ plane buffer done k = n - k
 
 by-dir-requires : tie.Need-by-dir-requires Inv-loop μ-loop
 by-dir-requires c κs = search needs
@@ -29,9 +29,9 @@ loop-holds c = (search needs, ran-none _ _, refl, refl, few-none _ _)
 
 line-requires : tie.Need-line-requires Inv-loop μ-loop
 line-requires c κs =
-    let given = c .before .before .before .before .before .before .before .before .before .before .pre in
+    let given = c .before .before .before .before .before .before .before .before .before .before .before .pre in
     let turns = c .before .before .before .loop in
-    let most = lines-most (c .before .before .before .before .before .before .before .before .before .before .args .dir) (given .0 .ready .sizes-ok) (given .1) (c .before .before .before .before .by-dir .ensures) in
+    let most = lines-most (c .before .before .before .before .before .before .before .before .before .before .before .args .dir) (given .0 .ready .sizes-ok) (given .1) (c .before .before .before .before .by-dir .ensures) in
     (field-same (turns .inv .2) (given .0), given .1, given .2, omega (arith, c .before .before .before .before .by-dir .ensures), few-most (given .3) (turns .inv .4) (omega (arith, turns .inv .0)))
 
 add-k : tie.Need-add-k Inv-loop μ-loop
@@ -53,9 +53,9 @@ same-length-2 c = search needs
 
 returns : tie.Need-returns Inv-loop μ-loop
 returns c =
-    let given = c .before .before .before .before .before .before .before .before .pre in
+    let given = c .before .before .before .before .before .before .before .before .before .pre in
     let turns = c .before .loop in
-    let most = lines-most (c .before .before .before .before .before .before .before .before .args .dir) (given .0 .ready .sizes-ok) (given .1) (c .before .before .by-dir .ensures) in
+    let most = lines-most (c .before .before .before .before .before .before .before .before .before .args .dir) (given .0 .ready .sizes-ok) (given .1) (c .before .before .by-dir .ensures) in
     record { ran = sweep-is _ _ _ (turns .inv .1) (c .before .before .by-dir .ensures) (turns .inv .0) (search needs); few = few-same (turns .inv .4) (omega (arith, turns .inv .0)) }
 
 pub sweep-spec : {M : Type 1} → statement M

@@ -8,11 +8,11 @@ use Rattle.plane.proofs.order.turn.Statement.{statement}
 use Rattle.plane.proofs.order.turn.Tie as tie
 
 superblock-requires : tie.Need-superblock-requires
-superblock-requires c κs = (c .before .before .before .before .before .before .before .before .before .pre .0 .ready .sizes-ok, c .before .before .before .before .before .before .before .before .before .pre .2)
+superblock-requires c κs = (c .before .before .before .before .before .before .before .before .before .before .pre .0 .ready .sizes-ok, c .before .before .before .before .before .before .before .before .before .before .pre .2)
 
 sweep-requires : tie.Need-sweep-requires
 sweep-requires c κs =
-    let given = c .before .before .before .before .before .before .before .before .before .before .pre in
+    let given = c .before .before .before .before .before .before .before .before .before .before .before .pre in
     (given .0, sb-part (given .0 .ready .sizes-ok) _ (c .superblock .ensures) (given .2), omega arith, few-most (given .3) (few-none 0 _) (omega arith))
 
 same-length : tie.Need-same-length
@@ -30,11 +30,11 @@ sub-superblock : tie.Need-sub-superblock
 sub-superblock c = search needs
 
 superblock-requires-2 : tie.Need-superblock-requires-2
-superblock-requires-2 c κs = (c .before .before .before .before .before .before .before .before .before .before .before .before .before .before .before .before .before .before .pre .0 .ready .sizes-ok, omega (arith, c .before .before .before .before .before .before .before .before .before .before .before .before .before .before .before .before .before .before .pre .2))
+superblock-requires-2 c κs = (c .before .before .before .before .before .before .before .before .before .before .before .before .before .before .before .before .before .before .before .pre .0 .ready .sizes-ok, omega (arith, c .before .before .before .before .before .before .before .before .before .before .before .before .before .before .before .before .before .before .before .pre .2))
 
 sweep-requires-2 : tie.Need-sweep-requires-2
 sweep-requires-2 c κs =
-    let given = c .before .before .before .before .before .before .before .before .before .before .before .before .before .before .before .before .before .before .before .pre in
+    let given = c .before .before .before .before .before .before .before .before .before .before .before .before .before .before .before .before .before .before .before .before .pre in
     (field-same (search needs) (given .1), sb-part (given .0 .ready .sizes-ok) _ (c .superblock2 .ensures) (omega (arith, given .2)), omega arith, few-most (given .3) (c .before .before .before .before .before .before .before .before .sweep .ensures .few) (omega arith))
 
 same-length-3 : tie.Need-same-length-3

@@ -15,49 +15,50 @@ returns : tie.Need-returns
 returns c = record { ran = visit-none _ _ _ _ _ _ _ (c .before .is-edge .ensures) (c .if1 .taken) _; few = few-none 1 _ }
 
 is-short-requires : tie.Need-is-short-requires
-is-short-requires c κs = (c .before .before .before .before .before .before .before .pre .0 .ready .sizes-ok, c .before .before .before .before .before .before .before .pre .1 .in-cols)
+is-short-requires c κs = (c .before .before .before .before .before .before .before .before .pre .0 .ready .sizes-ok, c .before .before .before .before .before .before .before .before .pre .1 .in-cols)
 
 edge-at-requires : tie.Need-edge-at-requires
 edge-at-requires c κs = search asked
 
 note-requires : tie.Need-note-requires
 note-requires c κs =
-    let given = c .before .before .before .before .before .before .before .before .before .before .pre in
+    let given = c .before .before .before .before .before .before .before .before .before .before .before .pre in
     (in-bytes (given .0 .ready .sizes-ok) (given .1) (given .2) (c .before .edge-at .ensures), given .3 .bytes-most)
 
-mul-filter-edge : tie.Need-mul-filter-edge
-mul-filter-edge c = record { fits = omega (arith, c .before .before .before .before .before .before .before .before .before .before .before .before .before .before .before .pre .0 .ready .sizes-ok .cols-most) }
+mul-filter-marked : tie.Need-mul-filter-marked
+mul-filter-marked c = record { fits = omega (arith, c .before .before .before .before .before .before .before .before .before .before .before .before .before .before .before .before .pre .0 .ready .sizes-ok .cols-most) }
 
-mul-filter-edge-2 : tie.Need-mul-filter-edge-2
-mul-filter-edge-2 c = rows-fit (c .before .before .before .before .before .before .before .before .before .before .before .before .before .before .before .before .pre .0 .ready .sizes-ok)
+mul-filter-marked-2 : tie.Need-mul-filter-marked-2
+mul-filter-marked-2 c = rows-fit (c .before .before .before .before .before .before .before .before .before .before .before .before .before .before .before .before .before .pre .0 .ready .sizes-ok)
 
 top-requires : tie.Need-top-requires
-top-requires c κs = c .before .before .before .before .before .before .before .before .before .before .before .before .before .before .before .before .pre .0 .depth
+top-requires c κs = c .before .before .before .before .before .before .before .before .before .before .before .before .before .before .before .before .before .pre .0 .depth
 
-filter-edge-requires : tie.Need-filter-edge-requires
-filter-edge-requires c κs =
-    let given = c .before .before .before .before .before .before .before .before .before .before .before .before .before .before .before .before .before .pre in
+filter-marked-requires : tie.Need-filter-marked-requires
+filter-marked-requires c κs =
+    let given = c .before .before .before .before .before .before .before .before .before .before .before .before .before .before .before .before .before .before .pre in
     let there = c .before .before .before .before .before .before .before .before .before .before .before .is-edge .ensures in
-    in-plane _ _ _ _ _ _ (given .0) (given .1) (c .before .before .before .before .before .before .before .before .edge-at .ensures) there (c .before .before .before .before .before .before .before .before .before .before .if1 .left)
-
-add-t23 : tie.Need-add-t23
-add-t23 c = record { fits = omega (arith, c .before .before .before .before .before .before .before .before .before .before .before .before .before .before .before .before .before .before .before .before .before .pre .3 .bytes-most) }
+    let left = c .before .before .before .before .before .before .before .before .before .before .if1 .left in
+    (in-plane _ _ _ _ _ _ (given .0) (given .1) (c .before .before .before .before .before .before .before .before .edge-at .ensures) there left, omega (arith, given .0 .ready .sizes-ok .wide))
 
 add-t24 : tie.Need-add-t24
-add-t24 c =
-    let given = c .before .before .before .before .before .before .before .before .before .before .before .before .before .before .before .before .before .before .before .before .before .before .before .pre in
+add-t24 c = record { fits = omega (arith, c .before .before .before .before .before .before .before .before .before .before .before .before .before .before .before .before .before .before .before .before .before .before .pre .3 .bytes-most) }
+
+add-t25 : tie.Need-add-t25
+add-t25 c =
+    let given = c .before .before .before .before .before .before .before .before .before .before .before .before .before .before .before .before .before .before .before .before .before .before .before .before .pre in
     let is = c .before .before .before .before .before .before .before .before .before .before .before .before .before .before .edge-at .ensures in
     let there = c .before .before .before .before .before .before .before .before .before .before .before .before .before .before .before .before .before .is-edge .ensures in
-    let done = c .before .before .before .before .before .filter-edge .ensures in
+    let done = c .before .before .before .before .before .filter-marked .ensures in
     let k = in-plane _ _ _ _ _ _ (given .0) (given .1) is there (c .before .before .before .before .before .before .before .before .before .before .before .before .before .before .before .before .if1 .left) in
     record { fits = omega (arith, given .3 .stored-most, edge-stored k done) }
 
-add-t26 : tie.Need-add-t26
-add-t26 c =
-    let given = c .before .before .before .before .before .before .before .before .before .before .before .before .before .before .before .before .before .before .before .before .before .before .before .before .before .pre in
+add-t27 : tie.Need-add-t27
+add-t27 c =
+    let given = c .before .before .before .before .before .before .before .before .before .before .before .before .before .before .before .before .before .before .before .before .before .before .before .before .before .before .pre in
     let is = c .before .before .before .before .before .before .before .before .before .before .before .before .before .before .before .before .edge-at .ensures in
     let there = c .before .before .before .before .before .before .before .before .before .before .before .before .before .before .before .before .before .before .before .is-edge .ensures in
-    let done = c .before .before .before .before .before .before .before .filter-edge .ensures in
+    let done = c .before .before .before .before .before .before .before .filter-marked .ensures in
     let k = in-plane _ _ _ _ _ _ (given .0) (given .1) is there (c .before .before .before .before .before .before .before .before .before .before .before .before .before .before .before .before .before .before .if1 .left) in
     record { fits = omega (arith, given .3 .changed-most, edge-changed k done) }
 
@@ -69,12 +70,12 @@ same-length-2 c = search visits
 
 returns-2 : tie.Need-returns-2
 returns-2 c =
-    let given = c .before .before .before .before .before .before .before .before .before .before .before .before .before .before .before .before .before .before .before .before .before .before .before .before .before .pre in
+    let given = c .before .before .before .before .before .before .before .before .before .before .before .before .before .before .before .before .before .before .before .before .before .before .before .before .before .before .pre in
     let is = c .before .before .before .before .before .before .before .before .before .before .before .before .before .before .before .before .edge-at .ensures in
     let there = c .before .before .before .before .before .before .before .before .before .before .before .before .before .before .before .before .before .before .before .is-edge .ensures in
     let left = c .before .before .before .before .before .before .before .before .before .before .before .before .before .before .before .before .before .before .if1 .left in
     let k = in-plane _ _ _ _ _ _ (given .0) (given .1) is there left in
-    let done = c .before .before .before .before .before .before .before .filter-edge .ensures in
+    let done = c .before .before .before .before .before .before .before .filter-marked .ensures in
     record {
       ran = visit-edge _ _ _ _ _ _ _ there left is (c .before .before .before .before .before .before .before .before .top .ensures) (c .before .before .before .before .before .before .before .before .before .before .before .before .before .before .note .ensures) done refl;
       few = few-edge (edge-stored k done) (edge-changed k done);
@@ -89,13 +90,13 @@ visit-spec =
     is-short-requires
     edge-at-requires
     note-requires
-    mul-filter-edge
-    mul-filter-edge-2
+    mul-filter-marked
+    mul-filter-marked-2
     top-requires
-    filter-edge-requires
-    add-t23
+    filter-marked-requires
     add-t24
-    add-t26
+    add-t25
+    add-t27
     same-length
     same-length-2
     returns-2)

@@ -39,7 +39,7 @@ loop-again c =
 returns : tie.Need-returns Inv-loop μ-loop
 returns c =
     let turns = c .before .loop in
-    (λ w t q ts. sum-end _ _ _ (turns .inv .2) (turns .inv .1) (search needs) ∙ counted _ _ _ w t q ts, omega (arith, turns .inv .3, turns .inv .1, c .before .before .before .before .pre .sizes-ok .rows-most))
+    (λ w t q ts ks. sum-end _ _ _ (turns .inv .2) (turns .inv .1) (search needs) ∙ counted _ _ _ w t q ts ks, omega (arith, turns .inv .3, turns .inv .1, c .before .before .before .before .pre .sizes-ok .rows-most))
 
 pub edge-count-spec : {M : Type 1} → statement M
 edge-count-spec =

@@ -18,7 +18,7 @@ enum-told : tie.Need-enum-told
 enum-told c = search needs
 
 edge-count-requires : tie.Need-edge-count-requires
-edge-count-requires c κs = marks-by _ _ _ _ _ _ _ _ _ (c .before .before .plane-check .ensures) (search needs)
+edge-count-requires c κs = marks-by _ _ _ _ _ _ _ _ _ _ (c .before .before .plane-check .ensures) (search needs)
 
 mul-if1 : tie.Need-mul-if1
 mul-if1 c = search needs
@@ -27,10 +27,10 @@ add-if1 : tie.Need-add-if1
 add-if1 c = search needs
 
 returns-2 : tie.Need-returns-2
-returns-2 c = room-refused _ _ _ _ _ (c .before .before .before .before .plane-check .ensures) (search needs) (c .before .edge-count .ensures .0 _ _ _ _) (search needs)
+returns-2 c = room-refused _ _ _ _ _ (c .before .before .before .before .plane-check .ensures) (search needs) (c .before .edge-count .ensures .0 _ _ _ _ _) (search needs)
 
 returns-3 : tie.Need-returns-3
-returns-3 c = room-given _ _ _ _ _ (c .before .before .before .before .plane-check .ensures) (search needs) (c .before .edge-count .ensures .0 _ _ _ _) (search needs)
+returns-3 c = room-given _ _ _ _ _ (c .before .before .before .before .plane-check .ensures) (search needs) (c .before .edge-count .ensures .0 _ _ _ _ _) (search needs)
 
 pub record-check-spec : {M : Type 1} → statement M
 record-check-spec =

@@ -10,30 +10,30 @@ use Rattle.replay.proofs.run.run_record.Statement.{statement}
 use Rattle.replay.proofs.run.run_record.Tie as tie
 
 abbrev Inv-loop : tie.InvT-loop
-Inv-loop plane₀ bytes s top n stored₀ changed₀ k₀ plane stored changed k = (k ≤ n) × Ran s (firstEntries bytes k) plane₀ stored changed plane × (length plane ≡ length plane₀)
+Inv-loop plane₀ bytes keep s top n stored₀ changed₀ k₀ plane stored changed k = (k ≤ n) × Ran s keep (firstEntries bytes k) plane₀ stored changed plane × (length plane ≡ length plane₀)
 
 abbrev μ-loop : tie.MeasureT-loop
-μ-loop plane₀ bytes s top n stored₀ changed₀ k₀ plane stored changed k = n - k
+μ-loop plane₀ bytes keep s top n stored₀ changed₀ k₀ plane stored changed k = n - k
 
 count-requires : tie.Need-count-requires Inv-loop μ-loop
-count-requires c κs = c .before .before .pre .ranged .header-there
+count-requires c κs = c .before .before .before .pre .ranged .header-there
 
 loop-holds : tie.Need-loop-holds Inv-loop μ-loop
-loop-holds c = (omega arith, replayed-none (c .before .before .before .args .s) _ _, refl)
+loop-holds c = (omega arith, replayed-none (c .before .before .before .before .args .s) _ _ _, refl)
 
-mul-filter-edge : tie.Need-mul-filter-edge Inv-loop μ-loop
-mul-filter-edge c = omega (arith, c .before .before .before .before .before .before .before .pre .sized .cols-most)
+mul-filter-marked : tie.Need-mul-filter-marked Inv-loop μ-loop
+mul-filter-marked c = omega (arith, c .before .before .before .before .before .before .before .before .pre .sized .cols-most)
 
-mul-filter-edge-2 : tie.Need-mul-filter-edge-2 Inv-loop μ-loop
-mul-filter-edge-2 c = omega (arith, c .before .before .before .before .before .before .before .before .pre .sized .rows-most)
+mul-filter-marked-2 : tie.Need-mul-filter-marked-2 Inv-loop μ-loop
+mul-filter-marked-2 c = omega (arith, c .before .before .before .before .before .before .before .before .before .pre .sized .rows-most)
 
 entry-requires : tie.Need-entry-requires Inv-loop μ-loop
 entry-requires c κs = let e = c .before .before .before .before .before .count .ensures in omega arith
 
-filter-edge-requires : tie.Need-filter-edge-requires Inv-loop μ-loop
-filter-edge-requires c κs =
+filter-marked-requires : tie.Need-filter-marked-requires Inv-loop μ-loop
+filter-marked-requires c κs =
     let e = c .before .before .before .before .before .before .count .ensures in
-    entry-runs _ _ (omega arith) (c .entry .ensures .0) (runnable-same (c .before .before .before .before .before .loop .inv .2) (c .before .before .before .before .before .before .before .before .before .pre))
+    (entry-runs _ _ (omega arith) (c .entry .ensures .0) (runnable-same (c .before .before .before .before .before .loop .inv .2) (c .before .before .before .before .before .before .before .before .before .before .pre)), omega (arith, c .before .before .before .before .before .before .before .before .before .before .pre .sized .row))
 
 wrapping-add-usize-requires : tie.Need-wrapping-add-usize-requires Inv-loop μ-loop
 wrapping-add-usize-requires c κs = search needs
@@ -49,16 +49,21 @@ loop-less c = omega arith
 
 loop-again : tie.Need-loop-again Inv-loop μ-loop
 loop-again c =
-    let start = c .before .before .before .before .before .before .before .before .before .before .before .before .before .before in
+    let start = c .before .before .before .before .before .before .before .before .before .before .before .before .before .before .before .args in
     let turns = c .before .before .before .before .before .before .before .before .before .before .loop in
-    let more = c .before .wrapping-add-usize .ensures in
-    (omega arith, replayed-more (start .args .s) _ _ _ (turns .inv .1) (c .before .before .before .before .before .entry .ensures .0) (start .pre .top-is) (c .before .before .before .before .filter-edge .ensures) more (c .wrapping-add-usize2 .ensures), search needs)
+    let its-entry = c .before .before .before .before .before .entry in
+    let given = c .before .before .before .before .before .before .before .before .before .before .before .before .before .before .before .pre in
+    let its-filter-marked = c .before .before .before .before .filter-marked in
+    let its-wrapping-add-usize = c .before .wrapping-add-usize in
+    let its-wrapping-add-usize2 = c .wrapping-add-usize2 in
+    let test = c .before .before .before .before .before .before .before .before .before .loop-test in
+    (omega (arith, test .taken), replayed-more (start .s) _ _ _ _ (turns .inv .1) (its-entry .ensures .0) (given .top-is) (its-filter-marked .ensures) (its-wrapping-add-usize .ensures) (its-wrapping-add-usize2 .ensures), search needs)
 
 same-length : tie.Need-same-length Inv-loop μ-loop
 same-length c = search needs
 
 returns : tie.Need-returns Inv-loop μ-loop
-returns c = replayed-end _ _ _ _ _ (c .before .loop .inv .1) (c .before .before .count .ensures) (c .before .loop .inv .0) (omega arith)
+returns c = replayed-end _ _ _ _ _ _ (c .before .loop .inv .1) (c .before .before .count .ensures) (c .before .loop .inv .0) (omega arith)
 
 pub run-record-spec : {M : Type 1} → statement M
 run-record-spec =
@@ -68,10 +73,10 @@ run-record-spec =
     μ-loop
     count-requires
     loop-holds
-    mul-filter-edge
-    mul-filter-edge-2
+    mul-filter-marked
+    mul-filter-marked-2
     entry-requires
-    filter-edge-requires
+    filter-marked-requires
     wrapping-add-usize-requires
     wrapping-add-usize-requires-2
     add-k

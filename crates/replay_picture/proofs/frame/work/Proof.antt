@@ -37,7 +37,7 @@ pack-requires : tie.Need-pack-requires
 pack-requires c κs = search needs
 
 save-requires : tie.Need-save-requires
-save-requires c κs = c .before .before .before .before .before .before .before .before .before .before .before .before .before .before .before .before .before .before .before .before .before .before .before .before .before .before .before .before .before .before .before .before .before .before .before .before .before .before .before .before .before .before .pre .0
+save-requires c κs = c .before .before .before .before .before .before .before .before .before .before .before .before .before .before .before .before .before .before .before .before .before .before .before .before .before .before .before .before .before .before .before .before .before .before .before .before .before .before .before .before .before .before .before .before .pre .0
 
 same-length-7 : tie.Need-same-length-7
 same-length-7 c = search needs

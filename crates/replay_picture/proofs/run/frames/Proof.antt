@@ -7,11 +7,11 @@ use Rattle.replay_picture.proofs.run.frames.Statement.{statement}
 use Rattle.replay_picture.proofs.run.frames.Tie as tie
 
 abbrev Inv-loop : tie.InvT-loop
-Inv-loop y₀ u₀ v₀ bytes at name head j shown k₀ y u v k =
+Inv-loop y₀ u₀ v₀ bytes at keep chromakeep name head j shown k₀ y u v k =
     (k ≤ 18446744073709551615) × (length y ≡ length y₀) × (length u ≡ length u₀) × (length v ≡ length v₀)
 
 abbrev μ-loop : tie.MeasureT-loop
-μ-loop y₀ u₀ v₀ bytes at name head j shown k₀ y u v k = 18446744073709551615 - k
+μ-loop y₀ u₀ v₀ bytes at keep chromakeep name head j shown k₀ y u v k = 18446744073709551615 - k
 
 isatty-requires : tie.Need-isatty-requires Inv-loop μ-loop
 isatty-requires c κs = search needs
@@ -23,7 +23,7 @@ count-requires : tie.Need-count-requires Inv-loop μ-loop
 count-requires c κs = tt
 
 next-requires : tie.Need-next-requires Inv-loop μ-loop
-next-requires c κs = c .before .before .before .before .before .before .before .before .before .before .before .before .before .pre
+next-requires c κs = c .before .before .before .before .before .before .before .before .before .before .before .before .before .before .before .pre
 
 closed-requires : tie.Need-closed-requires Inv-loop μ-loop
 closed-requires c κs = tt

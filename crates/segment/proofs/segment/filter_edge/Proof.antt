@@ -1,5 +1,5 @@
 -- Nothing by a threshold of 0; else the edge by its offsets, in either direction.
-use mathlib.Core.Path.{_∙_}
+use mathlib.Core.Path.{refl, _∙_}
 use native.Mathlib.Omega.{arith}
 use borrow.Author.Needs.{needs}
 use Rattle.segment.proofs.Edges.{fit-of, at-below, place-vertical, place-horizontal, edge-filtered}
@@ -11,7 +11,7 @@ off-requires : tie.Need-off-requires
 off-requires c κs = search needs
 
 returns : tie.Need-returns
-returns c = edge-none _ _ (c .before .off .ensures) _ _ (c .if1 .taken)
+returns c = edge-none _ _ (c .before .off .ensures) _ _ _ (c .if1 .taken)
 
 upright-requires : tie.Need-upright-requires
 upright-requires c κs = omega (arith, at-below (c .before .before .before .before .before .before .pre))
@@ -25,7 +25,7 @@ same-length : tie.Need-same-length
 same-length c = search needs
 
 returns-2 : tie.Need-returns-2
-returns-2 c = edge-filtered _ _ _ (c .before .before .before .upright .ensures ∙ place-vertical _ _ (c .before .before .before .before .before .if2 .taken)) (c .before .before .filter-segment .ensures)
+returns-2 c = edge-filtered _ _ _ _ (c .before .before .before .upright .ensures ∙ place-vertical _ _ (c .before .before .before .before .before .if2 .taken)) (c .before .before .filter-segment .ensures .0 refl)
 
 level-requires : tie.Need-level-requires
 level-requires c κs = omega (arith, at-below (c .before .before .before .before .before .before .pre))
@@ -39,7 +39,7 @@ same-length-2 : tie.Need-same-length-2
 same-length-2 c = search needs
 
 returns-3 : tie.Need-returns-3
-returns-3 c = edge-filtered _ _ _ (c .before .before .before .level .ensures ∙ place-horizontal _ _ (c .before .before .before .before .before .if2 .left)) (c .before .before .filter-segment2 .ensures)
+returns-3 c = edge-filtered _ _ _ _ (c .before .before .before .level .ensures ∙ place-horizontal _ _ (c .before .before .before .before .before .if2 .left)) (c .before .before .filter-segment2 .ensures .0 refl)
 
 pub filter-edge-spec : {M : Type 1} → statement M
 filter-edge-spec =

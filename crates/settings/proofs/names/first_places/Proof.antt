@@ -9,10 +9,10 @@ use Rattle.settings.proofs.names.first_places.Statement.{statement}
 use Rattle.settings.proofs.names.first_places.Tie as tie
 
 abbrev Inv-loop : tie.InvT-loop
-Inv-loop n places₀ kind₀ places kind = (kind ≤ 23) × (length places₀ ≡ 23) × (length places ≡ 23) × (places ≡ filled places₀ (fromOf n) kind)
+Inv-loop n places₀ kind₀ places kind = (kind ≤ 24) × (length places₀ ≡ 24) × (length places ≡ 24) × (places ≡ filled places₀ (fromOf n) kind)
 
 abbrev μ-loop : tie.MeasureT-loop
-μ-loop n places₀ kind₀ places kind = 23 - kind
+μ-loop n places₀ kind₀ places kind = 24 - kind
 
 loop-holds : tie.Need-loop-holds Inv-loop μ-loop
 loop-holds c = (search needs, search needs, search needs, filled-none _ _)

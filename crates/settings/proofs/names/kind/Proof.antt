@@ -96,8 +96,13 @@ returns-22 c = (rw (c .match .keys22), search needs)
 
 returns-23 : tie.Need-returns-23
 unfolding kindOf pick
-returns-23 c = (
+returns-23 c = (rw (c .match .keys23), search needs)
+
+returns-24 : tie.Need-returns-24
+unfolding kindOf pick
+returns-24 c = (
   rw (
+    ne-eqb _ _ (c .match .rest .0 .0 .0 .0 .0 .0 .0 .0 .0 .0 .0 .0 .0 .0 .0 .0 .0 .0 .0 .0 .0 .0 .1),
     ne-eqb _ _ (c .match .rest .0 .0 .0 .0 .0 .0 .0 .0 .0 .0 .0 .0 .0 .0 .0 .0 .0 .0 .0 .0 .0 .1),
     ne-eqb _ _ (c .match .rest .0 .0 .0 .0 .0 .0 .0 .0 .0 .0 .0 .0 .0 .0 .0 .0 .0 .0 .0 .0 .1),
     ne-eqb _ _ (c .match .rest .0 .0 .0 .0 .0 .0 .0 .0 .0 .0 .0 .0 .0 .0 .0 .0 .0 .0 .0 .1),
@@ -150,4 +155,5 @@ kind-spec =
     returns-20
     returns-21
     returns-22
-    returns-23)
+    returns-23
+    returns-24)

@@ -1,7 +1,7 @@
 -- `rule_of` tells the kinds from all other numbers. Assumes nothing.
 use borrow.Author.Tests.{ne-eqb}
 use Rattle.laws.specs.Choose.{pick}
-use Rattle.settings.specs.Rules.{tilesFrom, ruleOf}
+use Rattle.settings.specs.Rules.{tilesFrom, keepsFrom, ruleOf}
 use borrow.Author.Needs.{needs}
 use Rattle.settings.proofs.names.rule_of.Statement.{statement}
 use Rattle.settings.proofs.names.rule_of.Tie as tie
@@ -20,6 +20,9 @@ add-tiles c = search needs
 
 add-chromatiles : tie.Need-add-chromatiles
 add-chromatiles c = search needs
+
+add-keeps : tie.Need-add-keeps
+add-keeps c = search needs
 
 put-requires : tie.Need-put-requires
 put-requires c κs = search needs
@@ -84,14 +87,17 @@ put-requires-20 c κs = search needs
 put-requires-21 : tie.Need-put-requires-21
 put-requires-21 c κs = search needs
 
-add-put : tie.Need-add-put
-add-put c = search needs
-
 put-requires-22 : tie.Need-put-requires-22
 put-requires-22 c κs = search needs
 
+add-put : tie.Need-add-put
+add-put c = search needs
+
 put-requires-23 : tie.Need-put-requires-23
 put-requires-23 c κs = search needs
+
+put-requires-24 : tie.Need-put-requires-24
+put-requires-24 c κs = search needs
 
 returns : tie.Need-returns
 unfolding ruleOf pick
@@ -182,9 +188,14 @@ unfolding ruleOf tilesFrom pick
 returns-22 c = rw (c .before .match .keys22) (cc)
 
 returns-23 : tie.Need-returns-23
+unfolding ruleOf keepsFrom tilesFrom pick
+returns-23 c = rw (c .before .match .keys23) (cc)
+
+returns-24 : tie.Need-returns-24
 unfolding ruleOf pick
-returns-23 c =
+returns-24 c =
     rw (
+      ne-eqb _ _ (c .before .match .rest .0 .0 .0 .0 .0 .0 .0 .0 .0 .0 .0 .0 .0 .0 .0 .0 .0 .0 .0 .0 .0 .0 .1),
       ne-eqb _ _ (c .before .match .rest .0 .0 .0 .0 .0 .0 .0 .0 .0 .0 .0 .0 .0 .0 .0 .0 .0 .0 .0 .0 .0 .1),
       ne-eqb _ _ (c .before .match .rest .0 .0 .0 .0 .0 .0 .0 .0 .0 .0 .0 .0 .0 .0 .0 .0 .0 .0 .0 .0 .1),
       ne-eqb _ _ (c .before .match .rest .0 .0 .0 .0 .0 .0 .0 .0 .0 .0 .0 .0 .0 .0 .0 .0 .0 .0 .0 .1),
@@ -219,6 +230,7 @@ rule-of-spec =
     add-skips
     add-tiles
     add-chromatiles
+    add-keeps
     put-requires
     put-requires-2
     put-requires-3
@@ -240,9 +252,10 @@ rule-of-spec =
     put-requires-19
     put-requires-20
     put-requires-21
-    add-put
     put-requires-22
+    add-put
     put-requires-23
+    put-requires-24
     returns
     returns-2
     returns-3
@@ -265,4 +278,5 @@ rule-of-spec =
     returns-20
     returns-21
     returns-22
-    returns-23)
+    returns-23
+    returns-24)

@@ -1,11 +1,11 @@
--- `lists_ok` tests the four lists, then both lists of leaves. Assumes nothing.
+-- `lists_ok` tests the five lists, then both lists of leaves. Assumes nothing.
 use borrow.Author.Needs.{needs}
 use Rattle.laws.specs.Choose.{tests}
 use Rattle.tiles.proofs.checks.lists_ok.Statement.{statement}
 use Rattle.tiles.proofs.checks.lists_ok.Tie as tie
 
-marks-long-requires : tie.Need-marks-long-requires
-marks-long-requires c κs = search needs
+lists-long-requires : tie.Need-lists-long-requires
+lists-long-requires c κs = search needs
 
 returns : tie.Need-returns
 returns c = search tests
@@ -25,4 +25,4 @@ returns-3 c = search tests
 pub lists-ok-spec : {M : Type 1} → statement M
 lists-ok-spec =
     tie.close
-    (tie.spec marks-long-requires returns fours-requires returns-2 fours-requires-2 returns-3)
+    (tie.spec lists-long-requires returns fours-requires returns-2 fours-requires-2 returns-3)

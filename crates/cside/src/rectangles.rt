@@ -1,0 +1,17 @@
+// Keep marks over a rectangle of cells for C: the answer as a number, with the place of a refusal.
+use answers::told;
+use entries::rectangles::mark;
+ghost use Rattle.entries.specs.Rectangles.{RectangleTold};
+
+// 0, or minus the refusal number with its place in the first entry of `place`.
+#[no_mangle]
+pub extern "C" fn bihargesh_keep_rectangle(
+    keep: &mut [u8],
+    settings: &[i32],
+    place: &mut [usize],
+) -> i32
+    ensures { λ r. ⌜ RectangleTold (now (settings .entry)) (now (keep .entry)) (now (place .entry)) r (now (keep .exit)) (now (place .exit)) ⌝ }
+{
+    let a = mark(keep, settings);
+    told(a, place)
+}
