@@ -1,5 +1,7 @@
 -- A word as one number, and where it ends; how many words there are. Assumes nothing.
 use Prim.Native.Nat.{ℕ, zero, suc, _+_, _-_, _*_}
+use Prim.Native.Char.{code}
+use Prim.Native.String.{String, [], _∷_}
 use mathlib.Core.List.{List}
 use mathlib.Core.Bool.{Bool, not}
 use lib.ListN.{getD}
@@ -8,6 +10,14 @@ use Rattle.laws.specs.Choose.{pick, both}
 use Rattle.laws.specs.Sums.{sum}
 use Rattle.words.specs.declared.spell.Word.{Word}
 use Rattle.words.specs.Places.{blankOf}
+
+-- a name as the number that is read of it: its letters, the first one highest, after a value read so far
+abbrev pub spelledOn : ℕ → String → ℕ
+spelledOn value [] = value
+spelledOn value (c ∷ s) = spelledOn (256 * value + code c) s
+
+abbrev pub spelled : String → ℕ
+spelled s = spelledOn 0 s
 
 -- a byte is above the space, and the value so far has at most seven letters
 unfoldable pub goesOn : ℕ → ℕ → Bool

@@ -1,5 +1,6 @@
 -- What a header line says: its first word, and the values after W, H and C. Assumes nothing.
 use Prim.Native.Nat.{ℕ, _+_, _-_}
+use Prim.Native.Char.{code}
 use mathlib.Core.List.{List}
 use mathlib.Core.Bool.{Bool, true}
 use lib.ListN.{getD}
@@ -8,7 +9,7 @@ use Rattle.laws.specs.Choose.{pick, both}
 use Rattle.cases.specs.Numbers.{numberAt}
 use Rattle.cases.specs.Typed.{unsignedOf}
 use Rattle.words.specs.Places.{seek}
-use Rattle.words.specs.Words.{wordAt}
+use Rattle.words.specs.Words.{wordAt, spelled}
 use Rattle.y4m.specs.Formats.{formatAt}
 use Rattle.y4m.specs.declared.header.Header.{Header}
 
@@ -22,19 +23,19 @@ sizeAt xs at end =
     pick (leb end at) 0
     (pick (ltb (getD xs at 0) 48) 0 (unsignedOf 4096 (numberAt xs (record { at = at; end = end; good = true })) .value))
 
--- YUV4MPEG2
+-- its first word
 unfoldable pub opensAt : List ℕ → ℕ → Bool
-opensAt xs end = both (eqb (getD xs 0 0) 89) (eqb (wordAt xs 1 end .value) 6149159847884834610)
+opensAt xs end = both (eqb (getD xs 0 0) (code "Y")) (eqb (wordAt xs 1 end .value) (spelled "UV4MPEG2"))
 
--- FRAME
+-- the line before a frame's samples
 unfoldable pub framesAt : List ℕ → ℕ → Bool
-framesAt xs end = eqb (wordAt xs 0 end .value) 302027722053
+framesAt xs end = eqb (wordAt xs 0 end .value) (spelled "FRAME")
 
 unfoldable pub headerOf : List ℕ → ℕ → Header
 headerOf xs end =
     record {
       opens = opensAt xs end;
-      width = sizeAt xs (seek (tagAt xs 87) 0 (end - 1) + 2) end;
-      height = sizeAt xs (seek (tagAt xs 72) 0 (end - 1) + 2) end;
-      layout = formatAt xs (seek (tagAt xs 67) 0 (end - 1)) end;
+      width = sizeAt xs (seek (tagAt xs (code "W")) 0 (end - 1) + 2) end;
+      height = sizeAt xs (seek (tagAt xs (code "H")) 0 (end - 1) + 2) end;
+      layout = formatAt xs (seek (tagAt xs (code "C")) 0 (end - 1)) end;
     }
