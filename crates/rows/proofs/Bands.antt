@@ -1,13 +1,14 @@
 -- The edges of a call: what its two sweeps ask and leave.
 -- Assumes nothing.
-use mathlib.Core.Path.{_≡_, refl, _∙_}
+use mathlib.Core.Path.{_≡_, refl, sym, _∙_}
 use mathlib.Core.List.{List}
 use Prim.Native.Nat.{ℕ, _+_, _*_, _-_, _≤_, _<_}
 use native.Mathlib.Nat.{le-refl}
+use native.Mathlib.Decide.{decLe}
 use native.Mathlib.Omega.{arith}
 use lib.Dec.{leb}
 use lib.ListN.{length, take}
-use Rattle.laws.specs.Choose.{pick, not-le, pick-no}
+use Rattle.laws.specs.Choose.{pick, is-le, not-le, pick-yes, pick-no}
 use Rattle.laws.specs.Lists.{Each, each-append}
 use Rattle.laws.specs.Trace.{run-then}
 use Rattle.rules.specs.declared.edge.Edge.{Edge}
@@ -40,9 +41,23 @@ module _ (rows a : ℕ) where
   pub ready-none : a < rows → a ≡ 0 → 0 ≡ ready rows a
   ready-none h e = omega (arith, ready-part rows a h)
 
-  pub final-none : a < 4 * rows → a < 12 → 0 ≡ finalOf rows a
+  -- all rows at full height, and else all but the last twelve
+  pub final-full : 4 * rows ≤ a → finalOf rows a ≡ 4 * rows
   unfolding finalOf
-  final-none h k = pick-no (leb (4 * rows) a) (4 * rows) (a - 12) 0 (not-le (4 * rows) a h) (omega arith)
+  final-full h = sym (pick-yes (leb (4 * rows) a) (4 * rows) (a - 12) _ (is-le (4 * rows) a h) refl)
+
+  pub final-part : a < 4 * rows → finalOf rows a ≡ a - 12
+  unfolding finalOf
+  final-part h = sym (pick-no (leb (4 * rows) a) (4 * rows) (a - 12) _ (not-le (4 * rows) a h) refl)
+
+  pub final-none : a < 4 * rows → a < 12 → 0 ≡ finalOf rows a
+  final-none h k = omega (arith, final-part h)
+
+  pub final-in : finalOf rows a ≤ 4 * rows
+  final-in = elim (decLe (4 * rows) a) [
+    | yes h ↦ omega (arith, final-full h)
+    | no h ↦ omega (arith, final-part (omega arith))
+  ]
 
 -- the horizontal edges that are done grow with the rows that are filled, and are never more than the plane has
 pub ready-goes : {rows h a from upto : ℕ} → h ≤ a → a ≤ rows → from ≡ ready rows h → upto ≡ ready rows a → (from ≤ upto) × (upto ≤ rows)

@@ -7,9 +7,9 @@ use Prim.Native.Nat.{ℕ, _+_, _*_, _-_, _/_, _%_, _≤_, _<_}
 use native.Mathlib.Nat.{div-add-mod'}
 use native.Mathlib.Decide.{decLe}
 use native.Mathlib.Omega.{arith}
-use lib.Dec.{eqb, leb}
+use lib.Dec.{eqb}
 use lib.ListN.{getD}
-use Rattle.laws.specs.Choose.{pick, is-le, not-le, pick-yes, pick-no}
+use Rattle.laws.specs.Choose.{pick}
 use Rattle.laws.specs.Loops.{each}
 use Rattle.laws.specs.Lists.{Each, each-map, each-both, each-append, each-loop}
 use Rattle.laws.specs.Footprints.{Agree}
@@ -29,7 +29,7 @@ use Rattle.plane.specs.Checked.{Checked}
 use Rattle.plane.proofs.Everywhere.{both-clear, sweep-inside}
 use Rattle.orders.proofs.Plain.{Stands, visit-stands}
 use Rattle.orders.proofs.Bands.{ready-full, ready-part, vert-below, horz-below}
-use Rattle.rows.proofs.Bands.{ready-goes}
+use Rattle.rows.proofs.Bands.{ready-goes, final-full, final-part}
 use Rattle.rows_promises.specs.Calls.{SameRows}
 use Rattle.rows_promises.proofs.Agree.{Within}
 
@@ -51,15 +51,6 @@ rows-agree s from upto l m wide g = record {
 }
 
 -- ---- how many rows are final
-
-module _ (rows n : ℕ) where
-  pub final-full : 4 * rows ≤ n → finalOf rows n ≡ 4 * rows
-  unfolding finalOf
-  final-full h = sym (pick-yes (leb (4 * rows) n) (4 * rows) (n - 12) _ (is-le (4 * rows) n h) refl)
-
-  pub final-part : n < 4 * rows → finalOf rows n ≡ n - 12
-  unfolding finalOf
-  final-part h = sym (pick-no (leb (4 * rows) n) (4 * rows) (n - 12) _ (not-le (4 * rows) n h) refl)
 
 pub final-up : (rows m n : ℕ) → m ≤ n → finalOf rows m ≤ finalOf rows n
 final-up rows m n h = elim (decLe (4 * rows) m) [
