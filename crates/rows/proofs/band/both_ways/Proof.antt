@@ -43,7 +43,8 @@ same-length c = search needs
 
 returns : tie.Need-returns
 returns c = λ steps ts of.
-    ran-band _ _ _ _ _ _ _ of _ _ _ _ (c .before .before .before .before .before .before .before .before .before .before .before .before .before .ready-rows .ensures) (c .before .before .before .before .before .before .before .before .before .before .before .before .ready-rows2 .ensures) _ (c .before .before .before .before .before .before .before .before .before .sweep .ensures .ran) (c .before .before .before .sweep2 .ensures .ran)
+    ran-band _ _ _ _ _ _ _ of _ _ _ _ (c .before .before .before .before .before .before .before .before .before .before .before .before .before .ready-rows .ensures) (c .before .before .before .before .before .before .before .before .before .before .before .before .ready-rows2 .ensures)
+    _ (c .before .before .before .before .before .before .before .before .before .sweep .ensures .ran) (c .before .before .before .sweep2 .ensures .ran)
 
 pub both-ways-spec : {M : Type 1} → statement M
 both-ways-spec =
