@@ -96,7 +96,9 @@ a leaf is bad
 the record's buffer is too short
 this is no record of edges, or one of another version
 the record's last entry is cut
-an entry of the record is outside its ranges",
+an entry of the record is outside its ranges
+a count of filled rows exceeds the plane, is no multiple of 4 or is below the last
+the state is spent",
         n,
     );
 }
