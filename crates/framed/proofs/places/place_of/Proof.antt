@@ -15,7 +15,7 @@ enum-known-r-2 c = search needs
 
 room-at-requires : tie.Need-room-at-requires
 room-at-requires c κs =
-    let s0 = c .before .before .before .before .before .before .before .before .before .before .before .before in
+    let s0 = c .before .before .before .before .before .before .before .before .before .before in
     s0 .pre _ (c .before .r2 .given .1)
 
 enum-known-r-3 : tie.Need-enum-known-r-3
