@@ -62,6 +62,15 @@ module _ (settings : List ℤ) (st : List ℕ) where
 
 -- ---- the state that is left
 
+module _ (t : RowState) (st : List ℕ) where
+  pub held-spent : t .spent ≡ true → set (set st 0 (t .held)) 1 1 ≡ heldBy t st
+  unfolding heldBy pick
+  held-spent e = sym (ap (λ (b : Bool). pick b (set (set st 0 (t .held)) 1 1) (set st 0 (t .held))) e)
+
+  pub held-unspent : t .spent ≡ false → set st 0 (t .held) ≡ heldBy t st
+  unfolding heldBy pick
+  held-unspent e = sym (ap (λ (b : Bool). pick b (set (set st 0 (t .held)) 1 1) (set st 0 (t .held))) e)
+
 -- an answer spends the state
 abbrev spends : Answer → Bool
 spends Accepted = false
