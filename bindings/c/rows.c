@@ -56,24 +56,28 @@ int main(void) {
     if (last != (cuts[c] == HEIGHT ? HEIGHT : cuts[c] < 12 ? 0 : (int32_t)cuts[c] - 12)) return 1;
     if (state[BIHARGESH_ROWS_HELD] != cuts[c] || state[BIHARGESH_ROWS_SPENT] != 0) return 1;
     if (memcmp(plane, whole, (size_t)last * STRIDE * sizeof *plane) != 0) return 1;
+    for (size_t k = cuts[c] * STRIDE; k < SAMPLES; k++)
+      if (plane[k] != 65535) return 1;
     from = cuts[c], sums[0] += here[0], sums[1] += here[1];
   }
   printf(" %zu samples stored, %zu of them changed\n", sums[0], sums[1]);
   if (memcmp(plane, whole, sizeof plane) != 0 || sums[0] != counts[0] || sums[1] != counts[1] || sums[1] == 0) return 1;
 
   /* bad counts leave the state; so does a state that is too short to be read */
-  size_t some[BIHARGESH_ROWS_STATE] = {8, 0}, one[1] = {0};
+  size_t some[BIHARGESH_ROWS_STATE] = {8, 0}, one[1] = {8};
   if (!refused("no multiple of 4", BIHARGESH_BAD_ROWS, 0, 10, some, 2) || !refused("beyond the plane", BIHARGESH_BAD_ROWS, 0, HEIGHT + 4, some, 2) ||
       !refused("below the held", BIHARGESH_BAD_ROWS, 0, 4, some, 2) || some[0] != 8 || some[1] != 0)
     return 1;
-  if (!refused("a short state", BIHARGESH_BAD_LENGTH, 0, 4, one, 1) || !refused("no state", BIHARGESH_BAD_LENGTH, 0, 4, NULL, 0) || one[0] != 0) return 1;
+  if (!refused("a short state", BIHARGESH_BAD_LENGTH, 0, 4, one, 1) || !refused("no state", BIHARGESH_BAD_LENGTH, 0, 4, NULL, 0) || one[0] != 8) return 1;
 
   /* a bad sample in the new rows spends the state, and each further call is refused, whatever it is told */
   memcpy(plane, picture, sizeof plane);
   plane[9 * STRIDE + 5] = 256;
   if (!refused("a bad sample", BIHARGESH_BAD_SAMPLE, 9 * STRIDE + 5, 12, some, 2) || some[0] != 8 || some[1] != 1) return 1;
   plane[9 * STRIDE + 5] = 100;
-  if (!refused("a spent state", BIHARGESH_SPENT_STATE, 0, 12, some, 2) || !refused("a spent state, a bad count", BIHARGESH_SPENT_STATE, 0, 3, some, 2)) return 1;
+  if (!refused("a spent state", BIHARGESH_SPENT_STATE, 0, 12, some, 2) || !refused("a spent state, a bad count", BIHARGESH_SPENT_STATE, 0, 3, some, 2) ||
+      some[0] != 8 || some[1] != 1)
+    return 1;
   some[1] = 7;
   return !refused("spent where it isn't 0", BIHARGESH_SPENT_STATE, 0, 12, some, 2) || some[0] != 8 || some[1] != 7;
 }

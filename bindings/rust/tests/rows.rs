@@ -5,12 +5,23 @@ mod drawn;
 use bihargesh::{deblock_plane, deblock_rows, Counts, Reason, Refusal, RowState};
 use drawn::{Case, Random};
 
-/// A cutting of so many rows: counts that rise or stay, in fours, up to full height.
+/// A cutting of so many rows of cells: counts that rise or stay, in fours, up to full height. One row of cells after the other, all at once, or any; now and then a count
+/// stands there twice, full height too.
 fn cutting(r: &mut Random, rows: usize) -> Vec<usize> {
-    let mut cuts: Vec<usize> = (0..r.below(6)).map(|_| 4 * r.below(rows as u64 + 1) as usize).collect();
+    let mut cuts: Vec<usize> = match r.below(6) {
+        0 => (1..rows).collect(),
+        1 => Vec::new(),
+        _ => (0..r.below(6)).map(|_| r.below(rows as u64 + 1) as usize).collect(),
+    };
+    cuts.push(rows);
+    if r.below(3) == 0 {
+        cuts.push(r.one_of(&cuts));
+    }
+    if r.below(4) == 0 {
+        cuts.push(rows);
+    }
     cuts.sort();
-    cuts.push(4 * rows);
-    cuts
+    cuts.iter().map(|cut| 4 * cut).collect()
 }
 
 /// Sends a plane row by row: what lies below the filled rows is rubbish. The plane and the summed counts, or the refusal with the state and the count that met it.
@@ -70,6 +81,36 @@ fn as_the_whole_plane() {
     }
     println!("Rust, rows: {accepted} planes accepted, {changed} samples changed; refused by 1..8: {:?}", &refused[1..9]);
     assert!(accepted > 1000 && changed > 10_000 && refused[8] > 10, "too little was filtered or refused");
+}
+
+/// A bad sample in any row: the calls before its own are accepted, its own is refused by 8, and each further one by 15, whatever it is told; state and plane stay then.
+#[test]
+fn spent_by_a_bad_sample() {
+    let mut r = Random(20_261_119);
+    let (mut met, steps) = ([0; 4], bihargesh::steps());
+    for _ in 0..2000 {
+        let mut case = Case::drawn(&mut r);
+        if case.run(deblock_plane).0.is_err() {
+            continue;
+        }
+        let (rows, stride) = (4 * case.settings.rows as usize, case.settings.stride as usize);
+        let (row, column) = (r.below(rows as u64) as usize, r.below(4 * case.settings.cols as u64) as usize);
+        let good = case.plane.clone();
+        case.plane[row * stride + column] = r.one_of(&[1 << case.settings.depth, 65535]);
+        let cuts = cutting(&mut r, rows / 4);
+        let before = cuts.iter().filter(|&&filled| filled <= row).count();
+        let (refusal, state, held) = sent(&case, &cuts, &mut r).expect_err("a bad sample");
+        assert_eq!((refusal.reason, refusal.place), (Reason::Sample, row * stride + column));
+        assert_eq!((state, held), (RowState { held, spent: true }, before.checked_sub(1).map_or(0, |last| cuts[last])));
+        for filled in [held, held + 4, rows, rows + 4, 3] {
+            let (mut plane, mut again) = (good.clone(), state);
+            let told = deblock_rows(&mut plane, case.grid(), &steps, case.settings, filled, &mut again).map_err(|refusal| refusal.reason);
+            assert_eq!((told, again, &plane), (Err(Reason::Spent), state, &good));
+        }
+        met[before.min(3)] += 1;
+    }
+    println!("Rust, rows: a bad sample in the first call, the second, the third, a later one: {met:?}");
+    assert!(met.iter().all(|&n| n > 20), "too few bad samples");
 }
 
 /// Refusals 14 and 15: which counts, which order, and that the state stays.
