@@ -14,8 +14,8 @@
  * The functions with a list `keep` take a mark for each cell of a plane, row by row: 1 keeps the cell, so that its samples are read as all others and
  * never stored, and 0 does not. The list is always asked for (3 where it has fewer than cols*rows entries); cols*rows zeros keep no cell.
  * The functions with a list `settings` take their settings as numbers in a fixed order, named by an enum with each; numbers beyond those
- * are not looked at, and a list with fewer is refused by 3 before all else, since nothing else can be read. A number below 0 where a count
- * stands is out of its range.
+ * are not looked at, and a list with fewer is refused by 3 before all else (in bihargesh_rows after 15), since nothing else can be read. A number
+ * below 0 where a count stands is out of its range.
  */
 #ifndef BIHARGESH_H
 #define BIHARGESH_H
@@ -129,7 +129,7 @@ enum bihargesh_rows_state {
  * `filled` says how many rows of the lent plane are filled now, a multiple of 4 that is not below the last call's. Every vertical edge in these rows is done,
  * and every horizontal edge with y + 8 <= filled; the answer is filled - 12, or 0 where that is below 0. With filled = 4*rows, full height, all is done and the
  * answer is 4*rows. Rows that are not filled are neither read nor written, and may hold anything.
- * state, two numbers: zeros before the first call, and then what the last call left there. Lend the same grid, tiles, keep, steps and settings each time, and
+ * state, two numbers: zeros before the first call, and then what the last call left there; entries beyond them stay. Lend the same grid, tiles, keep, steps and settings each time, and
  * leave filled rows as they are: then any cutting into calls leaves the plane of bihargesh_plane, and the counts of the calls add up to its counts.
  * The grid, tiles, keep, steps and settings are bihargesh_plane's, and are tested at each call. Only newly filled rows are tested for 8; where that refuses,
  * the state is spent (its second number is 1 then) and each further call is refused by 15. Every other refusal leaves the state as lent.
