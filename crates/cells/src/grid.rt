@@ -1,18 +1,13 @@
 // Document 01, "Grid cells: two marks (0 or 1) and two size indices 0..6.", and document 02's third mark: the first cell that has others.
 use rules::refusals::Found;
 use rules::settings::Plane;
+use scan::larger;
 ghost use mathlib.Core.Path.{_≡_};
 ghost use mathlib.Core.List.{List, []};
-ghost use Prim.Native.Nat.{ℕ, _+_, _*_, _≤_, max};
+ghost use Prim.Native.Nat.{ℕ, _+_, _*_, _≤_};
 ghost use lib.ListN.{length};
 ghost use Rattle.rules.specs.Plane.{keeping, cellGood, badCell};
 ghost use Rattle.cells.specs.Fit.{Sizes, Long, small, badOf};
-
-fn larger(a: u8, b: u8) -> u8
-    ensures { λ r. ⌜ r ≡ max a b ⌝ }
-{
-    if a < b { b } else { a }
-}
 
 // Whether no number of the grid is too large, by the largest mark and the largest size index: all lists in one loop, which is shorter than one for each.
 fn all_good(vedge: &[u8], hedge: &[u8], sqw: &[u8], sqh: &[u8], keep: &[u8], count: usize) -> bool
