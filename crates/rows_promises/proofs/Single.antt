@@ -1,4 +1,4 @@
--- One call: what it says where it is accepted, when it is accepted, and that it leaves the rows that were called final before it.
+-- One call: what it says where it is accepted, when it is accepted, and that it leaves the rows that were called final before it and those that are not filled yet.
 -- Assumes nothing.
 use mathlib.Core.Path.{_≡_, refl, sym, ap, _∙_}
 use mathlib.Core.Bool.{true, false, not}
@@ -6,9 +6,10 @@ use mathlib.Core.List.{List}
 use Prim.Native.Nat.{ℕ, _+_, _*_, _-_, _/_, _%_, _<_}
 use native.Mathlib.Omega.{arith}
 use borrow.Author.Tests.{le-leb, eq-eqb}
+use lib.Dec.{T}
 use lib.ListN.{length, getD}
 use Rattle.laws.specs.Choose.{both, all}
-use Rattle.laws.specs.Boxes.{row-of}
+use Rattle.laws.specs.Boxes.{inBox, row-of}
 use Rattle.rules.specs.declared.settings.Plane.{Plane}
 use Rattle.rules.specs.declared.rows.RowState.{RowState}
 use Rattle.rules.specs.declared.rows.RowsAnswer.{RowsAnswer}
@@ -28,7 +29,8 @@ use Rattle.rows.specs.Stated.{Stated}
 use Rattle.rows.proofs.Calls.{Counts, Passed, passed, call-accepted}
 use Rattle.rows_promises.specs.Calls.{SameRows}
 use Rattle.rows_promises.proofs.Low.{plane-low, low-new}
-use Rattle.rows_promises.proofs.Reach.{band-final}
+use Rattle.rows_promises.proofs.Agree.{run-outside}
+use Rattle.rows_promises.proofs.Reach.{rowsBox, band-reach, band-final}
 
 -- ---- an accepted call
 
@@ -73,6 +75,21 @@ module _ {s : Plane} {steps : List ℕ} {g : Grid} {st : RowState} {filled : ℕ
                 ∙ run-frame (topOf (s .depth)) (s .stride) (keptBy s g) (4 * s .cols) (4 * s .rows) (length l) (y * s .stride + x) (bandOf s steps g (st .held / 4) (filled / 4))
                 (band-final s steps g (length l) (p .checks) (st .held / 4) (filled / 4) (omega (arith, c .up)) (omega (arith, c .filled-most)) (y * s .stride + x) below) l;
           }
+
+  -- a place that is none of the filled rows' samples, in a row that is not filled yet or beside the rows, is not written, accepted or refused
+  pub unfilled-kept : (i : ℕ) → T (not (inBox (s .stride) (rowsBox s 0 filled) i)) → getD m i 0 ≡ getD l i 0
+  unfolding rowsAfter settle callEdges
+  unfilled-kept i out = go (rowsCheck s steps g st filled l) refl (said .plane)
+    where
+      go : (x : Answer) → rowsCheck s steps g st filled l ≡ x → m ≡ settle x l (runEdges (topOf (s .depth)) (s .stride) (keptBy s g) (callEdges s steps g st filled) l) → getD m i 0 ≡ getD l i 0
+      go (Refused r) e is = ap (λ (q : List ℕ). getD q i 0) is
+      go Accepted e is =
+          let p = passed s steps g st filled l e in
+          let c = p .counts in
+          let fours : 4 * (filled / 4) ≡ filled = omega (arith, c .filled-fours) in
+          ap (λ (q : List ℕ). getD q i 0) is
+          ∙ run-outside (topOf (s .depth)) (s .stride) (keptBy s g) (4 * s .cols) (4 * s .rows) (length l) (rowsBox s 0 filled) (bandOf s steps g (st .held / 4) (filled / 4))
+          (rw fours at (band-reach s steps g (length l) (p .checks) (st .held / 4) (filled / 4) (omega (arith, c .up)) (omega (arith, c .filled-most)))) l i out
 
 -- ---- when a call is accepted
 
