@@ -106,7 +106,7 @@ impl Sent<'_> {
         Ok(counts)
     }
 
-    /// A call with a state, settings or a count that may be bad; it is made only where it is refused, and leaves all but what 8 spends.
+    /// A call with a state, settings or a count that may be bad; it is made only where a refusal other than 8 is due, which leaves all.
     fn stray(&self, held: usize, plane: &mut [u16]) -> Result<(), String> {
         let random = self.random;
         let odd = [1, 2, 3, held + 1, held + 2, held.wrapping_sub(1), usize::MAX, usize::MAX - 3, 1 << 63, 1 << 32];
@@ -130,6 +130,18 @@ impl Sent<'_> {
         if ![0, 8].contains(&due.no) {
             self.call(&list, due, filled, &mut state, plane)?;
         }
+        Ok(())
+    }
+
+    /// A call that is told of no new row: it does nothing, and a filled sample that is above top by now is not tested, since "only newly filled rows are tested for refusal 8".
+    fn idle(&self, held: usize, state: &mut Vec<usize>, plane: &mut [u16]) -> Result<(), String> {
+        let place = self.random.size(0, held - 1) * self.stride() + self.random.size(0, 4 * self.cols() - 1);
+        let sample = std::mem::replace(&mut plane[place], 65535);
+        let before = plane.to_vec();
+        let counts = self.call(&self.case.all, Due::refused(0), held, state, plane)?;
+        same("the plane after a call with no new row", &plane.to_vec(), &before)?;
+        same("the counts of a call with no new row", &counts, &vec![0; counts.len()])?;
+        plane[place] = sample;
         Ok(())
     }
 
@@ -241,6 +253,9 @@ fn arrives(sent: &Sent, picture: &[u16], whole: Option<(&[u16], [usize; 2])>) ->
             same("the filled rows", &plane[..held * stride], &rows[..])?;
             same("the counts so far", &sums[..counts.len()], &stored[..counts.len()])?;
             HELD.fetch_add(1, Relaxed);
+        }
+        if held > 0 && random.once_in(6) {
+            sent.idle(held, &mut state, &mut plane)?;
         }
         if let Some((after, _)) = whole {
             same("the final rows", &plane[..sent.last(filled) * stride], &after[..sent.last(filled) * stride])?;

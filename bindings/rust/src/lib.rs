@@ -421,6 +421,7 @@ pub fn deblock_plane_plain(plane: &mut [u16], grid: Grid, steps: &[u32], s: Plan
 /// Filters what can be filtered of a plane of which the first `filled` rows are there, and leaves the state for the next call: how many rows from the top are final,
 /// and both counts. Rows that are not filled may hold anything. Any cutting into calls with rising counts that ends at `4 * rows` leaves the plane of `deblock_plane`,
 /// and the counts of the calls add up to its counts, where each call is lent the same grid, steps and settings and the filled rows as the last one left them.
+/// Only newly filled rows are tested for `Reason::Sample`, which spends the state: each further call is refused by `Reason::Spent`. Every other refusal leaves the state.
 ///
 /// ```
 /// use bihargesh::{deblock_plane, deblock_rows, Grid, Plane, Reason, RowState};
