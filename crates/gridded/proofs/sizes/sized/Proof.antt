@@ -1,8 +1,8 @@
 -- `sized` looks at each number of `Sized`. Assumes nothing.
 use Rattle.laws.specs.Choose.{true-not-false}
 use borrow.Author.Needs.{needs}
-use Rattle.edge_record.proofs.run.sized.Statement.{statement}
-use Rattle.edge_record.proofs.run.sized.Tie as tie
+use Rattle.gridded.proofs.sizes.sized.Statement.{statement}
+use Rattle.gridded.proofs.sizes.sized.Tie as tie
 
 returns : tie.Need-returns
 returns c = λ e. true-not-false e
