@@ -94,4 +94,36 @@ returns : tie.Need-returns
 returns c = search needs
 
 pub deblocked-spec : {M : Type 1} → statement M
-deblocked-spec = tie.close (tie.spec lists-of-requires shared-slice-read-steps-of steps-of-requires leaves-of-requires tiles-of-requires mul-over-grid sub-over-grid part-over-grid-start part-over-grid-end mul-over-grid-2 sub-over-grid-2 part-over-grid-start-2 part-over-grid-end-2 sub-over-grid-3 part-over-grid-start-3 part-over-grid-end-3 mul-over-grid-3 sub-over-grid-4 part-over-grid-start-4 part-over-grid-end-4 mul-over-grid-4 sub-over-grid-5 part-over-grid-start-5 part-over-grid-end-5 sub-over-grid-6 part-over-grid-start-6 part-over-grid-end-6 over-grid-requires same-length returns)
+deblocked-spec =
+    tie.close
+    (tie.spec
+    lists-of-requires
+    shared-slice-read-steps-of
+    steps-of-requires
+    leaves-of-requires
+    tiles-of-requires
+    mul-over-grid
+    sub-over-grid
+    part-over-grid-start
+    part-over-grid-end
+    mul-over-grid-2
+    sub-over-grid-2
+    part-over-grid-start-2
+    part-over-grid-end-2
+    sub-over-grid-3
+    part-over-grid-start-3
+    part-over-grid-end-3
+    mul-over-grid-3
+    sub-over-grid-4
+    part-over-grid-start-4
+    part-over-grid-end-4
+    mul-over-grid-4
+    sub-over-grid-5
+    part-over-grid-start-5
+    part-over-grid-end-5
+    sub-over-grid-6
+    part-over-grid-start-6
+    part-over-grid-end-6
+    over-grid-requires
+    same-length
+    returns)

@@ -91,4 +91,35 @@ returns : tie.Need-returns
 returns c = search needs
 
 pub over-grid-spec : {M : Type 1} → statement M
-over-grid-spec = tie.close (tie.spec marks-requires marks-requires-2 marks-requires-3 marks-requires-4 marks-requires-5 indices-requires tu-of-requires slice-aggregate-build-tx-grid slice-aggregate-build-tx-grid-2 slice-aggregate-build-tx-grid-3 slice-aggregate-build-tx-grid-4 slice-aggregate-build-tx-grid-5 build-tx-grid-requires slice-aggregate-build-qindex-grid q-of-requires build-qindex-grid-requires slice-aggregate-keep-cells cells-of-requires keep-cells-requires slice-aggregate-bands slice-aggregate-bands-2 slice-aggregate-bands-3 slice-aggregate-bands-4 slice-aggregate-bands-5 slice-aggregate-bands-6 plane-of-requires bands-requires same-length returns)
+over-grid-spec =
+    tie.close
+    (tie.spec
+    marks-requires
+    marks-requires-2
+    marks-requires-3
+    marks-requires-4
+    marks-requires-5
+    indices-requires
+    tu-of-requires
+    slice-aggregate-build-tx-grid
+    slice-aggregate-build-tx-grid-2
+    slice-aggregate-build-tx-grid-3
+    slice-aggregate-build-tx-grid-4
+    slice-aggregate-build-tx-grid-5
+    build-tx-grid-requires
+    slice-aggregate-build-qindex-grid
+    q-of-requires
+    build-qindex-grid-requires
+    slice-aggregate-keep-cells
+    cells-of-requires
+    keep-cells-requires
+    slice-aggregate-bands
+    slice-aggregate-bands-2
+    slice-aggregate-bands-3
+    slice-aggregate-bands-4
+    slice-aggregate-bands-5
+    slice-aggregate-bands-6
+    plane-of-requires
+    bands-requires
+    same-length
+    returns)
