@@ -1,4 +1,4 @@
-# Sourced by bin/compare_records and bin/replay, with $name its program's crate: messages, building, the start under the kit's loader, and OUT.
+# Sourced by bin/camera, bin/compare_records and bin/replay, with $name its program's crate: messages, building, the start under the kit's loader, and OUT.
 # A signal ends what runs, with all that it started, and leaves nothing behind.
 top=$(dirname "$(dirname "$(readlink -f -- "${BASH_SOURCE[0]}")")")
 program=$top/target/bin/$name

@@ -3,8 +3,8 @@
  * Each function takes any numbers and lists of any length. A list is a pointer and the number of its entries; the pointer must lead
  * to that many, a list that is not const overlaps no other, and an empty list may be NULL.
  * A function does its work, or answers minus the number of a refusal and leaves all lent memory as it was, but for two lists: `place`, where
- * the place of the refusal goes, and `counts`, where zeros go (a frame refused by 7 or 8 has built its grids too).
- * Where several refusals hold, the answer is the first in the order 1, 2, 3, 4, 5, 9, 11, 12, 13, 6, 7, 8, 10; enum bihargesh_refusal names them.
+ * the place of the refusal goes, and `counts`, where zeros go (a frame refused by 7 or 8 has built its grids too, and 8 spends the state of bihargesh_rows).
+ * Where several refusals hold, the answer is the first in the order 15, 1, 2, 3, 4, 5, 9, 11, 12, 13, 6, 7, 14, 8, 10; enum bihargesh_refusal names them.
  *
  * The functions with a list `place` put the place of a refusal into its first entry, if it has one: the first bad step, cell, leaf,
  * entry of a record or sample, counted from 0, and 0 for a refusal that has no place. `place` is left as lent where the answer is no refusal.
@@ -14,8 +14,8 @@
  * The functions with a list `keep` take a mark for each cell of a plane, row by row: 1 keeps the cell, so that its samples are read as all others and
  * never stored, and 0 does not. The list is always asked for (3 where it has fewer than cols*rows entries); cols*rows zeros keep no cell.
  * The functions with a list `settings` take their settings as numbers in a fixed order, named by an enum with each; numbers beyond those
- * are not looked at, and a list with fewer is refused by 3 before all else, since nothing else can be read. A number below 0 where a count
- * stands is out of its range.
+ * are not looked at, and a list with fewer is refused by 3 before all else (in bihargesh_rows after 15), since nothing else can be read. A number
+ * below 0 where a count stands is out of its range.
  */
 #ifndef BIHARGESH_H
 #define BIHARGESH_H
@@ -27,7 +27,7 @@
 extern "C" {
 #endif
 
-#define BIHARGESH_VERSION "4.0.0"
+#define BIHARGESH_VERSION "4.1.0"
 
 /* Why a call is refused; the answer is minus this. */
 enum bihargesh_refusal {
@@ -43,7 +43,9 @@ enum bihargesh_refusal {
   BIHARGESH_SHORT_BUFFER = 10, /* the buffer has less room than the record of a plane's marked edges takes */
   BIHARGESH_BAD_HEADER = 11, /* a record has fewer than five bytes, or another mark or version */
   BIHARGESH_CUT_ENTRY = 12,  /* a record ends within an entry */
-  BIHARGESH_BAD_ENTRY = 13   /* an entry's direction, length pair, q or side is out of range */
+  BIHARGESH_BAD_ENTRY = 13,  /* an entry's direction, length pair, q or side is out of range */
+  BIHARGESH_BAD_ROWS = 14,   /* a count of filled rows, held or new, exceeds the plane or is no multiple of 4, or the new one is below the held */
+  BIHARGESH_SPENT_STATE = 15 /* an earlier call on filled rows met a bad sample */
 };
 
 /* Fills a list with the 352 AC steps of the published encoder, for `steps` below, and answers 0: 64, then 24 steps an octave, and from
@@ -115,6 +117,29 @@ int32_t bihargesh_record_plane(uint16_t *plane, size_t plane_len, uint8_t *recor
                                const uint8_t *sqw, size_t sqw_len, const uint8_t *sqh, size_t sqh_len, const uint16_t *qindex, size_t qindex_len,
                                const uint16_t *tiles, size_t tiles_len, const uint8_t *keep, size_t keep_len, const uint32_t *steps, size_t steps_len,
                                const int32_t *settings, size_t settings_len, size_t *place, size_t place_len, size_t *counts, size_t counts_len);
+
+/* Where the state of bihargesh_rows stands between two calls. */
+enum bihargesh_rows_state {
+  BIHARGESH_ROWS_HELD,  /* how many rows the last accepted call was told are filled */
+  BIHARGESH_ROWS_SPENT, /* not 0 where a bad sample has spent the state */
+  BIHARGESH_ROWS_STATE
+};
+
+/* Filters what can be filtered of a plane whose rows come one after the other, and answers how many rows from the top are final: no later call changes them.
+ * `filled` says how many rows of the lent plane are filled now, a multiple of 4 that is not below the last call's. Every vertical edge in these rows is done,
+ * and every horizontal edge with y + 8 <= filled; the answer is filled - 12, or 0 where that is below 0. With filled = 4*rows, full height, all is done and the
+ * answer is 4*rows. Rows that are not filled are neither read nor written, and may hold anything.
+ * state, two numbers: zeros before the first call, and then what the last call left there; entries beyond them stay. Lend the same grid, tiles, keep, steps and settings each time, and
+ * leave filled rows as they are: then any cutting into calls leaves the plane of bihargesh_plane, and the counts of the calls add up to its counts.
+ * The grid, tiles, keep, steps and settings are bihargesh_plane's, and are tested at each call. Only newly filled rows are tested for 8; where that refuses,
+ * the state is spent (its second number is 1 then) and each further call is refused by 15. Every other refusal leaves the state as lent.
+ * Refusals 15, 1, 2, 3, 4, 5, 6, 7, 14, 8, in this order; a state of fewer than two numbers is refused by 3 before all else, and settings of fewer than eleven by 3
+ * after 15. 14 looks at the held count too. */
+int32_t bihargesh_rows(uint16_t *plane, size_t plane_len, const uint8_t *vedge, size_t vedge_len, const uint8_t *hedge, size_t hedge_len,
+                       const uint8_t *sqw, size_t sqw_len, const uint8_t *sqh, size_t sqh_len, const uint16_t *qindex, size_t qindex_len,
+                       const uint16_t *tiles, size_t tiles_len, const uint8_t *keep, size_t keep_len, const uint32_t *steps, size_t steps_len,
+                       const int32_t *settings, size_t settings_len, size_t filled, size_t *state, size_t state_len, size_t *place, size_t place_len,
+                       size_t *counts, size_t counts_len);
 
 /* Where the settings of a plane stand on which a record is run. */
 enum bihargesh_replay_setting {

@@ -1,6 +1,6 @@
 //! The functions of include/bihargesh.h beside the published Rust, linked into one program.
 //!
-//!     linked N SEED    N cases of each function: how many were accepted and refused, by number; 1 at the first difference
+//!     linked N SEED [NAME ..]    N cases of each function, or of those named: how many were accepted and refused, by number; 1 at the first difference
 //!
 //! The cases are the oracle's, with its answers: the Rust's where a case is accepted, document 01's refusals where not. Here they are lent as C
 //! lends them, with a settings list that is sometimes too short or longer than needed, flags that are none, and bytes too few or too many.
@@ -19,6 +19,7 @@ mod grid;
 mod keep;
 #[path = "src/line.rs"]
 mod line;
+mod linked_rows;
 #[path = "src/made.rs"]
 mod made;
 #[path = "src/picture.rs"]
@@ -638,14 +639,15 @@ struct Part {
     compare: fn(&Random, &Made) -> Compared,
 }
 
-/// What makes the cases of both engines.
+/// What makes the cases of both engines, and of planes whose rows are sent.
 const PLANES: &[Make] = &[plane::make, plane::make_bins, plane::make_tiles, plane::make_room_at_one, plane::make_keep];
 
-const PARTS: [Part; 13] = [
+const PARTS: [Part; 14] = [
     Part { name: "bihargesh_thresholds", makes: &[thresholds::make], kind: None, compare: of_thresholds },
     Part { name: "bihargesh_segment", makes: &[segment::make_window], kind: None, compare: of_segment },
     Part { name: "bihargesh_plane", makes: PLANES, kind: None, compare: of_plane },
     Part { name: "bihargesh_plane_plain", makes: PLANES, kind: None, compare: of_plane_plain },
+    Part { name: "bihargesh_rows", makes: PLANES, kind: None, compare: linked_rows::compare },
     Part { name: "bihargesh_record_plane", makes: &[record::make], kind: None, compare: of_record_plane },
     Part { name: "bihargesh_replay", makes: &[replay::make], kind: None, compare: of_replay },
     Part { name: "bihargesh_replay of bihargesh_record_plane", makes: &[recorded], kind: None, compare: of_round_trip },
@@ -713,11 +715,17 @@ fn run(part: &Part, n: u64, seed: u64) -> Result<Counts, String> {
 }
 
 fn main() {
-    let words: Vec<u64> = std::env::args().skip(1).filter_map(|w| w.parse().ok()).collect();
-    let [n, seed] = words[..] else {
-        eprintln!("linked N SEED");
+    let words: Vec<String> = std::env::args().skip(1).collect();
+    let numbers: Vec<u64> = words.iter().take(2).filter_map(|w| w.parse().ok()).collect();
+    let [n, seed] = numbers[..] else {
+        eprintln!("linked N SEED [NAME ..]");
         exit(2);
     };
+    let names = &words[2..];
+    if let Some(name) = names.iter().find(|&name| PARTS.iter().all(|part| part.name != name)) {
+        eprintln!("linked: no function '{name}'");
+        exit(2);
+    }
     match of_steps() {
         Ok(()) => println!("linked: bihargesh_steps: 352 steps, 0 different; a list of 351 refused by 3"),
         Err(what) => {
@@ -725,7 +733,7 @@ fn main() {
             exit(1);
         }
     }
-    for part in &PARTS {
+    for part in PARTS.iter().filter(|part| names.is_empty() || names.iter().any(|name| name == part.name)) {
         match run(part, n, seed) {
             Ok(counts) => counts.print(part.name),
             Err(what) => {
@@ -733,5 +741,8 @@ fn main() {
                 exit(1);
             }
         }
+    }
+    if let Some(calls) = linked_rows::calls() {
+        println!("linked: bihargesh_rows: {calls}");
     }
 }

@@ -1,4 +1,4 @@
-//! One plane run, by the published Rust's `deblock_plane` or by our `bihargesh_plane` or `bihargesh_plane_plain`, on equal square planes of depth 8.
+//! One plane run, by the published Rust's `deblock_plane` or by our `bihargesh_plane`, `bihargesh_plane_plain` or `bihargesh_rows`, on equal square planes of depth 8.
 //!
 //!     pace once none|rust|ours SIZE KIND   one run, for counting instructions; `none` stops where the run would begin
 //!     pace time SIZE KIND                  medians of 31 runs of each on fresh copies, in nanoseconds: the Rust's, then ours
@@ -6,7 +6,8 @@
 //!
 //! KIND is the size index of all blocks, or `dark`: index 1, and every qindex 0, so that every threshold is 0; or `plain`: index 1, and ours is `bihargesh_plane_plain`;
 //! or `recorded`: index 1, and ours is `bihargesh_record_plane` with a buffer that the record just fills, beside the Rust's run, which writes none;
-//! or `kept`: index 1, and one cell in ten is kept (ticket 7), beside the Rust's run, which keeps none. There `same` holds ours to the Rust's segments, one after the other, whose stores to kept cells are taken back.
+//! or `kept`: index 1, and one cell in ten is kept (ticket 7), beside the Rust's run, which keeps none. There `same` holds ours to the Rust's segments, one after the other, whose stores to kept cells are taken back;
+//! or `rows`: index 1, and ours is `bihargesh_rows`, a call for each 16 rows more, beside the Rust's whole run.
 
 #[path = "src/random.rs"]
 mod random;
@@ -25,6 +26,8 @@ use std::time::Instant;
 const RUNS: usize = 31;
 const DEPTH: u32 = 8;
 const SUPERBLOCK: usize = 16;
+/// How many rows more each call of `rows` has filled.
+const BAND: usize = 16;
 /// How far an edge between blocks of a size index reaches to each side, in samples.
 const REACH: [usize; 4] = [3, 4, 7, 8];
 
@@ -75,6 +78,23 @@ extern "C" {
         place: *mut usize, place_len: usize,
         counts: *mut usize, counts_len: usize,
     ) -> i32;
+
+    fn bihargesh_rows(
+        plane: *mut u16, plane_len: usize,
+        vedge: *const u8, vedge_len: usize,
+        hedge: *const u8, hedge_len: usize,
+        sqw: *const u8, sqw_len: usize,
+        sqh: *const u8, sqh_len: usize,
+        qindex: *const u16, qindex_len: usize,
+        tiles: *const u16, tiles_len: usize,
+        keep: *const u8, keep_len: usize,
+        steps: *const u32, steps_len: usize,
+        settings: *const i32, settings_len: usize,
+        filled: usize,
+        state: *mut usize, state_len: usize,
+        place: *mut usize, place_len: usize,
+        counts: *mut usize, counts_len: usize,
+    ) -> i32;
 }
 
 /// A plane and its grid: every edge that has room is marked, all blocks have one size index.
@@ -95,6 +115,8 @@ struct Scene {
     recorded: bool,
     /// Whether ours is the plain engine.
     plain: bool,
+    /// Whether ours is told of the rows as they are filled.
+    rows: bool,
 }
 
 /// Cells of nearly even samples, with small steps from cell to cell, so that every width occurs.
@@ -107,8 +129,8 @@ fn samples(random: &Random, size: usize) -> Vec<u16> {
 
 impl Scene {
     fn new(size: usize, kind: &str) -> Scene {
-        let (dark, recorded, plain, kept) = (kind == "dark", kind == "recorded", kind == "plain", kind == "kept");
-        let index: usize = if dark || recorded || plain || kept { 1 } else { kind.parse().expect("an index") };
+        let (dark, recorded, plain, kept, rows) = (kind == "dark", kind == "recorded", kind == "plain", kind == "kept", kind == "rows");
+        let index: usize = if dark || recorded || plain || kept || rows { 1 } else { kind.parse().expect("an index") };
         let (random, marks) = (Random::new(13), Random::new(7));
         let cells = size / 4;
         let room = |k: usize| (k > 0 && 4 * k >= REACH[index] && 4 * k + REACH[index] <= size) as u8;
@@ -125,6 +147,7 @@ impl Scene {
             samples: samples(&random, size),
             recorded,
             plain,
+            rows,
         }
     }
 
@@ -213,10 +236,43 @@ fn run_recorded(s: &Scene, plane: &mut [u16], record: &mut [u8]) {
     assert!(answer == record.len() as i32, "the record of {} bytes was answered by {answer} at {}", record.len(), place[0]);
 }
 
+/// A call for each band more, until all rows are filled; each says that all rows but the last twelve are final, the last that all are.
+#[inline(never)]
+fn run_rows(s: &Scene, plane: &mut [u16]) {
+    let settings = settings(s);
+    let (mut state, mut place, mut counts) = ([0usize; 2], [0usize], [0usize; 2]);
+    for filled in (BAND..=s.size).step_by(BAND) {
+        let answer = unsafe {
+            bihargesh_rows(
+                plane.as_mut_ptr(), plane.len(),
+                s.vertical.as_ptr(), s.vertical.len(),
+                s.horizontal.as_ptr(), s.horizontal.len(),
+                s.sizes.as_ptr(), s.sizes.len(),
+                s.sizes.as_ptr(), s.sizes.len(),
+                s.qindex.as_ptr(), s.qindex.len(),
+                s.tiles.as_ptr(), s.tiles.len(),
+                s.keep.as_ptr(), s.keep.len(),
+                s.steps.as_ptr(), s.steps.len(),
+                settings.as_ptr(), settings.len(),
+                filled,
+                state.as_mut_ptr(), state.len(),
+                place.as_mut_ptr(), place.len(),
+                counts.as_mut_ptr(), counts.len(),
+            )
+        };
+        black_box(counts);
+        let due = if filled < s.size { filled - 12 } else { s.size };
+        assert!(answer == due as i32, "{due} rows are final when {filled} are filled, and {answer} was answered, at {}", place[0]);
+    }
+}
+
 #[inline(never)]
 fn run_ours(s: &Scene, plane: &mut [u16], record: &mut [u8]) {
     if s.recorded {
         return run_recorded(s, plane, record);
+    }
+    if s.rows {
+        return run_rows(s, plane);
     }
     let settings = settings(s);
     let (mut place, mut counts) = ([0usize], [0usize; 2]);

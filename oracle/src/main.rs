@@ -14,6 +14,7 @@ mod random;
 mod record;
 mod refusals;
 mod replay;
+mod rows;
 mod rust;
 mod segment;
 mod summary;
@@ -30,7 +31,7 @@ use std::io::{self, BufWriter, Write};
 use std::process::exit;
 use summary::Summary;
 
-const USAGE: &str = "oracle thresholds|segment|segment-limits|segment-window|plane|plane-bins|plane-dark|plane-tiles|plane-room|plane-keep|plane-record|plane-replay|grid|grid-keep|frame|frame-bins|frame-tiles|frame-keep|ccso N SEED [--only accepted|refused], or: oracle differences";
+const USAGE: &str = "oracle thresholds|segment|segment-limits|segment-window|plane|plane-bins|plane-dark|plane-tiles|plane-room|plane-keep|plane-record|plane-replay|rows|grid|grid-keep|frame|frame-bins|frame-tiles|frame-keep|ccso N SEED [--only accepted|refused], or: oracle differences";
 
 fn part(name: &str) -> Option<Make> {
     match name {
@@ -46,6 +47,7 @@ fn part(name: &str) -> Option<Make> {
         "plane-keep" => Some(plane::make_keep),
         "plane-record" => Some(record::make),
         "plane-replay" => Some(replay::make),
+        "rows" => Some(rows::make),
         "grid" => Some(grid::make),
         "grid-keep" => Some(grid::make_keep),
         "frame" => Some(frame::make),

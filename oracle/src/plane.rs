@@ -363,6 +363,24 @@ pub fn with_keep(random: &Random) -> Case {
     c
 }
 
+/// A plane to be accepted, two of three of them one to six cells high; every third has even blocks whose edges store as far as they can, and every second has no tile start and no kept cell.
+pub fn with_few_rows(random: &Random) -> Case {
+    let cells = match random.below(1500) {
+        0 => (random.one_of(&[1, 2]), 1024),
+        1..=1000 => (random.size(1, 12) as u64, random.size(1, 6) as u64),
+        _ => cells(random),
+    };
+    let mut c = good_of(random, cells);
+    if random.once_in(3) {
+        tell(random, &mut c);
+    }
+    if random.once_in(2) {
+        c = tiles::bare(&keep::open(&c));
+    }
+    make_room(&mut c);
+    c
+}
+
 /// Chroma planes whose column 1 starts a tile and has a marked edge between blocks of index 2 to 6: its pair 6,10 reaches 3 before the edge. What is
 /// refused is the same without that start: there the pair is 10,10 and reaches 5, where only 4 samples are.
 pub fn make_room_at_one(random: &Random, refused: bool, _: Option<&[u32]>) -> Made {

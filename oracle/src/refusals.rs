@@ -1,6 +1,6 @@
 //! Document 01's refusals in their order, read from its text alone: which number is given, and with which place.
 
-use crate::{ccso, frame, grid, plane, segment, thresholds};
+use crate::{ccso, frame, grid, plane, rows, segment, thresholds};
 
 #[derive(Clone, Copy, PartialEq, Debug)]
 pub struct Refusal {
@@ -234,7 +234,8 @@ pub fn replay_plane(cells: (u64, u64), stride: u64, bits: u64, keep: &[u8], plan
         .or_else(|| refuse(3, short(plane, stride * 4 * cells.1) || short(keep, cells.0 * cells.1)))
 }
 
-pub fn of_plane(c: &plane::Case) -> Option<Refusal> {
+/// 1 to 7 of a plane.
+pub fn plane_settings(c: &plane::Case) -> Option<Refusal> {
     let n = || c.cells.0 * c.cells.1;
     let sizes = || {
         bad_cells(c.cells)
@@ -257,7 +258,19 @@ pub fn of_plane(c: &plane::Case) -> Option<Refusal> {
         .or_else(|| refuse(5, bad_delta(c.delta_q) || bad_delta(c.delta_side) || bad_starts(&c.starts, c.cells.0)))
         .or_else(|| refuse_at(6, c.layout().bad_cell()))
         .or_else(|| refuse_at(7, c.layout().no_room()))
-        .or_else(|| plane_sample(&c.plane, c.cells, c.stride, c.depth))
+}
+
+pub fn of_plane(c: &plane::Case) -> Option<Refusal> {
+    plane_settings(c).or_else(|| plane_sample(&c.plane, c.cells, c.stride, c.depth))
+}
+
+/// Ticket 8's order, 15, 1 to 7, 14, 8: of a call on the plane as the caller has filled it.
+pub fn of_rows(c: &plane::Case, plane: &[u16], state: rows::State, filled: u64) -> Option<Refusal> {
+    let bad = |count: u64| count > 4 * c.cells.1 || count % 4 != 0;
+    refuse(15, state.spent)
+        .or_else(|| plane_settings(c))
+        .or_else(|| refuse(14, bad(state.held) || bad(filled) || filled < state.held))
+        .or_else(|| refuse_at(8, too_large(plane, top(c.depth), rectangle(c.stride, 0..4 * c.cells.0, state.held..filled))))
 }
 
 fn bad_cap(cap: (u64, u64)) -> bool {

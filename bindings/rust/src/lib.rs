@@ -1,7 +1,7 @@
 //! Bihargesh, the proved AV2 loop filters, for Rust: safe calls of the static library libbihargesh.a, with a type for each answer.
 //!
 //! Every function takes any numbers and lists of any length. It does its work, or says why it does not and leaves every lent list as it was
-//! (but a frame refused by `Room` or `Sample` has built its grids).
+//! (but a frame refused by `Room` or `Sample` has built its grids, and `Sample` spends the state of `deblock_rows`).
 //! include/bihargesh.h says what each number means and which are accepted.
 //!
 //! ```
@@ -65,9 +65,13 @@ pub enum Reason {
     Cut,
     /// An entry's direction, length pair, q or side is out of range.
     Entry,
+    /// A count of filled rows, held or new, exceeds the plane or is no multiple of 4, or the new one is below the held.
+    Rows,
+    /// An earlier call on filled rows met a bad sample.
+    Spent,
 }
 
-const REASONS: [Reason; 13] = [
+const REASONS: [Reason; 15] = [
     Reason::Depth,
     Reason::Size,
     Reason::Length,
@@ -81,6 +85,8 @@ const REASONS: [Reason; 13] = [
     Reason::Header,
     Reason::Cut,
     Reason::Entry,
+    Reason::Rows,
+    Reason::Spent,
 ];
 
 impl Reason {
@@ -111,6 +117,8 @@ impl fmt::Display for Reason {
             Reason::Header => "the record has fewer than five bytes, or another mark or version",
             Reason::Cut => "the record ends within an entry",
             Reason::Entry => "an entry of the record is out of range",
+            Reason::Rows => "a count of filled rows exceeds the plane, is no multiple of 4 or is below the held one",
+            Reason::Spent => "an earlier call on filled rows met a bad sample",
         })
     }
 }
@@ -163,6 +171,14 @@ pub struct Plane {
     pub depth: i32,
     pub delta_q: i32,
     pub delta_side: i32,
+}
+
+/// What `deblock_rows` is told between two calls: how many rows the last accepted call was told are filled, and whether a bad sample has spent it.
+/// Begin with `RowState::default()`.
+#[derive(Clone, Copy, Debug, Default, PartialEq, Eq)]
+pub struct RowState {
+    pub held: usize,
+    pub spent: bool,
 }
 
 /// Settings of a plane on which a record is run.
@@ -317,7 +333,7 @@ fn both([stored, changed]: [usize; 2]) -> Counts {
     Counts { stored, changed }
 }
 
-/// A count of bytes, or the refusal with its place.
+/// A count of bytes or rows, or the refusal with its place.
 fn counted(answer: i32, place: [usize; 1]) -> Result<usize, Refusal> {
     if answer < 0 {
         return Err(Refusal { reason: Reason::of(answer), place: place[0] });
@@ -400,6 +416,55 @@ pub fn deblock_plane(plane: &mut [u16], grid: Grid, steps: &[u32], s: Plane) -> 
 /// ```
 pub fn deblock_plane_plain(plane: &mut [u16], grid: Grid, steps: &[u32], s: Plane) -> Result<Counts, Refusal> {
     deblock_by(bihargesh_plane_plain, plane, grid, steps, s)
+}
+
+/// Filters what can be filtered of a plane of which the first `filled` rows are there, and leaves the state for the next call: how many rows from the top are final,
+/// and both counts. Rows that are not filled may hold anything. Any cutting into calls with rising counts that ends at `4 * rows` leaves the plane of `deblock_plane`,
+/// and the counts of the calls add up to its counts, where each call is lent the same grid, steps and settings and the filled rows as the last one left them.
+/// Only newly filled rows are tested for `Reason::Sample`, which spends the state: each further call is refused by `Reason::Spent`. Every other refusal leaves the state.
+///
+/// ```
+/// use bihargesh::{deblock_plane, deblock_rows, Grid, Plane, Reason, RowState};
+///
+/// // four cells one above the other, with a horizontal edge at the second, on a step from 100 to 108
+/// let grid = Grid { vedge: &[0; 4], hedge: &[0, 1, 0, 0], sqw: &[1; 4], sqh: &[1; 4], qindex: &[200; 4], tiles: &[], keep: &[0; 4] };
+/// let settings = Plane { cols: 1, rows: 4, stride: 4, width: 4, height: 16, superblock_width: 8, superblock_height: 8, depth: 8, ..Plane::default() };
+/// let steps = bihargesh::steps();
+/// let picture: Vec<u16> = [[100; 16], [108; 16], [108; 16], [108; 16]].concat();
+/// let mut whole = picture.clone();
+/// let counts = deblock_plane(&mut whole, grid, &steps, settings)?;
+///
+/// // the rows come in three parts; 65535 stands where none has come yet
+/// let (mut plane, mut state, mut stored, mut from) = (vec![65535; 64], RowState::default(), 0, 0);
+/// for (filled, told) in [(8, 0), (12, 0), (16, 16)] {
+///     plane[4 * from..4 * filled].copy_from_slice(&picture[4 * from..4 * filled]);
+///     let (last, here) = deblock_rows(&mut plane, grid, &steps, settings, filled, &mut state)?;
+///     assert_eq!(last, told);
+///     (stored, from) = (stored + here.stored, filled);
+/// }
+/// assert_eq!((plane, stored), (whole, counts.stored));
+/// assert_eq!(state, RowState { held: 16, spent: false });
+///
+/// // a count that is no multiple of 4 is refused, and the state stays
+/// let refusal = deblock_rows(&mut picture.clone(), grid, &steps, settings, 18, &mut state).unwrap_err();
+/// assert_eq!((refusal.reason, state.held), (Reason::Rows, 16));
+/// # Ok::<(), bihargesh::Refusal>(())
+/// ```
+pub fn deblock_rows(plane: &mut [u16], grid: Grid, steps: &[u32], s: Plane, filled: usize, state: &mut RowState) -> Result<(usize, Counts), Refusal> {
+    let settings = plane_settings(s);
+    let (mut place, mut counts, mut list) = ([0], [0; 2], [state.held, state.spent as usize]);
+    // SAFETY: as above.
+    let answer = unsafe {
+        bihargesh_rows(
+            plane.as_mut_ptr(), plane.len(), grid.vedge.as_ptr(), grid.vedge.len(), grid.hedge.as_ptr(), grid.hedge.len(),
+            grid.sqw.as_ptr(), grid.sqw.len(), grid.sqh.as_ptr(), grid.sqh.len(), grid.qindex.as_ptr(), grid.qindex.len(),
+            grid.tiles.as_ptr(), grid.tiles.len(), grid.keep.as_ptr(), grid.keep.len(), steps.as_ptr(), steps.len(),
+            settings.as_ptr(), settings.len(), filled, list.as_mut_ptr(), list.len(), place.as_mut_ptr(), place.len(),
+            counts.as_mut_ptr(), counts.len(),
+        )
+    };
+    *state = RowState { held: list[0], spent: list[1] != 0 };
+    counted(answer, place).map(|last| (last, both(counts)))
 }
 
 /// Filters every marked edge of a plane and writes the record of these edges into the beginning of a buffer; how many bytes it takes, and both counts.

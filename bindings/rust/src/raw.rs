@@ -39,6 +39,13 @@ extern "C" {
         tiles: *const u16, tiles_len: usize, keep: *const u8, keep_len: usize, steps: *const u32, steps_len: usize,
         settings: *const i32, settings_len: usize, place: *mut usize, place_len: usize, counts: *mut usize, counts_len: usize,
     ) -> i32;
+    pub fn bihargesh_rows(
+        plane: *mut u16, plane_len: usize, vedge: *const u8, vedge_len: usize, hedge: *const u8, hedge_len: usize,
+        sqw: *const u8, sqw_len: usize, sqh: *const u8, sqh_len: usize, qindex: *const u16, qindex_len: usize,
+        tiles: *const u16, tiles_len: usize, keep: *const u8, keep_len: usize, steps: *const u32, steps_len: usize,
+        settings: *const i32, settings_len: usize, filled: usize, state: *mut usize, state_len: usize, place: *mut usize, place_len: usize,
+        counts: *mut usize, counts_len: usize,
+    ) -> i32;
     pub fn bihargesh_replay(
         plane: *mut u16, plane_len: usize, record: *const u8, record_len: usize, keep: *const u8, keep_len: usize,
         settings: *const i32, settings_len: usize, place: *mut usize, place_len: usize,

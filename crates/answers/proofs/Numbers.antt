@@ -90,23 +90,26 @@ tallied-last a b c d [] = refl
 tallied-last a b c d (x ∷ []) = refl
 tallied-last a b c d (x ∷ (y ∷ l)) = refl
 
-pub told-accepted : {a : Answer} (lent : List ℕ) → a ≡ Accepted → Told a lent (pos 0) lent
+pub count-told : {a : Answer} (lent : List ℕ) {n : ℕ} {z : ℤ} → a ≡ Accepted → n < 2147483648 → z ≡ pos n → Counted a n lent (toZ w32 (ofZ w32 z)) lent
 unfolding cAnswer placed
-told-accepted lent e = rw e (record { answer = refl; place-is = refl })
+count-told lent {n} {z} e h f = rw e (record { answer = held z n f h; place-is = refl })
 
-pub told-refused : {a : Answer} {r : Refusal} (lent : List ℕ) {z : ℤ} {k : ℕ} {place : List ℕ} → a ≡ Refused r → k ≡ placeOf r → place ≡ set lent 0 k → z ≡ negℤ (pos (numberOf r)) → Told a lent (toZ w32 (ofZ w32 z)) place
+pub count-refused : {a : Answer} {r : Refusal} (lent : List ℕ) (n : ℕ) {z : ℤ} {k : ℕ} {place : List ℕ} → a ≡ Refused r → k ≡ placeOf r → place ≡ set lent 0 k → z ≡ negℤ (pos (numberOf r)) → Counted a n lent (toZ w32 (ofZ w32 z)) place
 unfolding cAnswer placed
-told-refused {a} {r} lent {z} e f g h = rw e (record { answer = held-minus z r h; place-is = g ∙ ap (λ (k : ℕ). set lent 0 k) f })
+count-refused {a} {r} lent n {z} e f g h = rw e (record { answer = held-minus z r h; place-is = g ∙ ap (λ (k : ℕ). set lent 0 k) f })
 
-held-answer : (z : ℤ) (a : Answer) → z ≡ cAnswer a 0 → toZ w32 (ofZ w32 z) ≡ cAnswer a 0
+held-answer : (z : ℤ) (a : Answer) (n : ℕ) → n < 2147483648 → z ≡ cAnswer a n → toZ w32 (ofZ w32 z) ≡ cAnswer a n
 unfolding cAnswer
-held-answer z Accepted e = held z 0 e (omega arith)
-held-answer z (Refused r) e = held-minus z r e
+held-answer z Accepted n h e = held z n e h
+held-answer z (Refused r) n h e = held-minus z r e
 
--- handed on by an export, whose check b gave the answer a
+-- handed on by an export, whose check b gave the answer a with the count m
+pub counted-on : {a b : Answer} {m n : ℕ} {lent place : List ℕ} {z : ℤ} → a ≡ b → m ≡ n → m < 2147483648 → Counted a m lent z place → Counted b n lent (toZ w32 (ofZ w32 z)) place
+counted-on {a} {b} {m} {n} {lent} {place} {z} e f h t =
+    record { answer = held-answer z b n (omega (arith, f)) (t .answer ∙ ap₂ cAnswer e f); place-is = t .place-is ∙ ap (λ (a : Answer). placed a lent) e }
+
 pub told-by : {a b : Answer} {lent place : List ℕ} {z : ℤ} → a ≡ b → Told a lent z place → Told b lent (toZ w32 (ofZ w32 z)) place
-told-by {a} {b} {lent} {place} {z} e t =
-    record { answer = held-answer z b (t .answer ∙ ap (λ (a : Answer). cAnswer a 0) e); place-is = t .place-is ∙ ap (λ (a : Answer). placed a lent) e }
+told-by e t = counted-on e refl (omega arith) t
 
 -- ---- a record's bytes
 

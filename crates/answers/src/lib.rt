@@ -6,6 +6,7 @@ use rules::refusals::Recorded;
 use rules::refusals::Refusal;
 use rules::refusals::number;
 use rules::refusals::place as place_of;
+use rules::rows::RowsAnswer;
 ghost use mathlib.Core.Path.{_≡_};
 ghost use Prim.Native.Nat.{_+_, _*_, _≤_, _<_};
 ghost use lib.IntN.{pos, negℤ};
@@ -38,17 +39,25 @@ pub fn put_counts(counts: &mut [usize], stored: usize, changed: usize)
     put(counts, 1, changed);
 }
 
-// 0, or minus the number of a refusal, whose place is put into a list.
-pub fn told(a: Answer, place: &mut [usize]) -> i32
-    ensures { λ n. ⌜ Told a (now (place .entry)) n (now (place .exit)) ⌝ }
+// A count, or minus the number of a refusal, whose place is put into a list.
+fn told_count(a: Answer, k: usize, place: &mut [usize]) -> i32
+    requires { ⌜ k < 2147483648 ⌝ }
+    ensures { λ n. ⌜ Counted a k (now (place .entry)) n (now (place .exit)) ⌝ }
 {
     match a {
-        Answer::Accepted => 0,
+        Answer::Accepted => count(k),
         Answer::Refused(r) => {
             put(place, 0, place_of(r));
             minus(r)
         }
     }
+}
+
+// 0, or minus the number of a refusal, whose place is put into a list.
+pub fn told(a: Answer, place: &mut [usize]) -> i32
+    ensures { λ n. ⌜ Told a (now (place .entry)) n (now (place .exit)) ⌝ }
+{
+    told_count(a, 0, place)
 }
 
 // How many bytes a record takes, or minus the number of a refusal, whose place is put into a list.
@@ -82,6 +91,16 @@ pub fn told_record(a: RecordAnswer, place: &mut [usize], counts: &mut [usize]) -
     put_counts(counts, a.stored, a.changed);
     let record = a.record;
     told_bytes(record, place)
+}
+
+// How many rows are final, or minus the number of a refusal, whose place is put into a list, with the counts in another.
+pub fn told_rows(a: RowsAnswer, place: &mut [usize], counts: &mut [usize]) -> i32
+    requires { ⌜ a .finalrows < 2147483648 ⌝ }
+    ensures { λ n. ⌜ Counted (a .answer) (a .finalrows) (now (place .entry)) n (now (place .exit)) × (now (counts .exit) ≡ tallied (a .stored) (a .changed) (now (counts .entry))) ⌝ }
+{
+    put_counts(counts, a.stored, a.changed);
+    let answer = a.answer;
+    told_count(answer, a.finalrows, place)
 }
 
 // Both thresholds in one number, q above side.

@@ -1,36 +1,86 @@
 -- A grid whose largest numbers are small has no bad cell, and what a grid without one gives.
 -- Assumes nothing.
-use mathlib.Core.Path.{_≡_, sym, ap, _∙_}
+use mathlib.Core.Path.{_≡_, refl, sym, ap, _∙_}
 use mathlib.Core.List.{List, []}
-use Prim.Native.Nat.{ℕ, _*_, _≤_, _<_}
+use Prim.Native.Nat.{ℕ, _+_, _*_, _≤_, _<_, max}
+use native.Mathlib.Nat.{le-antisymm}
+use native.Mathlib.Decide.{decLe}
 use native.Mathlib.Omega.{arith}
 use borrow.Author.Needs.{needs}
-use borrow.Author.Tests.{leb-true}
+use borrow.Author.Tests.{le-leb, lt-leb, leb-true}
 use mathlib.Core.Bool.{Bool, true, false}
 use lib.Dec.{leb, ltb}
 use lib.ListN.{getD}
-use Rattle.laws.specs.Choose.{all-ok, all-none, all-parts, is-le, not-le, not-lt, told-yes-not, told-no-not}
-use Rattle.laws.specs.Largest.{largest}
+use Rattle.laws.specs.Choose.{all-bad, all-ok, all-none, all-later, all-parts, is-le, not-le, not-lt, told-yes-not, told-no-not}
+use Rattle.laws.specs.Largest.{largest, largest-none}
 use Rattle.rules.specs.declared.settings.Plane.{Plane}
 use Rattle.rules.specs.declared.refusals.Found.{Found}
 use Rattle.rules.specs.declared.refusals.Found.the-variants.{Nothing}
 use Rattle.rules.specs.Refusals.{foundIf, foundUnless, over}
 use Rattle.rules.specs.Plane.{Grid, keeping, cellGood, badCell, badKeep}
-use Rattle.scan.proofs.Bytes.{under-most as under-all}
+use Rattle.scan.proofs.Bytes.{most-more, under-most as under-all}
 use Rattle.scan.proofs.First.{firsts, all-nothing, nothing-all, found-unless-not, found-if-not, unless-nothing}
 use Rattle.cells.specs.Fit.{small, badOf}
 
 -- ---- the largest of each list
 
--- a list's largest m, found to be too large, not too large, and left to the answer
-pub over-most : (m l n : ℕ) → m ≡ l → n < m → false ≡ leb l n
-over-most m l n e h = not-le l n (omega arith)
+-- the largest of four, taken by other pairs
+swap : (a b x y : ℕ) → max (max a b) (max x y) ≡ max (max a x) (max b y)
+swap a b x y = omega arith
 
-pub under-most : (m l n : ℕ) → m ≡ l → m ≤ n → true ≡ leb l n
-under-most m l n e h = is-le l n (omega arith)
+-- one number more of a list
+one-more : (l : List ℕ) (k : ℕ) → largest l 0 (k + 1) ≡ max (largest l 0 k) (getD l k 0)
+one-more l k = sym (most-more l k refl refl)
 
-pub last-most : (m l n : ℕ) → m ≡ l → leb m n ≡ leb l n
-last-most m l n e = ap (λ (k : ℕ). leb k n) e
+-- the largest mark of three lists and the largest size index of two, from none on and with a cell more
+abbrev pub mostMark : List ℕ → List ℕ → List ℕ → ℕ → ℕ
+mostMark v h ks n = max (largest v 0 n) (max (largest h 0 n) (largest ks 0 n))
+
+abbrev pub mostIndex : List ℕ → List ℕ → ℕ → ℕ
+mostIndex w t n = max (largest w 0 n) (largest t 0 n)
+
+pub mark-none : (v h ks : List ℕ) → 0 ≡ mostMark v h ks 0
+mark-none v h ks = omega (arith, largest-none v 0, largest-none h 0, largest-none ks 0)
+
+pub index-none : (w t : List ℕ) → 0 ≡ mostIndex w t 0
+index-none w t = omega (arith, largest-none w 0, largest-none t 0)
+
+pub mark-more : (v h ks : List ℕ) (k : ℕ) {m a b r : ℕ} → m ≡ mostMark v h ks k → a ≡ max (getD h k 0) (getD ks k 0) → b ≡ max (getD v k 0) a → r ≡ max m b → r ≡ mostMark v h ks (k + 1)
+mark-more v h ks k e f g i =
+    let inner = swap (largest h 0 k) (largest ks 0 k) (getD h k 0) (getD ks k 0) in
+    let outer = swap (largest v 0 k) (max (largest h 0 k) (largest ks 0 k)) (getD v k 0) (max (getD h k 0) (getD ks k 0)) in
+    rw (i, e, g, f, one-more v k, one-more h k, one-more ks k) (outer ∙ ap (max (max (largest v 0 k) (getD v k 0))) inner)
+
+pub index-more : (w t : List ℕ) (k : ℕ) {m a r : ℕ} → m ≡ mostIndex w t k → a ≡ max (getD w k 0) (getD t k 0) → r ≡ max m a → r ≡ mostIndex w t (k + 1)
+index-more w t k e f g = rw (g, e, f, one-more w k, one-more t k) (swap (largest w 0 k) (largest t 0 k) (getD w k 0) (getD t k 0))
+
+-- the largest mark found to be too large, or else the largest size index
+module _ (v h w t ks : List ℕ) (k n : ℕ) {m : ℕ} (is : m ≡ mostMark v h ks k) (up : k ≤ n) (all-of : n ≤ k) where
+  at-end : m ≡ mostMark v h ks n
+  at-end = rw (le-antisymm up all-of) at is
+
+  pub mark-over : 1 < m → false ≡ small n (keeping v h w t [] [] ks)
+  unfolding small
+  mark-over o = let e = at-end in elim (decLe (largest v 0 n) 1) [
+    | no a ↦ all-bad _ _ (not-le (largest v 0 n) 1 (omega arith))
+    | yes a ↦ all-later _ _ (elim (decLe (largest h 0 n) 1) [
+      | no b ↦ all-bad _ _ (not-le (largest h 0 n) 1 (omega arith))
+      | yes b ↦ all-later _ _ (all-later _ _ (all-later _ _ (all-bad _ _ (not-le (largest ks 0 n) 1 (omega arith)))))
+    ])
+  ]
+
+  pub index-last : {z : ℕ} → m ≤ 1 → z ≡ mostIndex w t k → leb z 6 ≡ small n (keeping v h w t [] [] ks)
+  unfolding small
+  index-last {z} o f =
+      let e = at-end in
+      let i : z ≡ mostIndex w t n = rw (le-antisymm up all-of) at f in
+      all-ok _ _ _ (is-le (largest v 0 n) 1 (omega arith)) (all-ok _ _ _ (is-le (largest h 0 n) 1 (omega arith)) (elim (decLe z 6) [
+        | yes a ↦ rw (le-leb z 6 a) (all-ok _ _ _ (is-le (largest w 0 n) 6 (omega arith)) (all-ok _ _ _ (is-le (largest t 0 n) 6 (omega arith)) (all-ok _ _ _ (is-le (largest ks 0 n) 1 (omega arith)) all-none)))
+        | no a ↦ rw (lt-leb z 6 (omega arith)) (elim (decLe (largest w 0 n) 6) [
+          | no b ↦ all-bad _ _ (not-le (largest w 0 n) 6 (omega arith))
+          | yes b ↦ all-later _ _ (all-bad _ _ (not-le (largest t 0 n) 6 (omega arith)))
+        ])
+      ]))
 
 -- where it is small enough, so is every number
 pub every-small : (l : List ℕ) (n m k : ℕ) → leb (largest l 0 n) m ≡ true → k < n → true ≡ leb (getD l k 0) m
@@ -80,5 +130,8 @@ bad-is s v h w t ks r e q ts = e
 
 -- the code's scan
 pub ruleset finds = (firsts, told-yes-not, told-no-not)
+
+-- the loop over all lists
+pub ruleset larges = (needs, mark-none, index-none, mark-over, index-last)
 
 pub ruleset bads = (needs, small-none, bad-is)

@@ -3,24 +3,25 @@
 use mathlib.Core.Path.{_≡_, refl, sym, ap, _∙_}
 use mathlib.Core.Bool.{Bool, true, false, not}
 use mathlib.Core.List.{List, [], _∷_}
-use Prim.Native.Nat.{ℕ, _+_, _*_, _-_, _≤_, _<_}
+use Prim.Native.Nat.{ℕ, zero, suc, _+_, _*_, _-_, _≤_, _<_}
 use native.Mathlib.Omega.{arith}
 use native.Mathlib.Decide.{ℕ-discrete}
 use borrow.Author.Needs.{needs}
-use borrow.Author.Tests.{eq-eqb, ne-eqb, ltb-true}
-use lib.Dec.{eqb, leb}
-use Rattle.laws.specs.Choose.{pick, all, both-parts, pick-yes, pick-no, all-ok, all-none, is-le, not-lt, both-bad, told-yes-not, told-no-not, told-yes, told-no}
+use borrow.Author.Tests.{eq-eqb, ne-eqb, ltb-true, ltb-false}
+use lib.Dec.{eqb, leb, ltb}
+use lib.ListN.{getD}
+use Rattle.laws.specs.Choose.{pick, both, all, both-parts, pick-yes, pick-no, all-ok, all-none, is-le, is-lt, not-lt, both-bad, both-ok, both-later, told-yes-not, told-no-not, told-yes, told-no}
 use Rattle.rules.specs.declared.settings.Plane.{Plane}
 use Rattle.rules.specs.declared.refusals.Found.{Found}
 use Rattle.rules.specs.declared.refusals.Found.the-variants.{At, Nothing}
-use Rattle.rules.specs.Lengths.{pairOf, reachBefore, reachAfter}
+use Rattle.rules.specs.Lengths.{lengthBefore, lengthAfter, reachOf, pairOf, reachBefore, reachAfter}
 use Rattle.rules.specs.Refusals.{first, sooner}
 use Rattle.rules.specs.Segment.{hasRoom, roomAlong}
-use Rattle.rules.specs.Plane.{Grid, keeping, cellOf, marksOf, indicesOf, indexAt, shortenedAt, isEdge, edgeRoom, lacksRoom, lacksRow, lacksDir, noRoom}
+use Rattle.rules.specs.Plane.{Grid, keeping, cellOf, marksOf, indicesOf, cappedOf, indexAt, shortenedAt, isEdge, edgeRoom, lacksRoom, lacksRow, lacksDir, noRoom}
 use Rattle.lengths.proofs.Lengths.{pair-facts}
 use Rattle.scan.proofs.First.{first-found, all-nothing, found-unless, found-unless-not, sooner-first-by, sooner-second-by}
-use Rattle.cells.specs.Fit.{Cell, Inner, oneWay, sized, marked, starting, roomOf}
-use Rattle.cells.proofs.Places.{pair-below}
+use Rattle.cells.specs.Fit.{Cell, Inner, oneWay, sized, marked, starting, roomOf, mayLack}
+use Rattle.cells.proofs.Places.{cell-below, marks-one, indices-one, pair-below}
 
 -- ---- one edge
 
@@ -102,6 +103,79 @@ module _ (s : Plane) (g : Grid) (dir r c : ℕ) (k : Cell s r c) where
       go : (t : Bool) → isEdge s g dir r c ≡ t → true ≡ pick t (edgeRoom s g dir r c) true
       go true e = middle-room (ltb-true _ _ (both-parts _ _ e .0)) mid
       go false e = refl
+
+-- ---- only a size index over 1 can lack room
+
+pick-most : (t : Bool) {a b n : ℕ} → a ≤ n → b ≤ n → pick t a b ≤ n
+unfolding pick
+pick-most true h g = h
+pick-most false h g = g
+
+-- near the border a size index is lowered
+index-most : (s : Plane) (g : Grid) (dir r c : ℕ) → indexAt s g dir r c ≤ getD (indicesOf g dir) (cellOf s r c) 0
+unfolding indexAt cappedOf
+index-most s g dir r c = pick-most _ (pick-most _ (omega arith) (omega arith)) (pick-most _ (omega arith) (omega arith))
+
+-- up to 1 both sides reach over a cell at most
+abbrev Short : ℕ → Type 0
+Short p = (reachBefore p ≤ 4) × (reachAfter p ≤ 4)
+
+short-reach : (m : ℕ) (chroma shortened : Bool) → m ≤ 1 → Short (pairOf m chroma shortened)
+unfolding pairOf pick reachBefore reachAfter reachOf lengthBefore lengthAfter
+short-reach zero chroma shortened h = (omega arith, omega arith)
+short-reach (suc zero) true true h = (omega arith, omega arith)
+short-reach (suc zero) true false h = (omega arith, omega arith)
+short-reach (suc zero) false shortened h = (omega arith, omega arith)
+short-reach (suc (suc m)) chroma shortened h = absurd (omega arith)
+
+short-along : (at beside count breadth b a : ℕ) → 0 < at → at < count → beside < breadth → b ≤ 4 → a ≤ 4 → true ≡ all (leb b (at * 4) ∷ leb (at * 4 + a) (4 * count) ∷ leb (beside * 4 + 4) (4 * breadth) ∷ [])
+short-along at beside count breadth b a some in-count in-breadth small-b small-a =
+    all-ok _ _ _ (is-le b (at * 4) (omega arith))
+    (all-ok _ _ _ (is-le (at * 4 + a) (4 * count) (omega arith))
+    (all-ok _ _ _ (is-le (beside * 4 + 4) (4 * breadth) (omega arith)) all-none))
+
+module _ (s : Plane) (g : Grid) (dir r c : ℕ) (k : Cell s r c) (low : getD (indicesOf g dir) (cellOf s r c) 0 ≤ 1) where
+  short-room : 0 < pick (eqb dir 0) c r → true ≡ edgeRoom s g dir r c
+  unfolding edgeRoom hasRoom pick
+  short-room some =
+      let most = index-most s g dir r c in
+      let f = short-reach (indexAt s g dir r c) (s .chroma) (shortenedAt s g dir r c) (omega arith) in
+      go (eqb dir 0) some (f .0) (f .1)
+    where
+      go : (t : Bool) → 0 < pick t c r → {b a : ℕ} → b ≤ 4 → a ≤ 4 → true ≡ roomAlong t (4 * s .cols) (4 * s .rows) (c * 4) (r * 4) b a
+      go true some' hb ha = short-along c r (s .cols) (s .rows) _ _ some' (k .in-cols) (k .in-rows) hb ha
+      go false some' hb ha = short-along r c (s .rows) (s .cols) _ _ some' (k .in-rows) (k .in-cols) hb ha
+
+  short-has : Nothing ≡ lacksRoom s g dir r c
+  unfolding lacksRoom isEdge pick
+  short-has = found-unless-not _ _ (go (isEdge s g dir r c) refl)
+    where
+      go : (t : Bool) → isEdge s g dir r c ≡ t → true ≡ pick t (edgeRoom s g dir r c) true
+      go true e = short-room (ltb-true _ _ (both-parts _ _ e .0))
+      go false e = refl
+
+-- the test of a cell by its size index and its mark, as the code finds it
+module _ (s : Plane) (m z : List ℕ) (r c : ℕ) {i : ℕ} (at : i ≡ cellOf s r c) where
+  pub may-not : getD z i 0 ≤ 1 → false ≡ mayLack s m z r c
+  unfolding mayLack
+  may-not h = both-bad _ _ (rw (← at) (not-lt 1 (getD z i 0) h))
+
+  pub may-marked : 1 < getD z i 0 → eqb (getD m i 0) 1 ≡ mayLack s m z r c
+  unfolding mayLack
+  may-marked h = both-ok _ _ _ (rw (← at) (is-lt 1 (getD z i 0) h)) (rw (← at))
+
+-- a cell that is not marked, and so any that fails the test, lacks no room
+unmarked : (s : Plane) (m z ts : List ℕ) (dir r c : ℕ) → false ≡ eqb (getD m (cellOf s r c) 0) 1 → Nothing ≡ lacksRoom s (oneWay m z [] ts) dir r c
+unfolding lacksRoom isEdge
+unmarked s m z ts dir r c q = found-unless-not _ _ (pick-no _ _ _ _ (both-later _ _ (rw (marks-one dir m z [] ts) q)) refl)
+
+pub may-none : (s : Plane) (m z ts : List ℕ) (dir r c : ℕ) {t : Bool} → Cell s r c → t ≡ mayLack s m z r c → not t ≡ true → Nothing ≡ lacksRoom s (oneWay m z [] ts) dir r c
+unfolding mayLack both
+may-none s m z ts dir r c {t} k e f = go (ltb 1 (getD z (cellOf s r c) 0)) refl
+  where
+    go : (u : Bool) → ltb 1 (getD z (cellOf s r c) 0) ≡ u → Nothing ≡ lacksRoom s (oneWay m z [] ts) dir r c
+    go false l = short-has s (oneWay m z [] ts) dir r c k (rw (indices-one dir m z [] ts) (ltb-false 1 _ l))
+    go true l = unmarked s m z ts dir r c (told-no-not _ t (e ∙ ap (λ (u : Bool). both u (eqb (getD m (cellOf s r c) 0) 1)) l) f)
 
 -- a search that can find something at 1 and at n - 1 alone
 pub record Ends (n : ℕ) (f : ℕ → Found) : Type 0 where
@@ -191,6 +265,8 @@ unfolding noRoom lacksDir lacksRow lacksRoom isEdge marksOf edgeRoom indexAt ind
 room-is s v h w t ts r e q ks = e
 
 pub ruleset rooms = (needs, reach-small, inner-by, room-left, room-up, lacks-none, lacks-not, lacks-it)
+
+pub ruleset over-one = (needs, cell-below, may-not, may-marked, may-none)
 
 pub ruleset ends = (needs, columns-none, columns-first, columns-last, rows-none, rows-first, rows-last)
 

@@ -3,14 +3,14 @@
 use mathlib.Core.List.{List, [], _∷_}
 use mathlib.Core.Bool.{Bool}
 use Prim.Native.Nat.{ℕ, _*_, _%_, _≤_, _<_}
-use lib.Dec.{eqb, leb}
+use lib.Dec.{eqb, leb, ltb}
 use lib.ListN.{length, getD}
-use Rattle.laws.specs.Choose.{pick, all}
+use Rattle.laws.specs.Choose.{pick, both, all}
 use Rattle.laws.specs.Largest.{largest}
 use Rattle.rules.specs.declared.settings.Plane.{Plane}
 use Rattle.rules.specs.Lengths.{pairOf}
 use Rattle.rules.specs.Segment.{hasRoom}
-use Rattle.rules.specs.Plane.{Grid, tiled, cellGood, indexAt}
+use Rattle.rules.specs.Plane.{Grid, tiled, cellOf, cellGood, indexAt}
 use Rattle.rules.specs.declared.refusals.Found.{Found}
 use Rattle.rules.specs.Refusals.{first, foundUnless}
 
@@ -100,3 +100,7 @@ unfoldable pub roomOf : Plane → List ℕ → Bool → ℕ → ℕ → ℕ → 
 roomOf s sizes shortened dir r c =
     hasRoom (4 * s .cols) (4 * s .rows)
     (record { x = c * 4; y = r * 4; dir = dir; pair = pairOf (indexAt s (sized sizes) dir r c) (s .chroma) shortened; q = 0; side = 0 })
+
+-- a marked cell of a size index over 1: only such a cell's edge may lack room
+unfoldable pub mayLack : Plane → List ℕ → List ℕ → ℕ → ℕ → Bool
+mayLack s marks sizes r c = both (ltb 1 (getD sizes (cellOf s r c) 0)) (eqb (getD marks (cellOf s r c) 0) 1)

@@ -1,5 +1,6 @@
 // Document 01, refusal 7: the first edge that lacks room, vertical edges row by row, then horizontal.
-// No side reaches over 8 samples, so that an edge lacks room in the first and last columns or rows of edges alone.
+// No side reaches over 8 samples, so that an edge lacks room in the first and last columns or rows of edges alone,
+// and none of a size index up to 1 reaches over 4, so that an edge lacks room by a larger one alone.
 use crate::pair::cell_of;
 use crate::pair::is_edge;
 use crate::pair::pair_at;
@@ -15,7 +16,7 @@ ghost use lib.Dec.{leb};
 ghost use lib.ListN.{length};
 ghost use Rattle.laws.specs.Choose.{all};
 ghost use Rattle.rules.specs.Plane.{keeping, lacksRoom, lacksRow, lacksDir, noRoom};
-ghost use Rattle.cells.specs.Fit.{Sizes, Cell, Inner, Indices, Ready, oneWay, roomOf};
+ghost use Rattle.cells.specs.Fit.{Sizes, Cell, Inner, Indices, Ready, oneWay, roomOf, mayLack};
 
 // Whether both reaches lie in the plane along an edge's lines, and the four lines beside each other.
 fn along(at: usize, beside: usize, length: usize, breadth: usize, b: usize, a: usize) -> bool
@@ -68,6 +69,29 @@ fn lacks_room(
     Found::At(cell_of(s, r, c))
 }
 
+// Whether a cell is marked and of a size index over 1: other cells have no edge that lacks room.
+fn may_lack(marks: &[u8], sizes: &[u8], s: Plane, r: usize, c: usize) -> bool
+    requires { ⌜ Ready s (now marks) (now sizes) × Cell s r c ⌝ }
+    ensures { λ t. ⌜ t ≡ mayLack s (now (marks .entry)) (now (sizes .entry)) r c ⌝ }
+{
+    let i = cell_of(s, r, c);
+    if sizes[i] <= 1 {
+        return false;
+    }
+    marks[i] == 1
+}
+
+// The cell, where it has a vertical edge that lacks room.
+fn lacks_left(vedge: &[u8], sqw: &[u8], tiles: &[u16], s: Plane, r: usize, c: usize) -> Found
+    requires { ⌜ Ready s (now vedge) (now sqw) × Cell s r c ⌝ }
+    ensures { λ f. ⌜ f ≡ lacksRoom s (oneWay (now (vedge .entry)) (now (sqw .entry)) [] (now (tiles .entry))) 0 r c ⌝ }
+{
+    if !may_lack(vedge, sqw, s, r, c) {
+        return Found::Nothing;
+    }
+    lacks_room(vedge, sqw, tiles, s, 0, r, c)
+}
+
 // The first vertical edge of a row that lacks room: in its first or last column of edges.
 fn lacks_ends(vedge: &[u8], sqw: &[u8], tiles: &[u16], s: Plane, r: usize) -> Found
     requires { ⌜ Ready s (now vedge) (now sqw) × (r < s .rows) ⌝ }
@@ -77,11 +101,11 @@ fn lacks_ends(vedge: &[u8], sqw: &[u8], tiles: &[u16], s: Plane, r: usize) -> Fo
     if cols < 2 {
         return Found::Nothing;
     }
-    let f = lacks_room(vedge, sqw, tiles, s, 0, r, 1);
+    let f = lacks_left(vedge, sqw, tiles, s, r, 1);
     if let Found::At(k) = f {
         return Found::At(k);
     }
-    lacks_room(vedge, sqw, tiles, s, 0, r, cols - 1)
+    lacks_left(vedge, sqw, tiles, s, r, cols - 1)
 }
 
 // The first vertical edge that lacks room.
@@ -104,6 +128,9 @@ fn lacks_above(hedge: &[u8], sqh: &[u8], s: Plane, r: usize, c: usize) -> Found
     requires { ⌜ Ready s (now hedge) (now sqh) × Cell s r c ⌝ }
     ensures { λ f. ⌜ f ≡ lacksRoom s (oneWay (now (hedge .entry)) (now (sqh .entry)) [] []) 1 r c ⌝ }
 {
+    if !may_lack(hedge, sqh, s, r, c) {
+        return Found::Nothing;
+    }
     lacks_room(hedge, sqh, &[], s, 1, r, c)
 }
 

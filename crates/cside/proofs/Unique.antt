@@ -20,6 +20,8 @@ use Rattle.leaves.specs.declared.records.Leaf.{Leaf}
 use Rattle.leaves.specs.Records.{flat}
 use Rattle.frame_entry.specs.Listed.{FrameTold}
 use Rattle.frame_entry.proofs.Unique.{frame-unique}
+use Rattle.rows_entry.specs.Listed.{RowsTold}
+use Rattle.rows_entry.proofs.Handed.{told-once}
 use Rattle.cside.specs.Segment.{SegmentTold}
 use Rattle.cside.specs.Steps.{StepsTold}
 
@@ -79,6 +81,12 @@ module _ {r s : ℤ} where
     record-plane-unique steps l b g t u =
         let e = counted-unique (t .told) (u .told) in
         (e .0, t .plane ∙ sym (u .plane), t .buffer ∙ sym (u .buffer), e .1, t .counts-are ∙ sym (u .counts-are))
+
+    pub rows-unique : (steps l st : List ℕ) (g : Grid) (filled : ℕ) {m n t u : List ℕ}
+        → RowsTold settings steps g st filled l place counts r m t p x
+        → RowsTold settings steps g st filled l place counts s n u q y
+        → (r ≡ s) × (m ≡ n) × (t ≡ u) × (p ≡ q) × (x ≡ y)
+    rows-unique steps l st g filled = told-once
 
     pub whole-frame-unique : (given : Given) (l : Lent) {m n : Lent} → FrameTold settings given l place counts r m p x → FrameTold settings given l place counts s n q y
         → (r ≡ s) × (m ≡ n) × (p ≡ q) × (x ≡ y)

@@ -18,6 +18,9 @@ pub mod plain_planes;
 // One plane whose edges are recorded.
 pub mod recorded_planes;
 
+// One plane whose rows come as they are filled.
+pub mod filled_rows;
+
 // A record that is run again.
 pub mod replays;
 

@@ -22,7 +22,8 @@ use Rattle.asked.specs.Lists.{listsAsked, stepsAsked, between}
 use Rattle.frame_checks.specs.Settings.{planeOf, tuOf, qOf}
 use Rattle.framed.specs.Deblocked.{zeros}
 use Rattle.framed.specs.Framed.{givenBy, givenAsked, startsBy, startsAsked}
-use Rattle.edge_record.specs.Noted.{dark, gridBy, bytesOf, leavesFrom, leavesEnd, leavesBy, tilesFrom, tilesEnd, tilesBy, Noted, NotedBy}
+use Rattle.gridded.specs.Spans.{leavesFrom, leavesEnd, tilesFrom, tilesEnd}
+use Rattle.edge_record.specs.Noted.{dark, gridBy, bytesOf, leavesBy, tilesBy, Noted, NotedBy}
 
 module _ (t : TuGrid) (q : QindexGrid) (leaves skips sbq ts : List ℕ) {r : Answer} {v h w x i o v' h' w' x' i' o' : List ℕ} where
   -- the grid that both entries leave of lists that were all zero

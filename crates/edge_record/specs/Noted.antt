@@ -17,7 +17,6 @@ use Rattle.rules.specs.QindexGrid.{qGridAfter}
 use Rattle.rules.specs.Frame.{Given, withQ}
 use Rattle.rules.specs.Record.{recordedAnswer, recordedBuffer}
 use Rattle.frame_checks.specs.Settings.{planeOf, tuOf, qOf}
-use Rattle.asked.specs.declared.lists.Lists.{Lists}
 use Rattle.framed.specs.Deblocked.{Starts, zeros}
 
 -- every sample of the largest plane
@@ -40,27 +39,11 @@ pub record Noted (s : Plane) (steps : List ℕ) (g : Grid) (b : List ℕ) (n : �
   pub buffer : c ≡ recordedBuffer s steps g dark b
 
 -- luma's leaves, or chroma's
-abbrev pub leavesFrom : Lists → Bool → ℕ
-leavesFrom l false = l .leaves
-leavesFrom l true = l .chroma
-
-abbrev pub leavesEnd : Lists → Bool → ℕ
-leavesEnd l false = l .leavesend
-leavesEnd l true = l .chromaend
-
 abbrev pub leavesBy : Given → Bool → List ℕ
 leavesBy g false = g .leaves
 leavesBy g true = g .chromaLeaves
 
 -- luma's tile starts, or chroma's
-abbrev pub tilesFrom : Lists → Bool → ℕ
-tilesFrom l false = l .tiles
-tilesFrom l true = l .chromatiles
-
-abbrev pub tilesEnd : Lists → Bool → ℕ
-tilesEnd l false = l .tilesend
-tilesEnd l true = l .chromatilesend
-
 abbrev pub tilesBy : Starts → Bool → List ℕ
 tilesBy t false = t .luma
 tilesBy t true = t .chroma

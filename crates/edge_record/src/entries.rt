@@ -1,12 +1,9 @@
 // The record of a picture's luma or chroma, by the frame and the settings' own lists.
 ghost use mathlib.Core.Path.{_≡_};
-ghost use Prim.Native.Nat.{_≤_};
 ghost use lib.ListN.{length};
-ghost use Rattle.asked.specs.Lists.{Within};
 ghost use Rattle.frame_checks.specs.Settings.{Sized};
 ghost use Rattle.framed.specs.Framed.{Listed, givenAsked, startsAsked};
-ghost use Rattle.edge_record.specs.Noted.{dark, gridBy, bytesOf, leavesFrom, leavesEnd, tilesFrom, tilesEnd, Noted, NotedBy};
-use asked::lists::Lists;
+ghost use Rattle.edge_record.specs.Noted.{dark, gridBy, bytesOf, Noted, NotedBy};
 use asked::lists::lists_of;
 use asked::lists::steps_of;
 use frame_checks::planes::plane_of;
@@ -15,6 +12,8 @@ use frame_checks::planes::tu_of;
 use framed::deblocking::indices;
 use framed::deblocking::marks;
 use grid::tx_grid::build_tx_grid;
+use gridded::spans::leaves_of;
+use gridded::spans::tiles_of;
 use qindex::qindex_grid::build_qindex_grid;
 use recorded::record_plane;
 use rules::refusals::Recorded;
@@ -92,48 +91,6 @@ fn noted(
     );
     let length = a.record;
     bytes_of(length)
-}
-
-// Where a list of short numbers begins and ends.
-struct Span {
-    from: usize,
-    end: usize,
-}
-
-// The leaves of luma or of chroma, among n short numbers.
-fn leaves_of(at: Lists, chroma: bool, n: usize) -> Span
-    requires { ⌜ Within at n ⌝ }
-    ensures { λ r. ⌜ (r .from ≤ r .end) × (r .end ≤ n) ⌝ }
-    ensures { λ r. ⌜ (r .from ≡ leavesFrom at chroma) × (r .end ≡ leavesEnd at chroma) ⌝ }
-{
-    if chroma {
-        return Span {
-            from: at.chroma,
-            end: at.chromaend,
-        };
-    }
-    Span {
-        from: at.leaves,
-        end: at.leavesend,
-    }
-}
-
-// The tile starts of luma or of chroma, among n short numbers.
-fn tiles_of(at: Lists, chroma: bool, n: usize) -> Span
-    requires { ⌜ Within at n ⌝ }
-    ensures { λ r. ⌜ (r .from ≤ r .end) × (r .end ≤ n) ⌝ }
-    ensures { λ r. ⌜ (r .from ≡ tilesFrom at chroma) × (r .end ≡ tilesEnd at chroma) ⌝ }
-{
-    if chroma {
-        return Span {
-            from: at.chromatiles,
-            end: at.chromatilesend,
-        };
-    }
-    Span {
-        from: at.tiles,
-        end: at.tilesend,
-    }
 }
 
 // Luma's record, or chroma's; how long it is, 0 where there is none.

@@ -1,6 +1,4 @@
 // From the files to a written record and the outcome.
-ghost use mathlib.Core.Path.{_≡_};
-ghost use mathlib.Core.Bool.{true};
 ghost use lib.ListN.{length};
 ghost use Rattle.frame_checks.specs.Settings.{Sized};
 ghost use Rattle.framed.specs.Framed.{Listed};
@@ -8,6 +6,7 @@ use crate::entries::record_of;
 use crate::entries::room;
 use asked::told::frame_of;
 use frame_checks::planes::kind_on;
+use gridded::sizes::sized;
 use pictures::defaults;
 use pictures::files;
 use pictures::shapes::chroma_of;
@@ -25,22 +24,6 @@ fn written(fd: i32, bytes: &[u8], n: usize) -> bool {
     }
     let whole = io::write_all(fd, &bytes[..n]);
     libc::close(fd) == 0 && whole
-}
-
-// Whether a frame's size and subsampling are in their ranges.
-fn sized(f: Frame) -> bool
-    ensures { λ r. ⌜ (r ≡ true → Sized f) ⌝ }
-{
-    if f.width < 1 || f.height < 1 {
-        return false;
-    }
-    if 4096 < f.width || 4096 < f.height {
-        return false;
-    }
-    if 1 < f.ssx || 1 < f.ssy {
-        return false;
-    }
-    true
 }
 
 // Writes luma's record or chroma's, where its planes are deblocked; the outcome.

@@ -10,7 +10,7 @@ use Rattle.laws.specs.Choose.{pick}
 use Rattle.rules.specs.declared.settings.Frame.{Frame}
 use Rattle.rules.specs.declared.lent.FrameLengths.{FrameLengths}
 use Rattle.rules.specs.declared.refusals.Refusal.{Refusal}
-use Rattle.rules.specs.declared.refusals.Refusal.the-variants.{Depth, Size, Length, Steps, Setting, Cell, Room, Sample, Leaf, Buffer, Header, Cut, Entry}
+use Rattle.rules.specs.declared.refusals.Refusal.the-variants.{Depth, Size, Length, Steps, Setting, Cell, Room, Sample, Leaf, Buffer, Header, Cut, Entry, Filled, Spent}
 use Rattle.rules.specs.declared.refusals.Answer.{Answer}
 use Rattle.rules.specs.declared.refusals.Answer.the-variants.{Accepted, Refused}
 use Rattle.rules.specs.declared.refusals.PlaneAnswer.{PlaneAnswer}
@@ -44,6 +44,8 @@ before7 Buffer = false
 before7 Header = false
 before7 (Cut k) = false
 before7 (Entry k) = false
+before7 Filled = false
+before7 Spent = false
 
 -- an answer whose refusal, where it has one, is of a kind
 abbrev Of : (Refusal → Bool) → Answer → Bool

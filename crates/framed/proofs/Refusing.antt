@@ -6,7 +6,7 @@ use borrow.Author.Needs.{needs}
 use lib.ListN.{length, getD}
 use Rattle.rules.specs.declared.settings.Frame.{Frame}
 use Rattle.rules.specs.declared.refusals.Refusal.{Refusal}
-use Rattle.rules.specs.declared.refusals.Refusal.the-variants.{Depth, Size, Length, Steps, Setting, Cell, Room, Sample, Leaf, Buffer, Header, Cut, Entry}
+use Rattle.rules.specs.declared.refusals.Refusal.the-variants.{Depth, Size, Length, Steps, Setting, Cell, Room, Sample, Leaf, Buffer, Header, Cut, Entry, Filled, Spent}
 use Rattle.rules.specs.declared.refusals.PlaneAnswer.{PlaneAnswer}
 use Rattle.rules.specs.declared.refusals.Answer.{Answer}
 use Rattle.rules.specs.declared.refusals.Answer.the-variants.{Accepted, Refused}
@@ -74,7 +74,15 @@ module _ (f : Frame) (n : Given) (ts : List ℕ) (p : Planes) (r : Refusal) {x :
   unfolding refusalPlace
   of-entry e g = rw e g
 
-pub ruleset refusing = (needs, at-sample, at-room, at-leaf, at-step, of-depth, of-size, of-length, of-setting, of-cell, of-buffer, of-header, of-cut, of-entry)
+  pub of-filled : r ≡ Filled → x ≡ placeIn 8 0 0 → x ≡ refusalPlace f n ts p r
+  unfolding refusalPlace
+  of-filled e g = rw e g
+
+  pub of-spent : r ≡ Spent → x ≡ placeIn 8 0 0 → x ≡ refusalPlace f n ts p r
+  unfolding refusalPlace
+  of-spent e g = rw e g
+
+pub ruleset refusing = (needs, at-sample, at-room, at-leaf, at-step, of-depth, of-size, of-length, of-setting, of-cell, of-buffer, of-header, of-cut, of-entry, of-filled, of-spent)
 
 -- ---- what a deblocked frame tells
 

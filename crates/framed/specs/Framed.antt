@@ -6,7 +6,7 @@ use Prim.Native.Nat.{ℕ, _≤_}
 use lib.ListN.{length, getD}
 use Rattle.rules.specs.declared.settings.Frame.{Frame}
 use Rattle.rules.specs.declared.refusals.Refusal.{Refusal}
-use Rattle.rules.specs.declared.refusals.Refusal.the-variants.{Depth, Size, Length, Steps, Setting, Cell, Room, Sample, Leaf, Buffer, Header, Cut, Entry}
+use Rattle.rules.specs.declared.refusals.Refusal.the-variants.{Depth, Size, Length, Steps, Setting, Cell, Room, Sample, Leaf, Buffer, Header, Cut, Entry, Filled, Spent}
 use Rattle.rules.specs.declared.refusals.Answer.{Answer}
 use Rattle.rules.specs.declared.refusals.Answer.the-variants.{Accepted, Refused}
 use Rattle.rules.specs.Frame.{Planes, Given, given}
@@ -56,6 +56,8 @@ refusalPlace f n ts p Buffer = placeIn 8 0 0
 refusalPlace f n ts p Header = placeIn 8 0 0
 refusalPlace f n ts p (Cut k) = placeIn 8 0 0
 refusalPlace f n ts p (Entry k) = placeIn 8 0 0
+refusalPlace f n ts p Filled = placeIn 8 0 0
+refusalPlace f n ts p Spent = placeIn 8 0 0
 
 -- an accepted frame has no place but itself
 unfoldable pub answerPlace : Frame → Given → List ℕ → Planes → Answer → Place

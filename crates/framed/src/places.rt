@@ -87,5 +87,7 @@ pub fn place_of(
         Refusal::Header => at(8, 0, 0),
         Refusal::Cut(_) => at(8, 0, 0),
         Refusal::Entry(_) => at(8, 0, 0),
+        Refusal::Filled => at(8, 0, 0),
+        Refusal::Spent => at(8, 0, 0),
     }
 }

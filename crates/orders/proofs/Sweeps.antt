@@ -10,7 +10,8 @@ use Rattle.laws.specs.Schedules.{plain, banded}
 use Rattle.rules.specs.declared.edge.Edge.{Edge}
 use Rattle.rules.specs.declared.settings.Plane.{Plane}
 use Rattle.rules.specs.Plane.{Grid, visitOf, startOf, countOf, sweepOf, columnOf}
-use Rattle.orders.specs.Walks.{plainOf, ready, bandsOf}
+use Rattle.rules.specs.Rows.{ready, bandOf}
+use Rattle.orders.specs.Walks.{plainOf, bandsOf}
 
 from-0 : {E : Type 0} (f : ℕ → List E) (n : ℕ) → each n (λ i. f (0 + i)) ≡ each n f
 from-0 f n = each-same (λ i. f (0 + i)) f n (λ i l. ap f (zero-add i))
@@ -55,7 +56,7 @@ module _ (s : Plane) (steps : List ℕ) (g : Grid) where
 
   -- bands of rows
   pub bands-walk : (a : ℕ → ℕ) (n : ℕ) → bandsOf s steps g a n ≡ banded vert horz (s .cols) a (λ k. ready (s .rows) (a k)) n
-  unfolding bandsOf
+  unfolding bandsOf bandOf
   bands-walk a n =
       each-same _ _ n (λ k l.
       ap₂ (λ (x y : List Edge). x ++ y)

@@ -88,7 +88,7 @@ pub fn row_bytes(width: usize, wide: bool) -> usize
 }
 
 // The next row's bytes to the front of the buffer, where the plane has another row; how many of them there are.
-fn read_row(fd: i32, bytes: &mut [u8], n: usize, more: bool) -> usize
+pub fn read_row(fd: i32, bytes: &mut [u8], n: usize, more: bool) -> usize
     requires { ⌜ n ≤ length (now bytes) ⌝ }
     ensures { λ r. ⌜ NextRow more n (now (bytes .entry)) (now (bytes .exit)) r ⌝ }
 {
@@ -99,7 +99,7 @@ fn read_row(fd: i32, bytes: &mut [u8], n: usize, more: bool) -> usize
 }
 
 // One row of a plane from the buffer; false where the plane has no such row.
-fn put_row(bytes: &[u8], plane: &mut [u16], at: usize, s: Shape, wide: bool) -> bool
+pub fn put_row(bytes: &[u8], plane: &mut [u16], at: usize, s: Shape, wide: bool) -> bool
     requires { ⌜ Fit s × (at ≤ 16777216) ⌝ }
     ensures { λ r. ⌜ r ≡ leb (at + s .stride) (length (now (plane .entry))) ⌝ }
     ensures { λ _. ⌜ now (plane .exit) ≡ rowPut wide s (now (bytes .entry)) at (now (plane .entry)) ⌝ }
@@ -113,7 +113,7 @@ fn put_row(bytes: &[u8], plane: &mut [u16], at: usize, s: Shape, wide: bool) -> 
 }
 
 // What was read: rows of n bytes, and some bytes of another one.
-fn sum_up(whole: bool, rows: usize, n: usize, bytes: usize) -> Got
+pub fn sum_up(whole: bool, rows: usize, n: usize, bytes: usize) -> Got
     requires { ⌜ (rows ≤ 4096) × (n ≤ 8192) × (bytes ≤ 8192) ⌝ }
     ensures { λ r. ⌜ r .whole ≡ whole ⌝ }
 {
@@ -178,7 +178,7 @@ pub fn pack(plane: &mut [u16], s: Shape)
 }
 
 // One row of a packed plane to a file; promised are the bytes that are handed on.
-fn write_row(fd: i32, row: &[u16], bytes: &mut [u8], n: usize, wide: bool) -> bool
+pub fn write_row(fd: i32, row: &[u16], bytes: &mut [u8], n: usize, wide: bool) -> bool
     requires { ⌜ n ≤ length (now bytes) ⌝ }
     ensures { λ _. ⌜ now (bytes .exit) ≡ rowOut wide (now (row .entry)) n (now (bytes .entry)) ⌝ }
 {

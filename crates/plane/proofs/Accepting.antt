@@ -13,19 +13,22 @@ use lib.ListN.{length, getD}
 use Rattle.laws.specs.Choose.{pick, pick-yes, pick-no, is-lt, not-lt, told-yes-not, all-parts, both-parts}
 use Rattle.rules.specs.declared.settings.Plane.{Plane}
 use Rattle.rules.specs.declared.refusals.Refusal.{Refusal}
-use Rattle.rules.specs.declared.refusals.Refusal.the-variants.{Depth, Size, Length, Setting, Cell, Room}
+use Rattle.rules.specs.declared.refusals.Refusal.the-variants.{Depth, Size, Length, Setting, Cell, Room, Sample}
 use Rattle.rules.specs.declared.refusals.Answer.{Answer}
 use Rattle.rules.specs.declared.refusals.Answer.the-variants.{Accepted, Refused}
 use Rattle.rules.specs.declared.refusals.Found.{Found}
 use Rattle.rules.specs.declared.refusals.Found.the-variants.{Nothing}
 use Rattle.rules.specs.Numbers.{depthOk}
+use Rattle.rules.specs.Refusals.{orElse, found}
 use Rattle.rules.specs.Thresholds.{stepsCheck, deltasCheck, quantOf, stepOf, sideOf, indexOf}
-use Rattle.rules.specs.Plane.{Grid, tiled, keeping, startsTile, shortenedAt, cellGood, edgeAt, visitOf, sweepOf, columnOf, turnOf, edgesOf, marksOf, indicesOf, indexAt, isEdge, edgeRoom, lacksRoom, lacksRow, lacksDir, badCell, noRoom, planeSizesOk, planeLengthsOk, planeCheck, planeAfter, planeStored, planeChanged, runPlane, runStored, runChanged}
+use Rattle.rules.specs.Plane.{Grid, tiled, keeping, startsTile, shortenedAt, cellGood, edgeAt, visitOf, sweepOf, columnOf, turnOf, edgesOf, marksOf, indicesOf, indexAt, isEdge, edgeRoom, lacksRoom, lacksRow, lacksDir, badCell, noRoom, overPlane, planeSizesOk, planeLengthsOk, planeCheck, planeAfter, planeStored, planeChanged, runPlane, runStored, runChanged}
+use Rattle.rules.specs.Rows.{settingsCheck}
 use Rattle.thresholds.specs.ByQindex.{packedOf, ByQindex}
 use Rattle.thresholds.proofs.Quants.{q-most}
 use Rattle.thresholds.proofs.Sides.{side-most}
 use Rattle.scan.proofs.First.{sooner-nothing, nothing-all, unless-nothing}
 use Rattle.scan.proofs.Checks.{else-parts, unless-true, found-nothing, settle-refused, settle-accepted}
+use Rattle.scan.proofs.Exactly.{else-joined}
 use Rattle.cells.specs.Fit.{Sizes, Long, Ready, Cell as Inside, badOf, oneWay, marked, shortBy, roomOf}
 use Rattle.cells.proofs.Accepted.{sizes, sizes-by}
 use Rattle.cells.proofs.Marks.{none-good}
@@ -86,16 +89,20 @@ bad-none : (s : Plane) (v h w t q ts ks : List ℕ) → badCell s (keeping v h w
 unfolding badCell badOf cellGood
 bad-none s v h w t q ts ks e = e
 
-pub readies-by : {s : Plane} {n : ℕ} (v h w t ks : List ℕ) {f : Found} → Sized s n (length v) (length h) (length w) (length t) (length ks) → ((q ts : List ℕ) → f ≡ badCell s (keeping v h w t q ts ks)) → f ≡ Nothing → Ready s v w × Ready s h t
-readies-by {s} v h w t ks z e g =
+pub readies : {s : Plane} (v h w t ks : List ℕ) {f : Found} → Sizes s → Long (s .rows * s .cols) (length v) (length h) (length w) (length t) (length ks) → ((q ts : List ℕ) → f ≡ badCell s (keeping v h w t q ts ks)) → f ≡ Nothing → Ready s v w × Ready s h t
+readies {s} v h w t ks z l e g =
     let none = bad-none s v h w t [] [] ks (sym (e [] []) ∙ g) in
-    (ready-vert v h w t ks (z .sizes-ok) (z .lists-long) none, ready-horz v h w t ks (z .sizes-ok) (z .lists-long) none)
+    (ready-vert v h w t ks z l none, ready-horz v h w t ks z l none)
+
+pub readies-by : {s : Plane} {n : ℕ} (v h w t ks : List ℕ) {f : Found} → Sized s n (length v) (length h) (length w) (length t) (length ks) → ((q ts : List ℕ) → f ≡ badCell s (keeping v h w t q ts ks)) → f ≡ Nothing → Ready s v w × Ready s h t
+readies-by v h w t ks z e g = readies v h w t ks (z .sizes-ok) (z .lists-long) e g
 
 -- ---- an accepted plane
 
-pub checked : (s : Plane) (steps : List ℕ) (g : Grid) (l : List ℕ) → planeCheck s steps g l ≡ Accepted → Checked s steps g (length l)
-unfolding planeCheck deltasCheck
-checked s steps g l e =
+-- checks 1 to 7
+pub settled : (s : Plane) (steps : List ℕ) (g : Grid) (n : ℕ) → settingsCheck s steps g n ≡ Accepted → Checked s steps g n
+unfolding settingsCheck deltasCheck
+settled s steps g n e =
     let p1 = else-parts _ _ e in
     let p2 = else-parts _ _ (p1 .1) in
     let p3 = else-parts _ _ (p2 .1) in
@@ -103,7 +110,6 @@ checked s steps g l e =
     let p5 = else-parts _ _ (p4 .1) in
     let p6 = else-parts _ _ (p5 .1) in
     let p7 = else-parts _ _ (p6 .1) in
-    let p8 = else-parts _ _ (p7 .1) in
     let deltas = both-parts _ _ (unless-true _ Setting (p5 .0)) in
     record {
       depth = unless-true _ Depth (p1 .0);
@@ -114,8 +120,20 @@ checked s steps g l e =
       deltaside-ok = deltas .1;
       tiles-ok = p6 .0;
       cells = found-nothing _ Cell (p7 .0);
-      room = found-nothing _ Room (p8 .0);
+      room = found-nothing _ Room (p7 .1);
     }
+
+-- 1 to 7, then 8
+pub plane-parts : (s : Plane) (steps : List ℕ) (g : Grid) (l : List ℕ) → planeCheck s steps g l ≡ orElse (settingsCheck s steps g (length l)) (found (overPlane s l) Sample)
+unfolding planeCheck settingsCheck
+plane-parts s steps g l = simp else-joined
+
+pub checked : (s : Plane) (steps : List ℕ) (g : Grid) (l : List ℕ) → planeCheck s steps g l ≡ Accepted → Checked s steps g (length l)
+checked s steps g l e = settled s steps g (length l) (else-parts _ _ (sym (plane-parts s steps g l) ∙ e) .0)
+
+-- what the check of the samples asks
+pub checked-samples : {s : Plane} {steps : List ℕ} {g : Grid} {n : ℕ} → Checked s steps g n → Sizes s × (depthOk (s .depth) ≡ true) × (4 * s .rows * s .stride ≤ n)
+checked-samples {s} {steps} {g} {n} k = (k .sizes-ok, k .depth, lengths s g n (k .lengths) .samples)
 
 -- ---- the run
 

@@ -60,12 +60,12 @@ module _ (s : Plane) (steps : List ℕ) (g : Grid) (size : ℕ) (k : Checked s s
         go true e = (inside e, tt)
         go false e = tt
 
-  both-clear : (lacksDir s g 0 ≡ Nothing) × (lacksDir s g 1 ≡ Nothing)
+  pub both-clear : (lacksDir s g 0 ≡ Nothing) × (lacksDir s g 1 ≡ Nothing)
   unfolding noRoom
   both-clear = sooner-nothing _ _ (k .room)
 
   -- the edges of a part of the cells
-  sweep-inside : (dir row rows col cols : ℕ) → lacksDir s g dir ≡ Nothing → row + rows ≤ s .rows → col + cols ≤ s .cols → Each Inside (sweepOf s steps g dir row rows col cols)
+  pub sweep-inside : (dir row rows col cols : ℕ) → lacksDir s g dir ≡ Nothing → row + rows ≤ s .rows → col + cols ≤ s .cols → Each Inside (sweepOf s steps g dir row rows col cols)
   unfolding sweepOf pick
   sweep-inside dir row rows col cols clear h m = go (eqb dir 0)
     where

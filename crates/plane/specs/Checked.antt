@@ -6,7 +6,7 @@ use mathlib.Core.List.{List}
 use lib.ListN.{length}
 use Prim.Native.Nat.{ℕ, _+_, _*_, _≤_}
 use Rattle.rules.specs.declared.settings.Plane.{Plane}
-use Rattle.rules.specs.declared.refusals.Refusal.the-variants.{Cell, Room, Sample}
+use Rattle.rules.specs.declared.refusals.Refusal.the-variants.{Cell, Room}
 use Rattle.rules.specs.declared.refusals.Answer.{Answer}
 use Rattle.rules.specs.declared.refusals.Answer.the-variants.{Accepted}
 use Rattle.rules.specs.declared.refusals.PlaneAnswer.{PlaneAnswer}
@@ -14,7 +14,7 @@ use Rattle.rules.specs.declared.refusals.Found.the-variants.{Nothing}
 use Rattle.rules.specs.Numbers.{depthOk, deltaOk}
 use Rattle.rules.specs.Refusals.{orElse, found}
 use Rattle.rules.specs.Thresholds.{stepsCheck}
-use Rattle.rules.specs.Plane.{Grid, tilesCheck, badCell, noRoom, overPlane, planeLengthsOk, edgesOf, runPlane, runStored, runChanged, planeCheck, planeAfter, planeStored, planeChanged}
+use Rattle.rules.specs.Plane.{Grid, tilesCheck, badCell, noRoom, planeLengthsOk, edgesOf, runPlane, runStored, runChanged, planeCheck, planeAfter, planeStored, planeChanged}
 use Rattle.cells.specs.Fit.{Sizes, Long}
 use Rattle.records.specs.Noted.{noted}
 use Rattle.plane.specs.declared.visited.Visited.{Visited}
@@ -26,9 +26,9 @@ pub record Sized (s : Plane) (n v h w t k : ℕ) : Type 0 where
   pub plane-long : 4 * s .rows * s .stride ≤ n
   pub lists-long : Long (s .rows * s .cols) v h w t k
 
--- checks 6, 7 and 8
-unfoldable pub gridCheck : Plane → Grid → List ℕ → Answer
-gridCheck s g l = orElse (found (badCell s g) Cell) (orElse (found (noRoom s g) Room) (found (overPlane s l) Sample))
+-- checks 6 and 7
+unfoldable pub gridCheck : Plane → Grid → Answer
+gridCheck s g = orElse (found (badCell s g) Cell) (found (noRoom s g) Room)
 
 -- checks 1 to 7 are good, for a plane of so many samples
 pub record Checked (s : Plane) (steps : List ℕ) (g : Grid) (size : ℕ) : Type 0 where

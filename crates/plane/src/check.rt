@@ -1,4 +1,4 @@
-// Document 01's checks 1 to 8 of a plane, in their order, with document 02's checks of the tile starts and the keep marks.
+// Document 01's checks 1 to 8 of a plane, in their order, with document 02's checks of the tile starts and the keep marks; 1 to 7 also alone.
 use cells::grid::bad_cell;
 use cells::room::no_room;
 use cells::samples::over_plane;
@@ -14,14 +14,15 @@ use thresholds::checks::deltas_check;
 use thresholds::checks::steps_check;
 ghost use mathlib.Core.Path.{_≡_};
 ghost use mathlib.Core.List.{List};
-ghost use Prim.Native.Nat.{ℕ};
+ghost use Prim.Native.Nat.{ℕ, _*_};
 ghost use lib.ListN.{length};
 ghost use Rattle.rules.specs.Plane.{keeping, planeCheck};
-ghost use Rattle.plane.specs.Checked.{Sized, gridCheck};
+ghost use Rattle.rules.specs.Rows.{settingsCheck};
+ghost use Rattle.cells.specs.Fit.{Sizes, Long};
+ghost use Rattle.plane.specs.Checked.{gridCheck};
 
-// The checks of what the lists hold, 6, 7 and 8, whatever the qindex.
+// The checks of what the cells hold, 6 and 7, whatever the qindex.
 fn grid_check(
-    plane: &[u16],
     vedge: &[u8],
     hedge: &[u8],
     sqw: &[u8],
@@ -30,8 +31,8 @@ fn grid_check(
     keep: &[u8],
     s: Plane,
 ) -> Answer
-    requires { ⌜ Sized s (length (now plane)) (length (now vedge)) (length (now hedge)) (length (now sqw)) (length (now sqh)) (length (now keep)) ⌝ }
-    ensures { λ a. ⌜ ((q : List ℕ) → a ≡ gridCheck s (keeping (now (vedge .entry)) (now (hedge .entry)) (now (sqw .entry)) (now (sqh .entry)) q (now (tiles .entry)) (now (keep .entry))) (now (plane .entry))) ⌝ }
+    requires { ⌜ Sizes s × Long (s .rows * s .cols) (length (now vedge)) (length (now hedge)) (length (now sqw)) (length (now sqh)) (length (now keep)) ⌝ }
+    ensures { λ a. ⌜ ((q : List ℕ) → a ≡ gridCheck s (keeping (now (vedge .entry)) (now (hedge .entry)) (now (sqw .entry)) (now (sqh .entry)) q (now (tiles .entry)) (now (keep .entry)))) ⌝ }
 {
     let bad = bad_cell(vedge, hedge, sqw, sqh, keep, s);
     if let Found::At(k) = bad {
@@ -41,15 +42,11 @@ fn grid_check(
     if let Found::At(k) = narrow {
         return Answer::Refused(Refusal::Room(k));
     }
-    let over = over_plane(plane, s);
-    if let Found::At(k) = over {
-        return Answer::Refused(Refusal::Sample(k));
-    }
     Answer::Accepted
 }
 
-// The first refusal of a plane, or none.
-pub fn plane_check(
+// The first refusal of a plane by 1 to 7, which look at none of its samples, or none.
+pub fn settings_check(
     plane: &[u16],
     vedge: &[u8],
     hedge: &[u8],
@@ -61,7 +58,7 @@ pub fn plane_check(
     steps: &[u32],
     s: Plane,
 ) -> Answer
-    ensures { λ a. ⌜ a ≡ planeCheck s (now (steps .entry)) (keeping (now (vedge .entry)) (now (hedge .entry)) (now (sqw .entry)) (now (sqh .entry)) (now (qindex .entry)) (now (tiles .entry)) (now (keep .entry))) (now (plane .entry)) ⌝ }
+    ensures { λ a. ⌜ a ≡ settingsCheck s (now (steps .entry)) (keeping (now (vedge .entry)) (now (hedge .entry)) (now (sqw .entry)) (now (sqh .entry)) (now (qindex .entry)) (now (tiles .entry)) (now (keep .entry))) (length (now (plane .entry))) ⌝ }
 {
     if !Depth::is(s.depth) {
         return Answer::Refused(Refusal::Depth);
@@ -84,5 +81,31 @@ pub fn plane_check(
     if let Answer::Refused(r) = starts {
         return Answer::Refused(r);
     }
-    grid_check(plane, vedge, hedge, sqw, sqh, tiles, keep, s)
+    grid_check(vedge, hedge, sqw, sqh, tiles, keep, s)
+}
+
+// The first refusal of a plane, or none.
+pub fn plane_check(
+    plane: &[u16],
+    vedge: &[u8],
+    hedge: &[u8],
+    sqw: &[u8],
+    sqh: &[u8],
+    qindex: &[u16],
+    tiles: &[u16],
+    keep: &[u8],
+    steps: &[u32],
+    s: Plane,
+) -> Answer
+    ensures { λ a. ⌜ a ≡ planeCheck s (now (steps .entry)) (keeping (now (vedge .entry)) (now (hedge .entry)) (now (sqw .entry)) (now (sqh .entry)) (now (qindex .entry)) (now (tiles .entry)) (now (keep .entry))) (now (plane .entry)) ⌝ }
+{
+    let given = settings_check(plane, vedge, hedge, sqw, sqh, qindex, tiles, keep, steps, s);
+    if let Answer::Refused(r) = given {
+        return Answer::Refused(r);
+    }
+    let over = over_plane(plane, s);
+    if let Found::At(k) = over {
+        return Answer::Refused(Refusal::Sample(k));
+    }
+    Answer::Accepted
 }

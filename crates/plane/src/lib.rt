@@ -15,13 +15,14 @@ mod part;
 // The order in which the edges run.
 mod order;
 
-// The checks 1 to 8.
+// The checks 1 to 8, and 1 to 7 alone.
 mod check;
 
 // The run of a checked plane, and the entry.
 mod run;
 
 pub use check::plane_check;
+pub use check::settings_check;
 pub use order::sweep;
 pub use part::Part;
 pub use run::deblock_plane;

@@ -3,7 +3,7 @@
 use Prim.Native.Nat.{_≤_}
 use native.Mathlib.Omega.{arith}
 use Rattle.rules.specs.declared.refusals.Refusal.{Refusal}
-use Rattle.rules.specs.declared.refusals.Refusal.the-variants.{Depth, Size, Length, Steps, Setting, Cell, Room, Sample, Leaf, Buffer, Header, Cut, Entry}
+use Rattle.rules.specs.declared.refusals.Refusal.the-variants.{Depth, Size, Length, Steps, Setting, Cell, Room, Sample, Leaf, Buffer, Header, Cut, Entry, Filled, Spent}
 use Rattle.rules.specs.Refusals.{numberOf}
 
 pub number-most : (r : Refusal) → numberOf r ≤ 255
@@ -20,3 +20,5 @@ number-most Buffer = omega arith
 number-most Header = omega arith
 number-most (Cut k) = omega arith
 number-most (Entry k) = omega arith
+number-most Filled = omega arith
+number-most Spent = omega arith

@@ -12,6 +12,7 @@ pub mod Lone
 pub mod Plane
 pub mod Record
 pub mod Replay
+pub mod Rows
 pub mod TuGrid
 pub mod QindexGrid
 pub mod Keep

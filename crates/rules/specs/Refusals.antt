@@ -6,7 +6,7 @@ use mathlib.Core.List.{List}
 use lib.ListN.{getD}
 use lib.Dec.{ltb}
 use Rattle.rules.specs.declared.refusals.Refusal.{Refusal}
-use Rattle.rules.specs.declared.refusals.Refusal.the-variants.{Depth, Size, Length, Steps, Setting, Cell, Room, Sample, Leaf, Buffer, Header, Cut, Entry}
+use Rattle.rules.specs.declared.refusals.Refusal.the-variants.{Depth, Size, Length, Steps, Setting, Cell, Room, Sample, Leaf, Buffer, Header, Cut, Entry, Filled, Spent}
 use Rattle.rules.specs.declared.refusals.Answer.{Answer}
 use Rattle.rules.specs.declared.refusals.Answer.the-variants.{Accepted, Refused}
 use Rattle.rules.specs.declared.refusals.Found.{Found}
@@ -29,6 +29,9 @@ numberOf Buffer = 10
 numberOf Header = 11
 numberOf (Cut k) = 12
 numberOf (Entry k) = 13
+-- ticket 8: "14 for a count, held or new, that exceeds the plane or is no multiple of 4, or a new one below the held; 15 for a spent state"
+numberOf Filled = 14
+numberOf Spent = 15
 
 -- the table's last column
 abbrev pub placeOf : Refusal → ℕ
@@ -47,6 +50,8 @@ placeOf Header = 0
 -- "each with its number"
 placeOf (Cut k) = k
 placeOf (Entry k) = k
+placeOf Filled = 0
+placeOf Spent = 0
 
 -- ---- checks, one after the other
 

@@ -15,5 +15,8 @@ pub mod counts;
 // What each entry is told: settings by value.
 pub mod settings;
 
+// The state between two calls of a plane whose rows come as they are filled, and a call's answer.
+pub mod rows;
+
 // How long a frame's lent lists are.
 pub mod lent;

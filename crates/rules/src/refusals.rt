@@ -17,6 +17,8 @@ pub enum Refusal {
     Header,
     Cut(usize),
     Entry(usize),
+    Filled,
+    Spent,
 }
 
 // What a check, or an entry that gives back nothing but the lent lists, answers.
@@ -88,6 +90,8 @@ pub fn number(r: Refusal) -> u32
         Refusal::Header => 11,
         Refusal::Cut(_) => 12,
         Refusal::Entry(_) => 13,
+        Refusal::Filled => 14,
+        Refusal::Spent => 15,
     }
 }
 
@@ -109,5 +113,7 @@ pub fn place(r: Refusal) -> usize
         Refusal::Setting => 0,
         Refusal::Buffer => 0,
         Refusal::Header => 0,
+        Refusal::Filled => 0,
+        Refusal::Spent => 0,
     }
 }

@@ -70,7 +70,9 @@ number-is n (suc (suc (suc (suc (suc (suc (suc (suc (suc (suc zero)))))))))) p l
 number-is n (suc (suc (suc (suc (suc (suc (suc (suc (suc (suc (suc zero))))))))))) p l = refl
 number-is n (suc (suc (suc (suc (suc (suc (suc (suc (suc (suc (suc (suc zero)))))))))))) p l = refl
 number-is n (suc (suc (suc (suc (suc (suc (suc (suc (suc (suc (suc (suc (suc zero))))))))))))) p l = refl
-number-is n (suc (suc (suc (suc (suc (suc (suc (suc (suc (suc (suc (suc (suc (suc k)))))))))))))) p l = absurd (omega arith)
+number-is n (suc (suc (suc (suc (suc (suc (suc (suc (suc (suc (suc (suc (suc (suc zero)))))))))))))) p l = refl
+number-is n (suc (suc (suc (suc (suc (suc (suc (suc (suc (suc (suc (suc (suc (suc (suc zero))))))))))))))) p l = refl
+number-is n (suc (suc (suc (suc (suc (suc (suc (suc (suc (suc (suc (suc (suc (suc (suc (suc k)))))))))))))))) p l = absurd (omega arith)
 
 no-place : {X : Type 0} → false ≡ true → X
 no-place e = absurd (let z : _≡_ {A = ℕ} 0 1 = cc in omega arith)
@@ -91,7 +93,9 @@ place-is n (suc (suc (suc (suc (suc (suc (suc (suc (suc (suc zero)))))))))) p l 
 place-is n (suc (suc (suc (suc (suc (suc (suc (suc (suc (suc (suc zero))))))))))) p l h = ⊎-elim no-place sym h
 place-is n (suc (suc (suc (suc (suc (suc (suc (suc (suc (suc (suc (suc zero)))))))))))) p l h = refl
 place-is n (suc (suc (suc (suc (suc (suc (suc (suc (suc (suc (suc (suc (suc zero))))))))))))) p l h = refl
-place-is n (suc (suc (suc (suc (suc (suc (suc (suc (suc (suc (suc (suc (suc (suc k)))))))))))))) p l h = absurd (omega arith)
+place-is n (suc (suc (suc (suc (suc (suc (suc (suc (suc (suc (suc (suc (suc (suc zero)))))))))))))) p l h = ⊎-elim no-place sym h
+place-is n (suc (suc (suc (suc (suc (suc (suc (suc (suc (suc (suc (suc (suc (suc (suc zero))))))))))))))) p l h = ⊎-elim no-place sym h
+place-is n (suc (suc (suc (suc (suc (suc (suc (suc (suc (suc (suc (suc (suc (suc (suc (suc k)))))))))))))))) p l h = absurd (omega arith)
 
 and-parts : (a b : Bool) → (a && b) ≡ true → (a ≡ true) × (b ≡ true)
 and-parts true b e = (refl, e)

@@ -8,7 +8,7 @@ use Prim.Native.Nat.{ℕ, _-_}
 use lib.Dec.{ltb}
 use lib.ListN.{getD}
 use Rattle.rules.specs.declared.refusals.Refusal.{Refusal}
-use Rattle.rules.specs.declared.refusals.Refusal.the-variants.{Depth, Size, Length, Steps, Setting, Cell, Room, Sample, Leaf, Buffer, Header, Cut, Entry}
+use Rattle.rules.specs.declared.refusals.Refusal.the-variants.{Depth, Size, Length, Steps, Setting, Cell, Room, Sample, Leaf, Buffer, Header, Cut, Entry, Filled, Spent}
 use Rattle.rules.specs.declared.refusals.Answer.{Answer}
 use Rattle.rules.specs.declared.refusals.Answer.the-variants.{Accepted, Refused}
 use Rattle.rules.specs.declared.refusals.Found.{Found}
@@ -61,7 +61,7 @@ check k t = record { number = k; test = t }
 -- the table, row by row, and the refusal with that number at that place
 abbrev pub kinds : List (ℕ → Refusal)
 kinds =
-    (λ p. Depth) ∷ (λ p. Size) ∷ (λ p. Length) ∷ Steps ∷ (λ p. Setting) ∷ Cell ∷ Room ∷ Sample ∷ Leaf ∷ (λ p. Buffer) ∷ (λ p. Header) ∷ Cut ∷ Entry ∷ []
+    (λ p. Depth) ∷ (λ p. Size) ∷ (λ p. Length) ∷ Steps ∷ (λ p. Setting) ∷ Cell ∷ Room ∷ Sample ∷ Leaf ∷ (λ p. Buffer) ∷ (λ p. Header) ∷ Cut ∷ Entry ∷ (λ p. Filled) ∷ (λ p. Spent) ∷ []
 
 abbrev pub refusalOf : ℕ → ℕ → Refusal
 refusalOf k = getD kinds (k - 1) (λ p. Depth)
@@ -71,13 +71,13 @@ chain [] = Accepted
 chain (c ∷ []) = answerOf (refusalOf (c .number)) (c .test)
 chain (c ∷ d ∷ cs) = orElse (answerOf (refusalOf (c .number)) (c .test)) (chain (d ∷ cs))
 
--- "Order of checks: 1,2,3,4,5,9,6,7,8"; ticket 1: 10, "tested after 8"; ticket 2: 11, 12, 13 "after 5", "then 7". The turn of each number, in tens; 0 is no number
+-- "Order of checks: 1,2,3,4,5,9,6,7,8"; ticket 1: 10, "tested after 8"; ticket 2: 11, 12, 13 "after 5", "then 7"; ticket 8: "order 15, then 1 to 7 as in 01, 14, 8". The turn of each number, in tens; 0 is no number
 abbrev pub turnOf : ℕ → ℕ
-turnOf k = getD (0 ∷ 10 ∷ 20 ∷ 30 ∷ 40 ∷ 50 ∷ 70 ∷ 80 ∷ 90 ∷ 60 ∷ 100 ∷ 61 ∷ 62 ∷ 63 ∷ []) k 0
+turnOf k = getD (0 ∷ 10 ∷ 20 ∷ 30 ∷ 40 ∷ 50 ∷ 70 ∷ 80 ∷ 90 ∷ 60 ∷ 100 ∷ 61 ∷ 62 ∷ 63 ∷ 85 ∷ 5 ∷ []) k 0
 
 -- the numbers that report a place: 4, 6, 7, 8, 9, 12 and 13
 abbrev pub hasPlace : ℕ → Bool
-hasPlace k = getD (false ∷ false ∷ false ∷ false ∷ true ∷ false ∷ true ∷ true ∷ true ∷ true ∷ false ∷ false ∷ true ∷ true ∷ []) k false
+hasPlace k = getD (false ∷ false ∷ false ∷ false ∷ true ∷ false ∷ true ∷ true ∷ true ∷ true ∷ false ∷ false ∷ true ∷ true ∷ false ∷ false ∷ []) k false
 
 abbrev pub placed : ℕ → Test → Bool
 placed k (ask b) = true

@@ -10,6 +10,7 @@ mod marks;
 pub use marks::asked;
 pub use marks::bad_keep;
 pub use marks::highest;
+pub use marks::larger;
 pub use over::row;
 pub use over::samples;
 pub use range::in_range;

@@ -7,7 +7,8 @@ ghost use Rattle.rules.specs.Plane.{badKeep};
 ghost use Rattle.scan.specs.Asked.{Asked};
 use rules::refusals::Found;
 
-fn larger(a: u8, b: u8) -> u8
+// The larger of two bytes.
+pub fn larger(a: u8, b: u8) -> u8
     ensures { λ r. ⌜ r ≡ max a b ⌝ }
 {
     if a < b { b } else { a }

@@ -9,7 +9,7 @@ use pictures::planes::Shape;
 use y4m::header::Header;
 
 // The cells of a plane by its shape and its subsampling.
-fn cells_of(s: Shape, ssx: usize, ssy: usize) -> Cells
+pub fn cells_of(s: Shape, ssx: usize, ssy: usize) -> Cells
     ensures { λ r. ⌜ r ≡ cellsOf s ssx ssy ⌝ }
 {
     Cells {

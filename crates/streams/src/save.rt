@@ -14,7 +14,7 @@ pub fn pack(y: &mut [u16], u: &mut [u16], v: &mut [u16], j: Job)
 }
 
 // A line and its newline to a file.
-fn write_line(fd: i32, line: &[u8]) -> bool {
+pub fn write_line(fd: i32, line: &[u8]) -> bool {
     io::write_all(fd, line) && io::write_all(fd, b"\n")
 }
 

@@ -2,9 +2,11 @@
 -- Assumes nothing.
 use mathlib.Core.Path.{_≡_}
 use mathlib.Core.List.{List}
-use Prim.Native.Nat.{ℕ, _+_, _*_, min}
+use Prim.Native.Nat.{ℕ, _+_, _*_, min, max}
 use lib.ListN.{getD}
 use lib.IntN.{ℤ}
+use Rattle.laws.specs.Whole.{under}
+use Rattle.rules.specs.Numbers.{offsetOf}
 use Rattle.rules.specs.Thresholds.{indexOf, quantOf, stepOf, sideOf}
 
 -- q·65536 + side of one block
@@ -15,6 +17,10 @@ packedOf depth steps deltaq deltaside qindex =
 -- from this qindex on all are alike, at every depth and delta: 8·128 + 96 + 295
 abbrev pub lastQindex : ℕ
 lastQindex = 1415
+
+-- and at a depth and two deltas from this one on
+unfoldable pub steadyFrom : ℕ → ℤ → ℤ → ℕ
+steadyFrom depth deltaq deltaside = 8 * max (under deltaq) (under deltaside) + offsetOf depth + 295
 
 -- the table answers for every qindex
 pub record ByQindex (depth : ℕ) (steps : List ℕ) (deltaq deltaside : ℤ) (table : List ℕ) : Type 0 where

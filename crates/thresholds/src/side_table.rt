@@ -305,9 +305,9 @@ pub const SIDE_THRESHOLDS: [i16; 296] = [
 ];
 
 // An entry of the table.
-pub fn side_entry(k: usize) -> i16
-    requires { ⌜ k < 296 ⌝ }
+pub fn side_entry(sides: &[i16; 296], k: usize) -> i16
+    requires { ⌜ (now sides ≡ sideTable) × (k < 296) ⌝ }
     ensures { λ r. ⌜ r ≡ getD sideTable k (pos 0) ⌝ }
 {
-    SIDE_THRESHOLDS[k]
+    sides[k]
 }

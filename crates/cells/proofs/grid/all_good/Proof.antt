@@ -1,73 +1,87 @@
--- `all_good` tests the largest of each list. Assumes nothing.
-use borrow.Author.Needs.{needs}
-use Rattle.laws.specs.Choose.{all-bad, all-ok, all-last}
-use Rattle.cells.specs.Fit.{small}
-use Rattle.cells.proofs.Marks.{over-most, under-most, last-most}
+-- `all_good` tests the largest mark and the largest size index: the invariant says that both are those of the cells passed. Assumes nothing.
+use mathlib.Core.Path.{_≡_}
+use Prim.Native.Nat.{_-_, _≤_}
+use Rattle.cells.proofs.Marks.{mostMark, mostIndex, mark-more, index-more, larges}
 use Rattle.cells.proofs.grid.all_good.Statement.{statement}
 use Rattle.cells.proofs.grid.all_good.Tie as tie
 
-highest-requires : tie.Need-highest-requires
-highest-requires c κs = search needs
+abbrev Inv-loop : tie.InvT-loop
+Inv-loop vedge hedge sqw sqh keep count mark₀ size₀ k₀ mark size k = (k ≤ count) × (mark ≡ mostMark vedge hedge keep k) × (size ≡ mostIndex sqw sqh k)
 
-returns : tie.Need-returns
-unfolding small
-returns c = all-bad _ _ (over-most _ _ _ (c .before .highest .ensures) (c .if1 .taken))
+abbrev μ-loop : tie.MeasureT-loop
+μ-loop vedge hedge sqw sqh keep count mark₀ size₀ k₀ mark size k = count - k
 
-highest-requires-2 : tie.Need-highest-requires-2
-highest-requires-2 c κs = search needs
+loop-holds : tie.Need-loop-holds Inv-loop μ-loop
+loop-holds c = search larges
 
-returns-2 : tie.Need-returns-2
-unfolding small
-returns-2 c = all-ok _ _ _ (under-most _ _ _ (c .before .before .before .highest .ensures) (c .before .before .if1 .left)) (all-bad _ _ (over-most _ _ _ (c .before .highest2 .ensures) (c .if2 .taken)))
+shared-slice-read-larger : tie.Need-shared-slice-read-larger Inv-loop μ-loop
+shared-slice-read-larger c = search larges
 
-highest-requires-3 : tie.Need-highest-requires-3
-highest-requires-3 c κs = search needs
+shared-slice-read-larger-2 : tie.Need-shared-slice-read-larger-2 Inv-loop μ-loop
+shared-slice-read-larger-2 c = search larges
 
-returns-3 : tie.Need-returns-3
-unfolding small
-returns-3 c = all-ok _ _ _ (under-most _ _ _ (c .before .before .before .before .before .highest .ensures) (c .before .before .before .before .if1 .left)) (all-ok _ _ _ (under-most _ _ _ (c .before .before .before .highest2 .ensures) (c .before .before .if2 .left)) (all-bad _ _ (over-most _ _ _ (c .before .highest3 .ensures) (c .if3 .taken))))
+shared-slice-read-larger-3 : tie.Need-shared-slice-read-larger-3 Inv-loop μ-loop
+shared-slice-read-larger-3 c = search larges
 
-highest-requires-4 : tie.Need-highest-requires-4
-highest-requires-4 c κs = search needs
+larger-requires : tie.Need-larger-requires Inv-loop μ-loop
+larger-requires c κs = search larges
 
-returns-4 : tie.Need-returns-4
-unfolding small
-returns-4 c =
-    let its-highest = c .before .before .before .before .before .before .before .highest in
-    let its-if1 = c .before .before .before .before .before .before .if1 in
-    let its-highest2 = c .before .before .before .before .before .highest2 in
-    let its-if2 = c .before .before .before .before .if2 in
-    let its-highest3 = c .before .before .before .highest3 in
-    let its-if3 = c .before .before .if3 in
-    let its-highest4 = c .before .highest4 in
-    all-ok _ _ _ (under-most _ _ _ (its-highest .ensures) (its-if1 .left)) (all-ok _ _ _ (under-most _ _ _ (its-highest2 .ensures) (its-if2 .left)) (all-ok _ _ _ (under-most _ _ _ (its-highest3 .ensures) (its-if3 .left)) (all-bad _ _ (over-most _ _ _ (its-highest4 .ensures) (c .if4 .taken)))))
+larger-requires-2 : tie.Need-larger-requires-2 Inv-loop μ-loop
+larger-requires-2 c κs = search larges
 
-highest-requires-5 : tie.Need-highest-requires-5
-highest-requires-5 c κs = search needs
+larger-requires-3 : tie.Need-larger-requires-3 Inv-loop μ-loop
+larger-requires-3 c κs = search larges
 
-returns-5 : tie.Need-returns-5
-unfolding small
-returns-5 c =
-    let its-highest = c .before .before .before .before .before .before .before .before .highest in
-    let its-if1 = c .before .before .before .before .before .before .before .if1 in
-    let its-highest2 = c .before .before .before .before .before .before .highest2 in
-    let its-if2 = c .before .before .before .before .before .if2 in
-    let its-highest3 = c .before .before .before .before .highest3 in
-    let its-if3 = c .before .before .before .if3 in
-    let its-highest4 = c .before .before .highest4 in
-    all-ok _ _ _ (under-most _ _ _ (its-highest .ensures) (its-if1 .left)) (all-ok _ _ _ (under-most _ _ _ (its-highest2 .ensures) (its-if2 .left)) (all-ok _ _ _ (under-most _ _ _ (its-highest3 .ensures) (its-if3 .left)) (all-ok _ _ _ (under-most _ _ _ (its-highest4 .ensures) (c .before .if4 .left)) (all-last _ _ (last-most _ _ _ (c .highest5 .ensures))))))
+shared-slice-read-larger-4 : tie.Need-shared-slice-read-larger-4 Inv-loop μ-loop
+shared-slice-read-larger-4 c = search larges
+
+shared-slice-read-larger-5 : tie.Need-shared-slice-read-larger-5 Inv-loop μ-loop
+shared-slice-read-larger-5 c = search larges
+
+larger-requires-4 : tie.Need-larger-requires-4 Inv-loop μ-loop
+larger-requires-4 c κs = search larges
+
+larger-requires-5 : tie.Need-larger-requires-5 Inv-loop μ-loop
+larger-requires-5 c κs = search larges
+
+add-k : tie.Need-add-k Inv-loop μ-loop
+add-k c = search larges
+
+loop-less : tie.Need-loop-less Inv-loop μ-loop
+loop-less c = search larges
+
+loop-again : tie.Need-loop-again Inv-loop μ-loop
+loop-again c =
+    let inv = c .before .before .before .before .before .before .before .before .before .before .before .loop .inv in
+    let inner = c .before .before .before .before .before .before .larger in
+    let marks = c .before .before .before .before .before .larger2 in
+    (search larges, mark-more _ _ _ _ (inv .1) (inner .ensures) (marks .ensures) (c .before .before .before .before .larger3 .ensures), index-more _ _ _ (inv .2) (c .before .larger4 .ensures) (c .larger5 .ensures))
+
+returns : tie.Need-returns Inv-loop μ-loop
+returns c = search larges
+
+returns-2 : tie.Need-returns-2 Inv-loop μ-loop
+returns-2 c = search larges
 
 pub all-good-spec : {M : Type 1} → statement M
 all-good-spec =
     tie.close
     (tie.spec
-    highest-requires
+    Inv-loop
+    μ-loop
+    loop-holds
+    shared-slice-read-larger
+    shared-slice-read-larger-2
+    shared-slice-read-larger-3
+    larger-requires
+    larger-requires-2
+    larger-requires-3
+    shared-slice-read-larger-4
+    shared-slice-read-larger-5
+    larger-requires-4
+    larger-requires-5
+    add-k
+    loop-less
+    loop-again
     returns
-    highest-requires-2
-    returns-2
-    highest-requires-3
-    returns-3
-    highest-requires-4
-    returns-4
-    highest-requires-5
-    returns-5)
+    returns-2)

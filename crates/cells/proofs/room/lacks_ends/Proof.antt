@@ -6,8 +6,8 @@ use Rattle.cells.proofs.room.lacks_ends.Tie as tie
 returns : tie.Need-returns
 returns c = search ends
 
-lacks-room-requires : tie.Need-lacks-room-requires
-lacks-room-requires c κs = search ends
+lacks-left-requires : tie.Need-lacks-left-requires
+lacks-left-requires c κs = search ends
 
 enum-known-f : tie.Need-enum-known-f
 enum-known-f c = search ends
@@ -18,11 +18,11 @@ returns-2 c = search ends
 enum-told : tie.Need-enum-told
 enum-told c = search ends
 
-sub-lacks-room : tie.Need-sub-lacks-room
-sub-lacks-room c = search ends
+sub-lacks-left : tie.Need-sub-lacks-left
+sub-lacks-left c = search ends
 
-lacks-room-requires-2 : tie.Need-lacks-room-requires-2
-lacks-room-requires-2 c κs = search ends
+lacks-left-requires-2 : tie.Need-lacks-left-requires-2
+lacks-left-requires-2 c κs = search ends
 
 returns-3 : tie.Need-returns-3
 returns-3 c = search ends
@@ -32,10 +32,10 @@ lacks-ends-spec =
     tie.close
     (tie.spec
     returns
-    lacks-room-requires
+    lacks-left-requires
     enum-known-f
     returns-2
     enum-told
-    sub-lacks-room
-    lacks-room-requires-2
+    sub-lacks-left
+    lacks-left-requires-2
     returns-3)

@@ -84,6 +84,18 @@ enum-told-9 c = search needs
 at-requires-10 : tie.Need-at-requires-10
 at-requires-10 c κs = tt
 
+enum-told-10 : tie.Need-enum-told-10
+enum-told-10 c = search needs
+
+at-requires-11 : tie.Need-at-requires-11
+at-requires-11 c κs = tt
+
+enum-told-11 : tie.Need-enum-told-11
+enum-told-11 c = search needs
+
+at-requires-12 : tie.Need-at-requires-12
+at-requires-12 c κs = tt
+
 returns : tie.Need-returns
 returns c = λ s v. at-sample _ _ _ _ _ (c .before .before .r .given .1) (c .sample-place .ensures)
 
@@ -123,6 +135,12 @@ returns-12 c = λ s v. search refusing
 returns-13 : tie.Need-returns-13
 returns-13 c = λ s v. search refusing
 
+returns-14 : tie.Need-returns-14
+returns-14 c = λ s v. search refusing
+
+returns-15 : tie.Need-returns-15
+returns-15 c = λ s v. search refusing
+
 pub place-of-spec : {M : Type 1} → statement M
 place-of-spec =
     tie.close
@@ -153,6 +171,10 @@ place-of-spec =
     at-requires-9
     enum-told-9
     at-requires-10
+    enum-told-10
+    at-requires-11
+    enum-told-11
+    at-requires-12
     returns
     returns-2
     returns-3
@@ -165,4 +187,6 @@ place-of-spec =
     returns-10
     returns-11
     returns-12
-    returns-13)
+    returns-13
+    returns-14
+    returns-15)

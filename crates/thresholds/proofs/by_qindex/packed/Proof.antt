@@ -10,10 +10,10 @@ use Rattle.thresholds.proofs.by_qindex.packed.Statement.{statement}
 use Rattle.thresholds.proofs.by_qindex.packed.Tie as tie
 
 -- neither reaches 65536
-small : (c : tie.After-df-side-from-qindex) → (c .before .before .df-quant-from-qindex .result ≤ 65535) × (c .df-side-from-qindex .result ≤ 65535)
+small : (c : tie.After-side-by) → (c .before .before .df-quant-from-qindex .result ≤ 65535) × (c .side-by .result ≤ 65535)
 small c =
     let pre = c .before .before .before .before .before .pre in
-    (q-small _ _ _ (pre .0) (pre .3) (c .before .before .df-quant-from-qindex .ensures), side-small _ _ (pre .0) (c .df-side-from-qindex .ensures))
+    (q-small _ _ _ (pre .1) (pre .4) (c .before .before .df-quant-from-qindex .ensures), side-small _ _ (pre .1) (c .side-by .ensures))
 
 index-requires : tie.Need-index-requires
 index-requires c κs = search needs
@@ -24,8 +24,8 @@ df-quant-from-qindex-requires c κs = search needs
 index-requires-2 : tie.Need-index-requires-2
 index-requires-2 c κs = search needs
 
-df-side-from-qindex-requires : tie.Need-df-side-from-qindex-requires
-df-side-from-qindex-requires c κs = search needs
+side-by-requires : tie.Need-side-by-requires
+side-by-requires c κs = search needs
 
 mul-result : tie.Need-mul-result
 mul-result c = let s = small c in record { fits = omega arith }
@@ -47,7 +47,7 @@ returns c =
     (c .before .before .before .index .ensures)
     (c .before .index2 .ensures)
     (c .before .before .df-quant-from-qindex .ensures)
-    (c .df-side-from-qindex .ensures)
+    (c .side-by .ensures)
 
 pub packed-spec : {M : Type 1} → statement M
 packed-spec =
@@ -56,7 +56,7 @@ packed-spec =
     index-requires
     df-quant-from-qindex-requires
     index-requires-2
-    df-side-from-qindex-requires
+    side-by-requires
     mul-result
     add-result
     returns)

@@ -1,70 +1,13 @@
--- `df_side_from_qindex` is the side threshold of the index. Assumes nothing.
-use native.Mathlib.Omega.{arith}
-use mathlib.Core.Path.{_≡_, refl}
-use Rattle.laws.specs.Whole.{over, under}
-use Rattle.thresholds.proofs.Sides.{place-within, short, side-is}
-use Rattle.thresholds.proofs.SideRule.{InRange, side-range}
+-- `df_side_from_qindex` is the side threshold by the table that the rules list. Assumes nothing.
 use borrow.Author.Needs.{needs}
 use Rattle.thresholds.proofs.side.df_side_from_qindex.Statement.{statement}
 use Rattle.thresholds.proofs.side.df_side_from_qindex.Tie as tie
 
-offset-requires : tie.Need-offset-requires
-offset-requires c κs = search needs
-
-cast-t6 : tie.Need-cast-t6
-cast-t6 c = search needs
-
-add-t7 : tie.Need-add-t7
-add-t7 c = search needs
-
-limited-requires : tie.Need-limited-requires
-limited-requires c κs = search needs
-
-side-entry-requires : tie.Need-side-entry-requires
-side-entry-requires c κs = place-within _ (c .limited .ensures)
-
-split16-requires : tie.Need-split16-requires
-split16-requires c κs = search needs
-
--- the entry's range, and what `split16` gave of it
-ranged : (c : tie.After-split16) → InRange (c .before .side-entry .result)
-ranged c = rw (c .before .side-entry .ensures) (side-range _ (place-within _ (c .before .before .limited .ensures)))
-
-parts : (c : tie.After-split16) → (c .split16 .result .up ≡ over (c .before .side-entry .result)) × (c .split16 .result .down ≡ under (c .before .side-entry .result))
-parts c = rw (short (c .before .side-entry .result) (ranged c)) at (c .split16 .ensures)
-
-lower-requires : tie.Need-lower-requires
-lower-requires c κs =
-    let r = ranged c in
-    let p = parts c in
-    (c .before .before .before .before .before .pre .0, omega arith, omega arith)
+side-by-requires : tie.Need-side-by-requires
+side-by-requires c κs = search needs
 
 returns : tie.Need-returns
-returns c =
-    let p = parts (c .before) in
-    side-is
-    _
-    _
-    _
-    _
-    (c .before .before .before .before .before .offset .ensures)
-    refl
-    refl
-    (c .before .before .before .limited .ensures)
-    (c .before .before .side-entry .ensures)
-    (p .0)
-    (p .1)
-    (c .lower .ensures)
+returns c = search needs
 
 pub df-side-from-qindex-spec : {M : Type 1} → statement M
-df-side-from-qindex-spec =
-    tie.close
-    (tie.spec
-    offset-requires
-    cast-t6
-    add-t7
-    limited-requires
-    side-entry-requires
-    split16-requires
-    lower-requires
-    returns)
+df-side-from-qindex-spec = tie.close (tie.spec side-by-requires returns)

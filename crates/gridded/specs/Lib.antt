@@ -1,0 +1,2 @@
+-- What `specs/` holds: where the lists of luma or of chroma stand.
+pub mod Spans

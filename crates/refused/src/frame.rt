@@ -1,0 +1,105 @@
+// A frame that was refused: its settings, and the answer that says why and where.
+ghost use lib.ListN.{length};
+ghost use Prim.Native.Nat.{_≤_};
+use crate::say;
+use asked::lists::lists_of;
+use asked::places::Place;
+use asked::told::frame_of;
+use cells::starts::tiles_check;
+use framed::listed::Outcome;
+use rules::refusals::Answer;
+use rules::refusals::Refusal;
+use rules::refusals::number;
+use rules::refusals::place;
+use rules::settings::Frame;
+use settings::lines::line_with;
+use settings::lines::lines_of;
+use streams::job::Job;
+use thresholds::checks::delta_ok;
+use tiles::checks::cap_ok;
+
+// The frame that the header and the settings describe.
+pub fn frame_by(j: Job, numbers: &[i32]) -> Frame
+    requires { ⌜ 8 ≤ length (now numbers) ⌝ }
+{
+    let l = j.l;
+    let c = j.c;
+    frame_of(j.h, numbers, l.stride, c.stride)
+}
+
+// Whether luma's tile starts are good.
+pub fn starts_good(shorts: &[u16], places: &[usize], f: Frame) -> bool
+    requires { ⌜ (22526 ≤ length (now shorts)) × (24 ≤ length (now places)) ⌝ }
+{
+    let at = lists_of(places, shorts.len());
+    let a = at.tiles;
+    let b = at.tilesend;
+    match tiles_check(&shorts[a..b], f.lumastride / 4) {
+        Answer::Accepted => true,
+        Answer::Refused(_) => false,
+    }
+}
+
+// Which setting of a frame is outside its range, where luma's tile starts are good or not: the kind of its line.
+fn setting_of(f: Frame, starts: bool) -> usize {
+    if !delta_ok(f.deltay) {
+        return 7;
+    }
+    if !cap_ok(f.capw) || !cap_ok(f.caph) {
+        return 9;
+    }
+    if !delta_ok(f.deltauv) {
+        return 8;
+    }
+    if !cap_ok(f.ccapw) || !cap_ok(f.ccaph) {
+        return 10;
+    }
+    if starts { 22 } else { 21 }
+}
+
+// The answer on a setting outside its range, by its kind.
+pub fn say_setting(kind: usize, f: Frame, text: &[u8]) {
+    let mut lines = [0usize; 24];
+    lines_of(text, &mut lines);
+    if kind < 21 {
+        say::out_of_range(kind, lines[kind]);
+    } else if kind == 21 {
+        say::bad_tiles(kind, f.lumastride / 4, lines[21]);
+    } else {
+        say::bad_tiles(22, f.chromastride / 4, lines[22]);
+    }
+}
+
+// The line of the settings that has number k of a list: a leaf's first number, or a step; 0 for none.
+fn line_of(list: usize, k: usize, text: &[u8]) -> usize {
+    if 1048576 <= k {
+        return 0;
+    }
+    match list {
+        4 | 5 | 6 => line_with(text, list, 4 * k),
+        7 => line_with(text, 3, k),
+        _ => 0,
+    }
+}
+
+// The answer on a frame that was refused.
+fn say_refused(r: Refusal, at: Place, f: Frame, starts: bool, text: &[u8]) {
+    if number(r) == 5 {
+        say_setting(setting_of(f, starts), f, text);
+    } else {
+        say::refused(r, at, line_of(at.plane, place(r), text));
+    }
+}
+
+// Whether a frame was deblocked; else after the answer that says why not.
+pub fn deblocked(o: Outcome, f: Frame, starts: bool, text: &[u8]) -> bool {
+    let a = o.answer;
+    let at = o.place;
+    match a {
+        Answer::Accepted => true,
+        Answer::Refused(r) => {
+            say_refused(r, at, f, starts, text);
+            false
+        }
+    }
+}

@@ -1,0 +1,9 @@
+pub mod Exactly
+pub mod Refused
+pub mod Agree
+pub mod Reach
+pub mod Due
+pub mod Low
+pub mod Single
+pub mod Sequence
+pub mod Witness

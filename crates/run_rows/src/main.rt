@@ -1,0 +1,75 @@
+// Replays a stream of planes whose rows are filled call by call, and prints one line: how many there were, how they came out, and how many differ.
+
+// one plane of the stream and all its calls
+mod case;
+
+// one call: what is done before it, what it is asked, and what the stream says that it answers
+mod call;
+
+// samples moved and compared
+mod samples;
+
+ghost use mathlib.Core.Path.{_≡_};
+ghost use lib.ListN.{length};
+use cases::Cursor;
+use tally::Tally;
+
+// What is counted so far, and the length of the step table that stands.
+struct Run {
+    tally: Tally,
+    steps: usize,
+}
+
+// The buffer: the longest line that a stream may have.
+fn room() -> [u8; 1048576] {
+    [0; 1048576]
+}
+
+// A line: 1 sets the step table, 2 is a plane and its calls.
+fn replay(text: &[u8], c: Cursor, steps: &mut [u32], before: Run) -> Run
+    ensures { λ r. ⌜ length (now (steps .exit)) ≡ length (now (steps .entry)) ⌝ }
+{
+    let t = before.tally;
+    let n = before.steps;
+    let kind = cases::read_unsigned(text, c, 2);
+    let rest = kind.rest;
+    if kind.value == 1 {
+        let table = cases::set_steps(text, rest, steps);
+        return Run {
+            tally: tally::no_case(t, table.whole),
+            steps: table.length,
+        };
+    }
+    if kind.value == 0 || steps.len() < n {
+        return Run {
+            tally: tally::unread(t),
+            steps: n,
+        };
+    }
+    Run {
+        tally: case::replay(text, rest, &steps[..n], t),
+        steps: n,
+    }
+}
+
+// Every line.
+fn replay_all(buf: &mut [u8], steps: &mut [u32]) -> Tally {
+    let mut run = Run {
+        tally: tally::none(),
+        steps: 0,
+    };
+    let mut l = cases::next_line(buf, cases::start());
+    let mut turns = u64::MAX;
+    while turns > 0 && l.good {
+        run = replay(buf, cases::line(l), steps, run);
+        l = cases::next_line(buf, l);
+        turns -= 1;
+    }
+    run.tally
+}
+
+fn main() {
+    let mut buf = room();
+    let mut steps = [0u32; 400];
+    tally::print(replay_all(&mut buf, &mut steps));
+}
