@@ -36,6 +36,8 @@ mod record;
 mod refusals;
 #[path = "src/replay.rs"]
 mod replay;
+#[path = "src/rows.rs"]
+mod rows;
 #[path = "src/rust.rs"]
 mod rust;
 #[path = "src/segment.rs"]
