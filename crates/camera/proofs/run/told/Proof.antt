@@ -45,7 +45,9 @@ slice-aggregate-shaped-2 : tie.Need-slice-aggregate-shaped-2
 slice-aggregate-shaped-2 c = search needs
 
 shaped-requires : tie.Need-shaped-requires
-shaped-requires c κs = (search needs, omega (arith, c .before .before .before .before .before .before .before .before .before .before .before .before .before .take .kept .1 .1 .1 .0, c .before .before .before .before .before .before .before .before .before .before .before .before .before .before .before .before .before .before .before .before .before .before .before .before .before .before .before .pre), search needs)
+shaped-requires c κs =
+    let s0 = c .before .before .before .before .before .before .before .before .before .before .before .before .before in
+    (search needs, omega (arith, s0 .take .kept .1 .1 .1 .0, s0 .before .before .before .before .before .before .before .before .before .before .before .before .before .before .pre), search needs)
 
 same-length-2 : tie.Need-same-length-2
 same-length-2 c = c .before .before .shaped .kept .1 .1 .1 .1 .1 .0 ∙ c .before .before .before .before .before .before .before .before .before .before .before .before .before .before .before .before .take .kept .1 .1 .1 .0

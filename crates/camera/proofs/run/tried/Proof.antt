@@ -40,7 +40,9 @@ deblock-asked-requires : tie.Need-deblock-asked-requires
 deblock-asked-requires c κs = c .before .before .before .before .before .before .before .before .before .before .before .before .before .before .before .before .before .before .before .pre
 
 starts-good-requires : tie.Need-starts-good-requires
-starts-good-requires c κs = (c .before .before .before .before .before .before .before .before .before .before .before .before .before .before .before .before .before .before .before .before .before .before .before .before .pre .shorts-long, c .before .before .before .before .before .before .before .before .before .before .before .before .before .before .before .before .before .before .before .before .before .before .before .before .pre .places-long)
+starts-good-requires c κs =
+    let s0 = c .before .before .before .before .before .before .before .before .before .before .before .before .before .before .before .before .before .before .before .before .before .before .before .before in
+    (s0 .pre .shorts-long, s0 .pre .places-long)
 
 deblocked-requires : tie.Need-deblocked-requires
 deblocked-requires c κs = search needs

@@ -89,6 +89,7 @@ enum-known-starts c = search needs
 returns-6 : tie.Need-returns-6
 unfolding settingsCheck
 returns-6 c =
+    let s0 = c .before .before .before .before .before .before .before in
     go-on _ _ _
     (unless-good _ _ (told-yes-not _ _ (c .before .before .before .before .before .before .before .before .before .before .before .before .before .before .before .before .before .is .ensures) (c .before .before .before .before .before .before .before .before .before .before .before .before .before .before .before .before .if1 .left)))
     (go-on _ _ _
@@ -100,8 +101,8 @@ returns-6 c =
     (go-on _ _ _
     (accepted-by _ _
     (rw (
-      toZ-ofZ {w = w32} {z = c .before .before .before .before .before .before .before .before .before .before .before .before .before .before .before .before .before .before .before .before .before .before .before .before .before .before .before .args .s .deltaq} (record { sfits = c .before .before .before .before .before .before .before .struct-told2 .given .1 .1 .1 .1 .1 .1 .1 .1 .1 .0 .1 }),
-      toZ-ofZ {w = w32} {z = c .before .before .before .before .before .before .before .before .before .before .before .before .before .before .before .before .before .before .before .before .before .before .before .before .before .before .before .args .s .deltaside} (record { sfits = c .before .before .before .before .before .before .before .struct-told2 .given .1 .1 .1 .1 .1 .1 .1 .1 .1 .1 .0 .1 }),
+      toZ-ofZ {w = w32} {z = s0 .before .before .before .before .before .before .before .before .before .before .before .before .before .before .before .before .before .before .before .before .args .s .deltaq} (record { sfits = s0 .struct-told2 .given .1 .1 .1 .1 .1 .1 .1 .1 .1 .0 .1 }),
+      toZ-ofZ {w = w32} {z = s0 .before .before .before .before .before .before .before .before .before .before .before .before .before .before .before .before .before .before .before .before .args .s .deltaside} (record { sfits = s0 .struct-told2 .given .1 .1 .1 .1 .1 .1 .1 .1 .1 .1 .0 .1 }),
     )
     at
     (c .before .before .before .before .before .before .deltas-check .ensures))
