@@ -18,11 +18,11 @@ use Rattle.rules.specs.declared.refusals.Answer.the-variants.{Accepted, Refused
 use Rattle.rules.specs.declared.refusals.PlaneAnswer.{PlaneAnswer}
 use Rattle.rules.specs.declared.refusals.Recorded.{Recorded}
 use Rattle.rules.specs.declared.refusals.Recorded.the-variants.{Bytes, Refused as «NoRecord»}
-use Rattle.rules.specs.Refusals.{numberOf, placeOf, settle}
+use Rattle.rules.specs.Refusals.{numberOf, placeRefused, settle}
 use Rattle.rules.specs.Record.{answerBytes}
 use Rattle.rules.specs.CSide.{cAnswer}
 use Rattle.rules.proofs.Numbered.{number-most}
-use Rattle.scan.proofs.Checks.{stop, go-on, unless-bad, unless-good, settle-refused}
+use Rattle.checks.proofs.Checks.{stop, go-on, unless-bad, unless-good, settle-refused}
 use Rattle.answers.specs.Told.{placed, tallied, Counted, Told, Few, refusalIn, bytesIn, listed, Handed, Reported, Filtered, FilterTold}
 
 -- a count that the machine holds
@@ -94,7 +94,7 @@ pub count-told : {a : Answer} (lent : List ℕ) {n : ℕ} {z : ℤ} → a ≡ Ac
 unfolding cAnswer placed
 count-told lent {n} {z} e h f = rw e (record { answer = held z n f h; place-is = refl })
 
-pub count-refused : {a : Answer} {r : Refusal} (lent : List ℕ) (n : ℕ) {z : ℤ} {k : ℕ} {place : List ℕ} → a ≡ Refused r → k ≡ placeOf r → place ≡ set lent 0 k → z ≡ negℤ (pos (numberOf r)) → Counted a n lent (toZ w32 (ofZ w32 z)) place
+pub count-refused : {a : Answer} {r : Refusal} (lent : List ℕ) (n : ℕ) {z : ℤ} {k : ℕ} {place : List ℕ} → a ≡ Refused r → k ≡ placeRefused r → place ≡ set lent 0 k → z ≡ negℤ (pos (numberOf r)) → Counted a n lent (toZ w32 (ofZ w32 z)) place
 unfolding cAnswer placed
 count-refused {a} {r} lent n {z} e f g h = rw e (record { answer = held-minus z r h; place-is = g ∙ ap (λ (k : ℕ). set lent 0 k) f })
 
@@ -117,7 +117,7 @@ pub bytes-told : {a : Recorded} (lent : List ℕ) {n : ℕ} {z : ℤ} → Few a 
 unfolding refusalIn bytesIn cAnswer placed
 bytes-told lent {n} {z} few e h = let most = few n e in rw e (record { answer = held z n h (omega (arith, most)); place-is = refl })
 
-pub bytes-refused : {a : Recorded} {r : Refusal} (lent : List ℕ) {z : ℤ} {k : ℕ} {place : List ℕ} → a ≡ «NoRecord» r → k ≡ placeOf r → place ≡ set lent 0 k → z ≡ negℤ (pos (numberOf r)) → Counted (refusalIn a) (bytesIn a) lent (toZ w32 (ofZ w32 z)) place
+pub bytes-refused : {a : Recorded} {r : Refusal} (lent : List ℕ) {z : ℤ} {k : ℕ} {place : List ℕ} → a ≡ «NoRecord» r → k ≡ placeRefused r → place ≡ set lent 0 k → z ≡ negℤ (pos (numberOf r)) → Counted (refusalIn a) (bytesIn a) lent (toZ w32 (ofZ w32 z)) place
 unfolding refusalIn bytesIn cAnswer placed
 bytes-refused {a} {r} lent {z} e f g h = rw e (record { answer = held-minus z r h; place-is = g ∙ ap (λ (k : ℕ). set lent 0 k) f })
 

@@ -12,13 +12,13 @@ use Rattle.rules.specs.declared.refusals.Answer.the-variants.{Accepted, Refused
 use Rattle.rules.specs.declared.refusals.PlaneAnswer.{PlaneAnswer}
 use Rattle.rules.specs.declared.refusals.Recorded.{Recorded}
 use Rattle.rules.specs.declared.refusals.Recorded.the-variants.{Bytes, Refused as «NoRecord»}
-use Rattle.rules.specs.Refusals.{placeOf, orElse, unless, settle}
+use Rattle.rules.specs.Refusals.{placeRefused, orElse, unless, settle}
 use Rattle.rules.specs.CSide.{cAnswer}
 
 -- the place of a refusal in the first entry of a lent list, which may be empty
 unfoldable pub placed : Answer → List ℕ → List ℕ
 placed Accepted place = place
-placed (Refused r) place = set place 0 (placeOf r)
+placed (Refused r) place = set place 0 (placeRefused r)
 
 -- ticket 4: stored and changed samples in the first two entries of a lent list, as many as it has
 unfoldable pub tallied : ℕ → ℕ → List ℕ → List ℕ

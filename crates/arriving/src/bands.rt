@@ -1,6 +1,6 @@
 // The bands of a plane that is deblocked: each is read, handed to ticket 8's entry with the state that the band before left, and what is final then is written.
 ghost use Prim.Native.Nat.{_≤_, _<_};
-ghost use Rattle.pictures.specs.Shapes.{Fit};
+ghost use Rattle.pictures.specs.Shapes.{ShapeFits};
 use crate::carry::Way;
 use crate::carry::read_rows;
 use crate::carry::write_rows;
@@ -26,7 +26,7 @@ fn band_end(first: usize, rows: usize) -> usize
 
 // What an answer makes of its band: the rows that are final now, and were not before, are written.
 fn settled(plane: &[u16], way: Way, before: usize, a: RowsAnswer) -> End
-    requires { ⌜ Fit (way .shape) ⌝ }
+    requires { ⌜ ShapeFits (way .shape) ⌝ }
 {
     let answer = a.answer;
     if let Answer::Refused(r) = answer {
@@ -52,7 +52,7 @@ pub fn bands(
     s: Plane,
     way: Way,
 ) -> Passed
-    requires { ⌜ Fit (way .shape) ⌝ }
+    requires { ⌜ ShapeFits (way .shape) ⌝ }
 {
     let shape = way.shape;
     let mut bytes = [0u8; 8192];

@@ -1,7 +1,7 @@
 // Rows of a plane from one file and to another.
 ghost use mathlib.Core.Path.{_≡_};
 ghost use Prim.Native.Nat.{_*_, _≤_};
-ghost use Rattle.pictures.specs.Shapes.{Fit};
+ghost use Rattle.pictures.specs.Shapes.{ShapeFits};
 use laws::least;
 use pictures::planes::Got;
 use pictures::planes::Shape;
@@ -21,7 +21,7 @@ pub struct Way {
 
 // Where a row begins in its plane.
 fn row_at(s: Shape, r: usize) -> usize
-    requires { ⌜ Fit s × (r ≤ 4096) ⌝ }
+    requires { ⌜ ShapeFits s × (r ≤ 4096) ⌝ }
     ensures { λ at. ⌜ (at ≡ s .stride * r) × (at ≤ 16777216) ⌝ }
 {
     s.stride * r
@@ -35,7 +35,7 @@ pub fn read_rows(
     first: usize,
     end: usize,
 ) -> Got
-    requires { ⌜ Fit (way .shape) × (end ≤ 4096) ⌝ }
+    requires { ⌜ ShapeFits (way .shape) × (end ≤ 4096) ⌝ }
 {
     let s = way.shape;
     let n = row_bytes(s.width, way.wide);
@@ -55,7 +55,7 @@ pub fn read_rows(
 
 // Writes the picture's rows from one up to another; false where one can't be written.
 pub fn write_rows(plane: &[u16], way: Way, first: usize, end: usize) -> bool
-    requires { ⌜ Fit (way .shape) ⌝ }
+    requires { ⌜ ShapeFits (way .shape) ⌝ }
 {
     let s = way.shape;
     let mut bytes = [0u8; 8192];

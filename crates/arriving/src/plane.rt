@@ -1,9 +1,9 @@
 // A plane by what the settings ask for: deblocked by bands over its own grid, or passed on as it is.
 ghost use lib.ListN.{length};
 ghost use Prim.Native.Nat.{_≤_};
-ghost use Rattle.pictures.specs.Shapes.{Fit};
+ghost use Rattle.pictures.specs.Shapes.{ShapeFits};
 ghost use Rattle.frame_checks.specs.Settings.{Sized};
-ghost use Rattle.framed.specs.Framed.{Listed};
+ghost use Rattle.frame_by_settings.specs.Framed.{ListsLong};
 use crate::bands::bands;
 use crate::carry::Way;
 use crate::carry::read_rows;
@@ -11,15 +11,15 @@ use crate::carry::write_rows;
 use crate::passed::End;
 use crate::passed::Passed;
 use crate::passed::none;
-use asked::kept::keep_cells;
-use asked::lists::lists_of;
-use asked::lists::steps_of;
-use frame_checks::planes::kind_on;
-use frame_checks::planes::plane_of;
-use frame_checks::planes::q_of;
-use frame_checks::planes::tu_of;
-use framed::deblocking::indices;
-use framed::deblocking::marks;
+use by_settings::kept::keep_cells;
+use by_settings::lists::lists_of;
+use by_settings::lists::steps_of;
+use frame_by_settings::deblocking::indices;
+use frame_by_settings::deblocking::marks;
+use frame_checks::parts::kind_on;
+use frame_checks::parts::plane_of;
+use frame_checks::parts::q_of;
+use frame_checks::parts::tu_of;
 use grid::tx_grid::build_tx_grid;
 use gridded::spans::leaves_of;
 use gridded::spans::tiles_of;
@@ -29,7 +29,7 @@ use streams::kept::cells_of;
 
 // A plane that is not deblocked, row by row.
 fn copied(plane: &mut [u16], way: Way) -> Passed
-    requires { ⌜ Fit (way .shape) ⌝ }
+    requires { ⌜ ShapeFits (way .shape) ⌝ }
 {
     let shape = way.shape;
     let counts = none();
@@ -70,7 +70,7 @@ fn over_grid(
     chroma: bool,
     way: Way,
 ) -> Passed
-    requires { ⌜ Sized f × Fit (way .shape) ⌝ }
+    requires { ⌜ Sized f × ShapeFits (way .shape) ⌝ }
 {
     let mut vedge = marks();
     let mut hedge = marks();
@@ -116,7 +116,7 @@ fn deblocked(
     chroma: bool,
     way: Way,
 ) -> Passed
-    requires { ⌜ Listed (length (now shorts)) (length (now steps)) (length (now places)) × Sized f × Fit (way .shape) ⌝ }
+    requires { ⌜ ListsLong (length (now shorts)) (length (now steps)) (length (now places)) × Sized f × ShapeFits (way .shape) ⌝ }
 {
     let at = lists_of(places, shorts.len());
     let n = steps_of(places[3]);
@@ -155,7 +155,7 @@ pub fn pass_plane(
     chroma: bool,
     way: Way,
 ) -> Passed
-    requires { ⌜ Listed (length (now shorts)) (length (now steps)) (length (now places)) × Sized f × Fit (way .shape) ⌝ }
+    requires { ⌜ ListsLong (length (now shorts)) (length (now steps)) (length (now places)) × Sized f × ShapeFits (way .shape) ⌝ }
 {
     if kind_on(f, chroma) {
         return deblocked(plane, shorts, steps, places, f, chroma, way);

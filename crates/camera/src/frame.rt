@@ -2,9 +2,9 @@
 ghost use Prim.Native.Nat.{_≤_};
 ghost use lib.ListN.{length};
 ghost use Rattle.frame_checks.specs.Settings.{Sized};
-ghost use Rattle.framed.specs.Framed.{Listed};
+ghost use Rattle.frame_by_settings.specs.Framed.{ListsLong};
 ghost use Rattle.streams.specs.Shaped.{Shaped};
-ghost use Rattle.pictures.specs.Shapes.{Fit};
+ghost use Rattle.pictures.specs.Shapes.{ShapeFits};
 use crate::say;
 use arriving::carry::Way;
 use arriving::passed::End;
@@ -47,7 +47,7 @@ fn begun(head: &[u8], mark: &[u8], to: i32, k: usize) -> bool {
 // The way of luma's rows, or of chroma's.
 fn way_of(j: Job, chroma: bool) -> Way
     requires { ⌜ Shaped j ⌝ }
-    ensures { λ r. ⌜ Fit (r .shape) ⌝ }
+    ensures { λ r. ⌜ ShapeFits (r .shape) ⌝ }
 {
     let h = j.h;
     let layout = h.layout;
@@ -72,7 +72,7 @@ fn way_of(j: Job, chroma: bool) -> Way
 
 // How many bytes a plane has.
 fn bytes_of(way: Way) -> usize
-    requires { ⌜ Fit (way .shape) ⌝ }
+    requires { ⌜ ShapeFits (way .shape) ⌝ }
     ensures { λ r. ⌜ r ≤ 33554432 ⌝ }
 {
     let s = way.shape;
@@ -130,7 +130,7 @@ fn pass(
     j: Job,
     k: usize,
 ) -> Done
-    requires { ⌜ Listed (length (now shorts)) (length (now steps)) (length (now places)) × Sized f × Shaped j ⌝ }
+    requires { ⌜ ListsLong (length (now shorts)) (length (now steps)) (length (now places)) × Sized f × Shaped j ⌝ }
 {
     let n = planes_of(j);
     let mut counts = none();
@@ -163,7 +163,7 @@ pub fn next(
     j: Job,
     k: usize,
 ) -> Done
-    requires { ⌜ Listed (length (now shorts)) (length (now steps)) (length (now places)) × Sized f × Shaped j ⌝ }
+    requires { ⌜ ListsLong (length (now shorts)) (length (now steps)) (length (now places)) × Sized f × Shaped j ⌝ }
 {
     let mut mark = [0u8; 1024];
     let t = next_mark(b"-", j.from, k, &mut mark);

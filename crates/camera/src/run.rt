@@ -2,14 +2,14 @@
 ghost use lib.ListN.{length};
 ghost use Prim.Native.Nat.{_≤_};
 ghost use Rattle.frame_checks.specs.Settings.{Sized};
-ghost use Rattle.framed.specs.Framed.{Listed};
+ghost use Rattle.frame_by_settings.specs.Framed.{ListsLong};
 ghost use Rattle.streams.specs.Shaped.{Shaped};
 use crate::frame::next;
 use crate::say;
 use arriving::passed::both;
 use arriving::passed::none;
-use asked::kept::large_marks;
-use framed::listed::deblock_asked;
+use by_settings::kept::large_marks;
+use frame_by_settings::lists::deblock_asked;
 use gridded::sizes::sized;
 use pictures::defaults;
 use pictures::files;
@@ -56,7 +56,7 @@ fn frames(
     f: Frame,
     j: Job,
 )
-    requires { ⌜ Listed (length (now shorts)) (length (now steps)) (length (now places)) × Sized f × Shaped j ⌝ }
+    requires { ⌜ ListsLong (length (now shorts)) (length (now steps)) (length (now places)) × Sized f × Shaped j ⌝ }
 {
     let shown = libc::isatty(2) == 1;
     let mut counts = none();
@@ -83,7 +83,7 @@ fn tried(
     f: Frame,
     j: Job,
 ) -> bool
-    requires { ⌜ Listed (length (now shorts)) (length (now steps)) (length (now places)) ⌝ }
+    requires { ⌜ ListsLong (length (now shorts)) (length (now steps)) (length (now places)) ⌝ }
 {
     let mut u = large_room();
     let mut v = large_room();
@@ -115,7 +115,7 @@ fn begun(
     f: Frame,
     j: Job,
 )
-    requires { ⌜ Listed (length (now shorts)) (length (now steps)) (length (now places)) × Shaped j ⌝ }
+    requires { ⌜ ListsLong (length (now shorts)) (length (now steps)) (length (now places)) × Shaped j ⌝ }
 {
     let mut plane = large_room();
     if !tried(&mut plane, shorts, steps, places, text, f, j) {

@@ -1,6 +1,6 @@
 // The answer on standard output: the outcome as one byte (0 filtered, 1 refused, 2 a bad file, 3 not written), which stands before any name, and then a line.
 use arriving::passed::End;
-use asked::places::at;
+use by_settings::places::at;
 use refused::say::refused;
 use rules::counts::Counts;
 use rules::refusals::place;

@@ -1,6 +1,2 @@
--- What `specs/` holds: digits, numbers, typed numbers, lists and lines.
-pub mod Digits
-pub mod Numbers
-pub mod Typed
-pub mod Lists
+-- What `specs/` holds: lines.
 pub mod Lines

@@ -1,40 +1,9 @@
-// A stream of cases: lines of decimal whole numbers, read from standard input into memory that the caller lends.
-//
-// Nothing public has a `requires`. A cursor that is not good stays so: a program reads a whole line and looks once.
-// a place in a line, and the number that stands there
-mod number;
-// a number as a type of its own: unsigned up to a limit, or an i32; an answer's numbers
-mod typed;
-// lists of numbers, into lent lists or held against them
-mod lists;
-// whole lines in a lent buffer
+// A stream of cases: whole lines, read from standard input into memory that the caller lends.
+
+// Whole lines in a lent buffer.
 mod lines;
 
 pub use lines::Lines;
 pub use lines::line;
 pub use lines::next_line;
 pub use lines::start;
-pub use lists::Held;
-pub use lists::Listed;
-pub use lists::Steps;
-pub use lists::Two;
-pub use lists::hold_u8s;
-pub use lists::hold_u16s;
-pub use lists::read_i32s;
-pub use lists::read_two;
-pub use lists::read_u8s;
-pub use lists::read_u16s;
-pub use lists::read_u32s;
-pub use lists::read_usizes;
-pub use lists::set_steps;
-pub use number::Cursor;
-pub use number::Number;
-pub use number::ended;
-pub use number::next_number;
-pub use typed::Signed;
-pub use typed::Told;
-pub use typed::Unsigned;
-pub use typed::read_counted;
-pub use typed::read_signed;
-pub use typed::read_told;
-pub use typed::read_unsigned;

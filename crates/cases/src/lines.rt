@@ -3,8 +3,8 @@ ghost use mathlib.Core.Path.{_≡_};
 ghost use Prim.Native.Nat.{_+_, _≤_};
 ghost use lib.ListN.{length};
 ghost use Rattle.cases.specs.Lines.{Stands, Absent};
-use crate::number::Cursor;
 use libc::STDIN_FILENO;
+use text::Cursor;
 
 // The line that stands in the buffer, what of the buffer is filled, and whether there is a line.
 pub struct Lines {

@@ -22,15 +22,15 @@ use Rattle.rules.specs.declared.refusals.Found.the-variants.{At, Nothing}
 use Rattle.rules.specs.Numbers.{depthOk, topOf, inRange, inRangeZ}
 use Rattle.rules.proofs.Depths.{by-depth}
 use Rattle.rules.specs.Frame.{superblocks}
-use Rattle.rules.specs.Refusals.{first, foundUnless, over, overRow}
+use Rattle.rules.specs.Refusals.{first, foundUnless, overTop, overRow}
 use Rattle.rules.specs.Ccso.{targetWidth, targetHeight, ccsoSizesOk, ccsoLengthsOk, ccsoSettingsOk, bandOk, offsetCount, offsetOk, badOffset, ccsoCheck, ccsoOf, ccsoAfter}
-use Rattle.scan.proofs.First.{nothing-all, over-nothing, unless-nothing}
-use Rattle.scan.proofs.Checks.{stop, go-on, unless-bad, unless-good, found-bad-by, found-good-by, else-parts, unless-true, found-nothing, settle-refused-by, settle-accepted-by}
-use Rattle.ccso_sample.specs.Ranges.{Within, Ranges}
-use Rattle.ccso.specs.Lists.{Fit}
+use Rattle.checks.proofs.First.{nothing-all, over-nothing, unless-nothing}
+use Rattle.checks.proofs.Checks.{stop, go-on, unless-bad, unless-good, found-bad-by, found-good-by, else-parts, unless-true, found-nothing, settle-refused-by, settle-accepted-by}
+use Rattle.ccso_sample.specs.Ranges.{SignedWithin, Ranges}
+use Rattle.ccso.specs.Lists.{CcsoFits}
 use Rattle.ccso.specs.Stated.{Stated}
 use Rattle.ccso.specs.Checks.{cutsOk, classesOk, tapsOk, samplesCheck}
-use Rattle.scan.proofs.Ranges.{range-parts}
+use Rattle.checks.proofs.Ranges.{range-parts}
 use Rattle.ccso.proofs.Ranged.{three-parts}
 use Rattle.ccso.proofs.Lengths.{sizable}
 
@@ -95,13 +95,13 @@ picked : (b x : Bool) → b ≡ true → pick b x true ≡ true → x ≡ true
 unfolding pick
 picked b x e f = rw e at f
 
-pub record Long (s : Ccso) (luma target flags offsets : ℕ) : Type 0 where
+pub record CcsoLong (s : Ccso) (luma target flags offsets : ℕ) : Type 0 where
   pub luma-long : s .height * s .width ≤ luma
   pub target-long : targetHeight s * targetWidth s ≤ target
   pub flags-long : superblocks (s .height) * superblocks (s .width) ≤ flags
   pub offsets-long : s .bandlog ≤ 3 → offsetCount s ≤ offsets
 
-pub long : (s : Ccso) (luma target flags offsets : ℕ) → ccsoLengthsOk s luma target flags offsets ≡ true → Long s luma target flags offsets
+pub long : (s : Ccso) (luma target flags offsets : ℕ) → ccsoLengthsOk s luma target flags offsets ≡ true → CcsoLong s luma target flags offsets
 unfolding ccsoLengthsOk
 long s luma target flags offsets e =
     let p = all-parts _ _ e in
@@ -137,7 +137,7 @@ module _ (s : Ccso) (luma target flags offsets : ℕ) (e : ccsoLengthsOk s luma 
 depth-bounds : (d : ℕ) → depthOk d ≡ true → (8 ≤ d) × (d ≤ 12)
 depth-bounds d ok = by-depth (λ n. (8 ≤ n) × (n ≤ 12)) (omega arith, omega arith) (omega arith, omega arith) (omega arith, omega arith) d ok
 
-within-of : (z : ℤ) (most : ℕ) → inRangeZ (negℤ (pos most)) (pos most) z ≡ true → Within z most
+within-of : (z : ℤ) (most : ℕ) → inRangeZ (negℤ (pos most)) (pos most) z ≡ true → SignedWithin z most
 within-of z most e = let p = range-parts z most most e in record { high = p .1; low = p .0 }
 
 pub ranges : (s : Ccso) → depthOk (s .depth) ≡ true → ccsoSizesOk s ≡ true → ccsoSettingsOk s ≡ true → Ranges s
@@ -183,16 +183,16 @@ ranges s d z e =
 -- no sample found over top, and no bad offset
 clean : (top : ℕ) (xs : List ℕ) (n : ℕ) → overRow top xs 0 n ≡ Nothing → (i : ℕ) → i < n → getD xs i 0 ≤ top
 unfolding overRow
-clean top xs n e i h = rw (zero-add i) at (over-nothing top xs (0 + i) (nothing-all (λ x. over top xs (0 + x)) n e i h))
+clean top xs n e i h = rw (zero-add i) at (over-nothing top xs (0 + i) (nothing-all (λ x. overTop top xs (0 + x)) n e i h))
 
-small-offset : (s : Ccso) (offsets : List ℤ) → badOffset s offsets ≡ Nothing → (k : ℕ) → k < offsetCount s → Within (getD offsets k (pos 0)) 10
+small-offset : (s : Ccso) (offsets : List ℤ) → badOffset s offsets ≡ Nothing → (k : ℕ) → k < offsetCount s → SignedWithin (getD offsets k (pos 0)) 10
 unfolding badOffset offsetOk
 small-offset s offsets e k h =
     let p = range-parts (getD offsets k (pos 0)) 10 7 (unless-nothing _ k (nothing-all _ (offsetCount s) e k h)) in
     record { high = omega (arith, p .1); low = p .0 }
 
 module _ (s : Ccso) (luma flags : List ℕ) (offsets : List ℤ) (t : List ℕ) (e : ccsoCheck s luma flags offsets t ≡ Accepted) where
-  pub accepted : Ranges s × Fit s luma offsets (length t) (length flags)
+  pub accepted : Ranges s × CcsoFits s luma offsets (length t) (length flags)
   unfolding ccsoCheck
   accepted =
       let p1 = else-parts _ _ e in

@@ -22,7 +22,7 @@ use Rattle.ccso_sample.specs.declared.taps.Row.{Row}
 use Rattle.ccso_sample.specs.Ranges.{Ranges, Sized}
 use Rattle.ccso_sample.specs.declared.counts.Sizes.{Sizes}
 use Rattle.ccso_sample.specs.Lists.{RowOf, movedAt}
-use Rattle.ccso.specs.Lists.{Fit, movedCell, columnsTo, blockRow}
+use Rattle.ccso.specs.Lists.{CcsoFits, movedCell, columnsTo, blockRow}
 use Rattle.ccso_sample.proofs.Places.{cell-below, block-start, block-number, block-below, block-end, width-most, height-most, target-below, sample-fits, sample-bytes}
 
 -- one store, at the place that the code counts from the row's start
@@ -143,7 +143,7 @@ module _ (s : Ccso) (luma flags : List ℕ) (offsets : List ℤ) (y : ℕ) (t : 
   blocks-end a b m q e h l g = g ∙ ap (λ (n : ℕ). turns n (λ x. ccsoCell s luma flags offsets y x) t) (all-columns a b (omega arith))
 
 -- a target of the same length fits as well
-pub fit-same : {s : Ccso} {luma : List ℕ} {offsets : List ℤ} {n k m : ℕ} → k ≡ n → Fit s luma offsets n m → Fit s luma offsets k m
+pub fit-same : {s : Ccso} {luma : List ℕ} {offsets : List ℤ} {n k m : ℕ} → k ≡ n → CcsoFits s luma offsets n m → CcsoFits s luma offsets k m
 fit-same e f = rw e f
 
 -- the row that a row's number names

@@ -11,11 +11,11 @@ use Rattle.rules.specs.declared.settings.Ccso.{Ccso}
 use Rattle.rules.specs.declared.refusals.Answer.{Answer}
 use Rattle.rules.specs.declared.refusals.Answer.the-variants.{Accepted}
 use Rattle.rules.specs.Numbers.{depthOk, topOf, inRange, inRangeZ, subsamplingOk, down}
-use Rattle.rules.specs.Refusals.{orElse, unless, found, sooner, first, foundIf, foundUnless, over, overRow}
+use Rattle.rules.specs.Refusals.{orElse, unless, found, sooner, first, foundIf, foundUnless, overTop, overRow}
 use Rattle.rules.specs.Frame.{halved, superblocks}
 use Rattle.rules.specs.Ccso.{targetWidth, targetHeight, ccsoSizesOk, bandOk, offsetCount, ccsoLengthsOk, ccsoSettingsOk, offsetOk, badOffset, ccsoCheck}
-use Rattle.scan.specs.Exactly.{Exactly}
-use Rattle.scan.proofs.Exactly.{exactly, else-joined}
+use Rattle.checks.specs.Exactly.{Exactly}
+use Rattle.checks.proofs.Exactly.{exactly, else-joined}
 use Rattle.ccso.specs.Exactly.{tests}
 
 pub exactly-when : (s : Ccso) (luma flags : List ℕ) (offsets : List ℤ) (t : List ℕ) {r : Answer} → r ≡ ccsoCheck s luma flags offsets t → Exactly r (tests s luma flags offsets t)
@@ -24,5 +24,5 @@ exactly-when s luma flags offsets t e = exactly (tests s luma flags offsets t) r
 
 -- one sample, its block on, all offsets 0
 pub accepts : ccsoCheck record { width = 1; height = 1; ssx = 0; ssy = 0; depth = 8; scale = 1; lo = pos 0; hi = pos 0; below = 0; within = 1; above = 2; dx0 = pos 1; dy0 = pos 0; dx1 = pos 0; dy1 = pos 1; bandlog = 0 } (100 ∷ []) (1 ∷ []) (replicate 16 (pos 0)) (108 ∷ []) ≡ Accepted
-unfolding pick either both all depthOk topOf inRange inRangeZ subsamplingOk orElse unless found sooner first foundIf foundUnless over overRow halved superblocks targetWidth targetHeight ccsoSizesOk bandOk offsetCount ccsoLengthsOk ccsoSettingsOk offsetOk badOffset ccsoCheck down
+unfolding pick either both all depthOk topOf inRange inRangeZ subsamplingOk orElse unless found sooner first foundIf foundUnless overTop overRow halved superblocks targetWidth targetHeight ccsoSizesOk bandOk offsetCount ccsoLengthsOk ccsoSettingsOk offsetOk badOffset ccsoCheck down
 accepts = refl

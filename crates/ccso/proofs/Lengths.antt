@@ -24,8 +24,8 @@ use Rattle.rules.specs.declared.refusals.Refusal.the-variants.{Sample}
 use Rattle.rules.specs.declared.refusals.Answer.the-variants.{Accepted, Refused}
 use Rattle.rules.specs.Refusals.{foundUnless, overRow}
 use Rattle.rules.specs.Ccso.{targetWidth, targetHeight, ccsoSizesOk, ccsoLengthsOk, bandOk, offsetCount, offsetOk}
-use Rattle.scan.proofs.First.{firsts, found-unless, found-unless-not}
-use Rattle.scan.proofs.Checks.{stop, go-on, found-bad-by, found-good-by}
+use Rattle.checks.proofs.First.{firsts, found-unless, found-unless-not}
+use Rattle.checks.proofs.Checks.{stop, go-on, found-bad-by, found-good-by}
 use Rattle.ccso.specs.Checks.{samplesCheck}
 use Rattle.ccso_sample.proofs.Places.{halved-most}
 

@@ -18,9 +18,9 @@ use Rattle.laws.specs.Machine.{back}
 use Rattle.rules.specs.declared.settings.Ccso.{Ccso}
 use Rattle.rules.specs.Numbers.{inRangeZ}
 use Rattle.rules.specs.Ccso.{ccsoSettingsOk, bandOk}
-use Rattle.ccso_sample.specs.Ranges.{Within}
+use Rattle.ccso_sample.specs.Ranges.{SignedWithin}
 use Rattle.ccso.specs.Checks.{cutsOk, classesOk, tapsOk}
-use Rattle.scan.proofs.Ranges.{range-below, range-above}
+use Rattle.checks.proofs.Ranges.{range-below, range-above}
 
 -- ---- a signed number in -low..high
 

@@ -17,7 +17,7 @@ use Rattle.rules.specs.declared.refusals.Answer.{Answer}
 use Rattle.rules.specs.declared.refusals.Answer.the-variants.{Accepted, Refused}
 use Rattle.rules.specs.Numbers.{topOf}
 use Rattle.rules.specs.Ccso.{targetWidth, targetHeight, blockOf, placeAt, offsetSample, sampleAt, ccsoCheck, ccsoOf, ccsoAfter}
-use Rattle.scan.proofs.Checks.{settle-refused, settle-accepted}
+use Rattle.checks.proofs.Checks.{settle-refused, settle-accepted}
 use Rattle.ccso.specs.Stated.{Stated}
 use Rattle.ccso_sample.proofs.Places.{cell-below}
 use Rattle.ccso.proofs.Accepted.{accepted, target-low}

@@ -8,7 +8,7 @@ use Rattle.rules.specs.declared.settings.Ccso.{Ccso}
 use Rattle.rules.specs.Numbers.{depthOk, topOf}
 use Rattle.rules.specs.Refusals.{overRow}
 use Rattle.rules.specs.Ccso.{targetWidth, targetHeight, ccsoSizesOk, ccsoLengthsOk, ccsoSettingsOk, badOffset}
-use Rattle.scan.specs.Exactly.{ask, seek, seekAny, andThen, Check, check}
+use Rattle.checks.specs.Exactly.{ask, seek, seekAny, andThen, Check, check}
 
 abbrev pub tests : Ccso → List ℕ → List ℕ → List ℤ → List ℕ → List Check
 tests s luma flags offsets t =

@@ -17,7 +17,7 @@ movedCell s luma offsets y x t =
     set t (y * targetWidth s + x) (movedAt s luma offsets x y (getD t (y * targetWidth s + x) 0))
 
 -- every list of the run: what luma and the offsets promise, and a target of n samples and m flags that are long enough
-pub record Fit (s : Ccso) (luma : List ℕ) (offsets : List ℤ) (n m : ℕ) : Type 0 where
+pub record CcsoFits (s : Ccso) (luma : List ℕ) (offsets : List ℤ) (n m : ℕ) : Type 0 where
   pub lit : Lit s luma
   pub small : Small s offsets
   pub target : targetHeight s * targetWidth s ≤ n

@@ -10,13 +10,13 @@ ghost use Rattle.rules.specs.Numbers.{depthOk, inRange, inRangeZ};
 ghost use Rattle.rules.specs.Ccso.{targetWidth, targetHeight, ccsoSizesOk, ccsoLengthsOk, ccsoSettingsOk, offsetOk, offsetCount, ccsoCheck};
 ghost use Rattle.rules.specs.Refusals.{first, foundUnless};
 ghost use Rattle.ccso.specs.Checks.{cutsOk, classesOk, tapsOk, samplesCheck};
+use checks::row;
 use laws::split;
 use rules::depth::Depth;
 use rules::refusals::Answer;
 use rules::refusals::Found;
 use rules::refusals::Refusal;
 use rules::settings::Ccso;
-use scan::row;
 
 fn sizes_ok(s: Ccso) -> bool
     ensures { λ r. ⌜ r ≡ ccsoSizesOk s ⌝ }

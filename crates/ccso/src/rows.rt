@@ -7,7 +7,7 @@ ghost use Rattle.rules.specs.Frame.{superblocks};
 ghost use Rattle.rules.specs.Ccso.{targetWidth, targetHeight, ccsoCell, ccsoRow, ccsoOf};
 ghost use Rattle.ccso_sample.specs.Ranges.{Ranges, Raised, Sized};
 ghost use Rattle.ccso_sample.specs.Lists.{RowOf, Lit, Small};
-ghost use Rattle.ccso.specs.Lists.{Fit, movedCell, blockRow};
+ghost use Rattle.ccso.specs.Lists.{CcsoFits, movedCell, blockRow};
 use ccso_sample::counts::Counts;
 use ccso_sample::counts::Sizes;
 use ccso_sample::counts::counts_of;
@@ -89,7 +89,7 @@ fn block(
     requires { ⌜ Raised s k ⌝ }
     requires { ⌜ Sized s z ⌝ }
     requires { ⌜ RowOf s r ⌝ }
-    requires { ⌜ Fit s (now luma) (now offsets) (length (now target)) (length (now flags)) ⌝ }
+    requires { ⌜ CcsoFits s (now luma) (now offsets) (length (now target)) (length (now flags)) ⌝ }
     requires { ⌜ b < superblocks (s .width) ⌝ }
     ensures { λ _. ⌜ now (target .exit) ≡ blockRow s (now (luma .entry)) (now (flags .entry)) (now (offsets .entry)) (r .y) b (now (target .entry)) ⌝ }
 {
@@ -116,7 +116,7 @@ fn row(
 )
     requires { ⌜ Raised s k ⌝ }
     requires { ⌜ Sized s z ⌝ }
-    requires { ⌜ Fit s (now luma) (now offsets) (length (now target)) (length (now flags)) ⌝ }
+    requires { ⌜ CcsoFits s (now luma) (now offsets) (length (now target)) (length (now flags)) ⌝ }
     requires { ⌜ y < targetHeight s ⌝ }
     ensures { λ _. ⌜ now (target .exit) ≡ ccsoRow s (now (luma .entry)) (now (flags .entry)) (now (offsets .entry)) y (now (target .entry)) ⌝ }
 {
@@ -130,7 +130,7 @@ fn row(
 // Every row of the target.
 pub fn run(luma: &[u16], target: &mut [u16], flags: &[u8], offsets: &[i8], s: Ccso)
     requires { ⌜ Ranges s ⌝ }
-    requires { ⌜ Fit s (now luma) (now offsets) (length (now target)) (length (now flags)) ⌝ }
+    requires { ⌜ CcsoFits s (now luma) (now offsets) (length (now target)) (length (now flags)) ⌝ }
     ensures { λ _. ⌜ now (target .exit) ≡ ccsoOf s (now (luma .entry)) (now (flags .entry)) (now (offsets .entry)) (now (target .entry)) ⌝ }
 {
     let k = counts_of(s);

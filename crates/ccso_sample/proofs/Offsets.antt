@@ -18,7 +18,7 @@ use Rattle.rules.specs.Numbers.{depthOk, topOf}
 use Rattle.rules.proofs.Depths.{by-depth}
 use Rattle.rules.specs.Ccso.{offsetPlace, offsetSample, offsetCount, placeAt}
 use Rattle.ccso_sample.specs.declared.counts.Counts.{Counts}
-use Rattle.ccso_sample.specs.Ranges.{Within, Ranges, Raised}
+use Rattle.ccso_sample.specs.Ranges.{SignedWithin, Ranges, Raised}
 use Rattle.ccso_sample.specs.Lists.{Small, movedAt}
 use Rattle.ccso_sample.proofs.Signed.{byte, byte-kept, byte-word, byte-within, byte-is}
 
@@ -53,7 +53,7 @@ place-below {s} a c class0 class1 h p q = omega (arith, band)
     band = div-lt-iff-lt-mul (pow-pos (s .depth - s .bandlog)) .1 (omega (arith, split, pow-pos (s .depth)))
 
 -- a sample v with an offset that was raised to r
-module _ {s : Ccso} {k : Counts} (up : Raised s k) (v r : ℕ) (z : ℤ) (h : Is z r 10) (small : Within z 10) where
+module _ {s : Ccso} {k : Counts} (up : Raised s k) (v r : ℕ) (z : ℤ) (h : Is z r 10) (small : SignedWithin z 10) where
   part-most : r * s .scale ≤ 20 * 16
   part-most = let l : r ≤ 20 = omega arith in mul-le-mul l (up .ranges .scale-most)
 
@@ -79,7 +79,7 @@ pub ruleset moves = (needs, byte-word, byte-within, byte-is, part-fits, sum-fits
 
 -- the offset that the code read at a place in use, and the sample with it
 module _ {s : Ccso} (offsets : List ℤ) (small : Small s offsets) (p : ℕ) (h : p < offsetCount s) where
-  pub offset-kept : Within (toZ w8 (ofZ w8 (getD offsets p (pos 0)))) 10
+  pub offset-kept : SignedWithin (toZ w8 (ofZ w8 (getD offsets p (pos 0)))) 10
   offset-kept = byte-kept _ (small .each p h)
 
   pub moved : (luma : List ℕ) (x y v r : ℕ) → p ≡ placeAt s luma x y → r ≡ offsetSample s v (toZ w8 (ofZ w8 (getD offsets p (pos 0)))) → r ≡ movedAt s luma offsets x y v

@@ -11,7 +11,7 @@ use Rattle.rules.specs.Numbers.{topOf, down, up}
 use Rattle.rules.specs.Frame.{superblocks}
 use Rattle.rules.specs.Ccso.{targetWidth, targetHeight, placeAt, offsetSample, offsetCount}
 use Rattle.ccso_sample.specs.declared.taps.Row.{Row}
-use Rattle.ccso_sample.specs.Ranges.{Within}
+use Rattle.ccso_sample.specs.Ranges.{SignedWithin}
 
 -- the row that a tap dy away from row y reads
 unfoldable pub tapRow : Ccso → ℤ → ℕ → ℕ
@@ -34,7 +34,7 @@ pub record Lit (s : Ccso) (luma : List ℕ) : Type 0 where
 -- the offsets in use are there, and small
 pub record Small (s : Ccso) (offsets : List ℤ) : Type 0 where
   pub long : offsetCount s ≤ length offsets
-  pub each : (k : ℕ) → k < offsetCount s → Within (getD offsets k (pos 0)) 10
+  pub each : (k : ℕ) → k < offsetCount s → SignedWithin (getD offsets k (pos 0)) 10
 
 -- the sample of column x and row y, where its block's flag is on
 unfoldable pub movedAt : Ccso → List ℕ → List ℤ → ℕ → ℕ → ℕ → ℕ

@@ -13,7 +13,7 @@ use Rattle.ccso_sample.specs.declared.counts.Counts.{Counts}
 use Rattle.ccso_sample.specs.declared.counts.Sizes.{Sizes}
 
 -- a signed number in -most..most
-pub record Within (z : ℤ) (most : ℕ) : Type 0 where
+pub record SignedWithin (z : ℤ) (most : ℕ) : Type 0 where
   pub high : over z ≤ most
   pub low : under z ≤ most
 
@@ -33,12 +33,12 @@ pub record Ranges (s : Ccso) : Type 0 where
   pub below-most : s .below ≤ 3
   pub within-most : s .within ≤ 3
   pub above-most : s .above ≤ 3
-  pub lo : Within (s .lo) 4095
-  pub hi : Within (s .hi) 4095
-  pub dx0 : Within (s .dx0) 16
-  pub dy0 : Within (s .dy0) 16
-  pub dx1 : Within (s .dx1) 16
-  pub dy1 : Within (s .dy1) 16
+  pub lo : SignedWithin (s .lo) 4095
+  pub hi : SignedWithin (s .hi) 4095
+  pub dx0 : SignedWithin (s .dx0) 16
+  pub dy0 : SignedWithin (s .dy0) 16
+  pub dx1 : SignedWithin (s .dx1) 16
+  pub dy1 : SignedWithin (s .dy1) 16
 
 -- settings in their ranges, as counts
 pub record Raised (s : Ccso) (k : Counts) : Type 0 where

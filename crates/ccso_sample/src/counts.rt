@@ -2,7 +2,7 @@
 ghost use mathlib.Core.Path.{_≡_};
 ghost use Prim.Native.Nat.{_≤_, _^_};
 ghost use Rattle.laws.specs.Whole.{Is};
-ghost use Rattle.ccso_sample.specs.Ranges.{Within, Ranges, Raised, Sized};
+ghost use Rattle.ccso_sample.specs.Ranges.{SignedWithin, Ranges, Raised, Sized};
 use rules::depth::Depth;
 use rules::settings::Ccso;
 
@@ -30,7 +30,7 @@ pub struct Sizes {
 
 // The count r with v = r - by.
 pub fn raised(v: i32, by: u32) -> u32
-    requires { ⌜ Within v by × (by ≤ 4095) ⌝ }
+    requires { ⌜ SignedWithin v by × (by ≤ 4095) ⌝ }
     ensures { λ r. ⌜ Is v r by ⌝ }
 {
     (v + by as i32) as u32

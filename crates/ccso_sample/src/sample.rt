@@ -4,7 +4,7 @@ ghost use Prim.Native.Nat.{_≤_, _<_, _-_, min};
 ghost use lib.IntN.{pos};
 ghost use lib.ListN.{getD};
 ghost use Rattle.rules.specs.Ccso.{targetWidth, offsetPlace, offsetSample, offsetCount, placeAt};
-ghost use Rattle.ccso_sample.specs.Ranges.{Within, Ranges, Raised};
+ghost use Rattle.ccso_sample.specs.Ranges.{SignedWithin, Ranges, Raised};
 ghost use Rattle.ccso_sample.specs.Lists.{RowOf, Lit, Small, movedAt};
 use crate::counts::Counts;
 use crate::counts::raised;
@@ -40,7 +40,7 @@ fn lower(a: u32, b: u32) -> u32
 // A sample v with an offset, limited to 0..top.
 fn offset_sample(s: Ccso, k: Counts, v: u16, offset: i8) -> u16
     requires { ⌜ Raised s k ⌝ }
-    requires { ⌜ Within offset 10 ⌝ }
+    requires { ⌜ SignedWithin offset 10 ⌝ }
     ensures { λ r. ⌜ r ≡ offsetSample s v offset ⌝ }
 {
     let up = v as u32 + raised(offset as i32, 10) * s.scale;

@@ -11,7 +11,7 @@ use Rattle.rules.specs.declared.refusals.Found.{Found}
 use Rattle.rules.specs.declared.refusals.Found.the-variants.{At, Nothing}
 use Rattle.rules.specs.Refusals.{first, foundUnless}
 use Rattle.rules.specs.Record.{entryCount}
-use Rattle.scan.proofs.First.{first-more, first-found, first-end, found-unless, found-unless-not, at-first, at-not-nothing}
+use Rattle.checks.proofs.First.{first-more, first-found, first-end, found-unless, found-unless-not, at-first, at-not-nothing}
 use Rattle.compared.specs.declared.beside.Difference.the-variants.{Equal, Edges, FirstGoesOn, SecondGoesOn}
 use Rattle.compared.specs.Compare.{sameNumbers, edgeOf, firstDifference, saidOf, differenceOf}
 

@@ -18,7 +18,7 @@ use Rattle.rules.specs.declared.refusals.Found.the-variants.{At, Nothing}
 use Rattle.rules.specs.Refusals.{first, foundUnless}
 use Rattle.rules.specs.Record.{recordOf, edgesIn, entryCount}
 use Rattle.rules.specs.Replay.{recordCheck}
-use Rattle.scan.proofs.First.{nothing-all, all-nothing, unless-nothing}
+use Rattle.checks.proofs.First.{nothing-all, all-nothing, unless-nothing}
 use Rattle.replay.proofs.Theorems.{write-checked}
 use Rattle.compared.specs.declared.beside.Difference.the-variants.{Equal, FirstGoesOn, SecondGoesOn}
 use Rattle.compared.specs.Compare.{sameNumbers, edgeOf, firstDifference, saidOf, differenceOf}

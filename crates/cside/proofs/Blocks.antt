@@ -20,7 +20,7 @@ use Rattle.rules.specs.Numbers.{depthOk}
 use Rattle.rules.specs.Refusals.{numberOf, orElse, unless}
 use Rattle.rules.specs.Thresholds.{qThreshold, sideThreshold, thresholdsCheck, answerThresholds, thresholdsOf}
 use Rattle.rules.specs.CSide.{cAnswer, stepsIn, cThresholdsCheck, cThresholds}
-use Rattle.scan.proofs.Checks.{else-parts}
+use Rattle.checks.proofs.Checks.{else-parts}
 use Rattle.thresholds.proofs.Unique.{q-range, side-range}
 use Rattle.answers.proofs.Numbers.{held, held-minus, answer-refused, answer-accepted}
 

@@ -43,16 +43,16 @@ use Rattle.rules.proofs.refusals.Answer as N
 use Rattle.rules.proofs.refusals.Answer.Laws as N′
 use Rattle.answers.specs.Told.{Told}
 use Rattle.grid.specs.Stated.{Stated}
-use Rattle.entries.specs.Records.{tuGridRead, longEnough}
+use Rattle.by_list.specs.Records.{tuGridRead, longEnough}
 use Rattle.leaves.specs.declared.records.Leaf.{Leaf}
 use Rattle.leaves.specs.Records.{flat}
 use Rattle.leaves.proofs.records.Leaf as T
-use Rattle.entries.proofs.tx_records.read as read
-use Rattle.entries.proofs.tx_records.read.Symbol.{name as #read}
+use Rattle.by_list.proofs.tx_records.read as read
+use Rattle.by_list.proofs.tx_records.read.Symbol.{name as #read}
 use Rattle.leaves.proofs.tx_grid.build_tx_grid as build
 use Rattle.leaves.proofs.tx_grid.build_tx_grid.Symbol.{name as #build}
-use Rattle.entries.proofs.tx_records.tell as tell
-use Rattle.entries.proofs.tx_records.tell.Symbol.{name as #tell}
+use Rattle.by_list.proofs.tx_records.tell as tell
+use Rattle.by_list.proofs.tx_records.tell.Symbol.{name as #tell}
 
 -- ---- lent lists
 

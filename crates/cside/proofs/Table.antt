@@ -12,7 +12,7 @@ use Rattle.ac_steps.specs.Steps.{tabled}
 use Rattle.rules.specs.declared.refusals.Refusal.the-variants.{Length}
 use Rattle.rules.specs.declared.refusals.Answer.the-variants.{Accepted, Refused}
 use Rattle.rules.specs.Refusals.{numberOf}
-use Rattle.scan.proofs.Checks.{unless-bad, unless-good, settle-refused, settle-accepted}
+use Rattle.checks.proofs.Checks.{unless-bad, unless-good, settle-refused, settle-accepted}
 use Rattle.answers.proofs.Numbers.{held-minus, answer-refused, answer-accepted}
 use Rattle.cside.specs.Steps.{stepsCheck, StepsTold}
 

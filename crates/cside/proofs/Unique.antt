@@ -13,15 +13,15 @@ use Rattle.rules.specs.CSide.{cThresholds}
 use Rattle.answers.specs.Told.{listed, Reported}
 use Rattle.answers.proofs.Unique.{counted-unique, reported-unique, filter-told-unique}
 use Rattle.numbers.specs.Settings.{qindexGridOf, offsetsOf}
-use Rattle.entries.specs.Planes.{PlaneTold, ReplayTold, RecordTold}
-use Rattle.entries.specs.Grids.{GridTold}
-use Rattle.entries.specs.Rectangles.{RectangleTold}
+use Rattle.by_list.specs.Planes.{PlaneTold, ReplayTold, RecordTold}
+use Rattle.by_list.specs.Grids.{GridTold}
+use Rattle.by_list.specs.Rectangles.{RectangleTold}
 use Rattle.leaves.specs.declared.records.Leaf.{Leaf}
 use Rattle.leaves.specs.Records.{flat}
-use Rattle.frame_entry.specs.Listed.{FrameTold}
-use Rattle.frame_entry.proofs.Unique.{frame-unique}
-use Rattle.rows_entry.specs.Listed.{RowsTold}
-use Rattle.rows_entry.proofs.Handed.{told-once}
+use Rattle.frame_by_list.specs.ByList.{FrameTold}
+use Rattle.frame_by_list.proofs.Unique.{frame-unique}
+use Rattle.rows_by_list.specs.ByList.{RowsTold}
+use Rattle.rows_by_list.proofs.Handed.{told-once}
 use Rattle.cside.specs.Segment.{SegmentTold}
 use Rattle.cside.specs.Steps.{StepsTold}
 

@@ -19,12 +19,12 @@ use Rattle.rules.specs.declared.refusals.LoneAnswer.{LoneAnswer}
 use Rattle.rules.specs.declared.refusals.Width.the-variants.{Samples, Refused as «NoWidth»}
 use Rattle.rules.specs.Numbers.{depthOk}
 use Rattle.rules.specs.Refusals.{numberOf, orElse, unless, settle}
-use Rattle.rules.specs.Segment.{placeOf, windowOf, chosenOf, widthAt}
+use Rattle.rules.specs.Segment.{edgePlace, windowOf, chosenOf, widthAt}
 use Rattle.rules.specs.Lone.{edgeOf, loneCheck, answerWidth, loneWidth}
 use Rattle.rules.specs.CSide.{cAnswer, samplesIn, bytesOf, windowEdge, cSegmentCheck, cSegment, cWindow}
 use Rattle.lengths.proofs.Lengths.{pair-facts}
 use Rattle.width.proofs.Most.{pair-most}
-use Rattle.scan.proofs.Checks.{stop, go-on, unless-bad, unless-good, settle-refused, settle-accepted}
+use Rattle.checks.proofs.Checks.{stop, go-on, unless-bad, unless-good, settle-refused, settle-accepted}
 use Rattle.lone.specs.Stated.{Stated}
 use Rattle.lone.proofs.Accepted.{passed}
 use Rattle.answers.specs.Told.{tallied}
@@ -44,10 +44,10 @@ from-refused (Refused r) w e = cc
 
 -- the width of an edge whose pair is good
 width-most : (depth pair q side : ℕ) (l : List ℕ) → pair < 8 → widthAt 18 (edgeOf (windowEdge depth pair q side)) l ≤ 8
-unfolding widthAt chosenOf placeOf edgeOf
+unfolding widthAt chosenOf edgePlace edgeOf
 width-most depth pair q side l h =
     let e = edgeOf (windowEdge depth pair q side) in
-    omega (arith, pair-most (windowOf (placeOf 18 e) l) pair q side h, pair-facts pair h .after .most-8)
+    omega (arith, pair-most (windowOf (edgePlace 18 e) l) pair q side h, pair-facts pair h .after .most-8)
 
 module _ (depth pair q side : ℕ) (bytes : List ℕ) where
   -- at a way out with a refusal, the counts as they were put first

@@ -1,8 +1,8 @@
 // A call on filled rows for C: how many rows are final, with the place of a refusal, both counts and the state for the next call.
 use answers::told_rows;
-use rows_entry::call_rows;
+use rows_by_list::call_rows;
 ghost use Rattle.rules.specs.Plane.{keeping};
-ghost use Rattle.rows_entry.specs.Listed.{RowsTold};
+ghost use Rattle.rows_by_list.specs.ByList.{RowsTold};
 
 // How many rows are final, or minus the refusal number with its place in the first entry of `place`; stored and changed samples in `counts`; the state for the next call in `state`.
 #[no_mangle]

@@ -1,9 +1,9 @@
 // A whole frame for C: its answer as a number, with the place of a refusal and both counts.
 use answers::told_counts;
-use frame_entry::frames::filter;
+use frame_by_list::frames::filter;
 ghost use Rattle.rules.specs.Plane.{keeping};
 ghost use Rattle.rules.specs.Frame.{planes, grids, lent, given};
-ghost use Rattle.frame_entry.specs.Listed.{FrameTold};
+ghost use Rattle.frame_by_list.specs.ByList.{FrameTold};
 
 // 0, or minus the refusal number with its place in the first entry of `place`; stored and changed samples in `counts`.
 #[no_mangle]

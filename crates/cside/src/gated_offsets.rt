@@ -1,6 +1,6 @@
 // The gated CCSO offsets for C: their answer as a number, with the place of a refusal.
 use answers::told;
-use entries::gated_offsets::apply;
+use by_list::gated_offsets::apply;
 ghost use Rattle.rules.specs.Ccso.{ccsoCheck, ccsoOf};
 ghost use Rattle.answers.specs.Told.{listed, Reported};
 ghost use Rattle.numbers.specs.Settings.{offsetsOf};

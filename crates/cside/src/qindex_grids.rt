@@ -1,6 +1,6 @@
 // A qindex grid for C: its answer as a number, with the place of a refusal.
 use answers::told;
-use entries::qindex_grids::fill;
+use by_list::qindex_grids::fill;
 ghost use Rattle.rules.specs.QindexGrid.{qGridCheck, qGridOf};
 ghost use Rattle.answers.specs.Told.{listed, Reported};
 ghost use Rattle.numbers.specs.Settings.{qindexGridOf};

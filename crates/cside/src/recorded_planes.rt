@@ -1,8 +1,8 @@
 // A plane whose edges are recorded, for C: the record's bytes as the answer, or a refusal's number with its place, and both counts.
 use answers::told_record;
-use entries::recorded_planes::write_record;
+use by_list::recorded_planes::write_record;
 ghost use Rattle.rules.specs.Plane.{keeping};
-ghost use Rattle.entries.specs.Planes.{RecordTold};
+ghost use Rattle.by_list.specs.Planes.{RecordTold};
 
 // How many bytes the record takes, or minus the refusal number with its place in the first entry of `place`; stored and changed samples in `counts`.
 #[no_mangle]

@@ -1,7 +1,7 @@
 // Keep marks over a rectangle of cells for C: the answer as a number, with the place of a refusal.
 use answers::told;
-use entries::rectangles::mark;
-ghost use Rattle.entries.specs.Rectangles.{RectangleTold};
+use by_list::rectangles::mark;
+ghost use Rattle.by_list.specs.Rectangles.{RectangleTold};
 
 // 0, or minus the refusal number with its place in the first entry of `place`.
 #[no_mangle]

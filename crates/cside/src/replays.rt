@@ -1,7 +1,7 @@
 // A record that is run again, for C: its answer as a number, with the place of a refusal and both counts.
 use answers::told_counts;
-use entries::replays::run_again;
-ghost use Rattle.entries.specs.Planes.{ReplayTold};
+use by_list::replays::run_again;
+ghost use Rattle.by_list.specs.Planes.{ReplayTold};
 
 // 0, or minus the refusal number with its place in the first entry of `place`; stored and changed samples in `counts`.
 #[no_mangle]

@@ -1,8 +1,8 @@
 // A TU grid for C: its answer as a number, with the place of a refusal.
 use answers::told;
-use entries::tx_grids::build;
+use by_list::tx_grids::build;
 ghost use Rattle.rules.specs.TuGrid.{marks};
-ghost use Rattle.entries.specs.Grids.{GridTold};
+ghost use Rattle.by_list.specs.Grids.{GridTold};
 
 // 0, or minus the refusal number with its place in the first entry of `place`.
 #[no_mangle]

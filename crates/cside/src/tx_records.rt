@@ -1,10 +1,10 @@
 // A TU grid from leaf records for C: its answer as a number, with the place of a refusal.
-use entries::tx_records::read;
-use entries::tx_records::tell;
+use by_list::tx_records::read;
+use by_list::tx_records::tell;
 use leaves::records::Leaf;
 use leaves::tx_grid::build_tx_grid;
 ghost use Rattle.rules.specs.TuGrid.{marks};
-ghost use Rattle.entries.specs.Grids.{GridTold};
+ghost use Rattle.by_list.specs.Grids.{GridTold};
 ghost use Rattle.leaves.specs.Records.{flat};
 
 // 0, or minus the refusal number with its place in the first entry of `place`.

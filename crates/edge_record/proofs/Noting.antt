@@ -17,11 +17,11 @@ use Rattle.rules.specs.Frame.{withQ}
 use Rattle.rules.specs.Record.{recordedAnswer, recordedBuffer}
 use Rattle.grid.specs.Stated.{Stated as TxStated}
 use Rattle.recorded.specs.Stated.{Stated}
-use Rattle.asked.specs.declared.lists.Lists.{Lists}
-use Rattle.asked.specs.Lists.{listsAsked, stepsAsked, between}
+use Rattle.by_settings.specs.declared.lists.Lists.{Lists}
+use Rattle.by_settings.specs.Lists.{listsAsked, stepsAsked, between}
 use Rattle.frame_checks.specs.Settings.{planeOf, tuOf, qOf}
-use Rattle.framed.specs.Deblocked.{zeros}
-use Rattle.framed.specs.Framed.{givenBy, givenAsked, startsBy, startsAsked}
+use Rattle.frame_by_settings.specs.Deblocked.{zeros}
+use Rattle.frame_by_settings.specs.Framed.{givenBy, givenAsked, startsBy, startsAsked}
 use Rattle.gridded.specs.Spans.{leavesFrom, leavesEnd, tilesFrom, tilesEnd}
 use Rattle.edge_record.specs.Noted.{dark, gridBy, bytesOf, leavesBy, tilesBy, Noted, NotedBy}
 

@@ -17,7 +17,7 @@ use Rattle.rules.specs.QindexGrid.{qGridAfter}
 use Rattle.rules.specs.Frame.{Given, withQ}
 use Rattle.rules.specs.Record.{recordedAnswer, recordedBuffer}
 use Rattle.frame_checks.specs.Settings.{planeOf, tuOf, qOf}
-use Rattle.framed.specs.Deblocked.{Starts, zeros}
+use Rattle.frame_by_settings.specs.Deblocked.{Starts, zeros}
 
 -- every sample of the largest plane
 unfoldable pub dark : List ℕ

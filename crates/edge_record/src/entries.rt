@@ -2,15 +2,15 @@
 ghost use mathlib.Core.Path.{_≡_};
 ghost use lib.ListN.{length};
 ghost use Rattle.frame_checks.specs.Settings.{Sized};
-ghost use Rattle.framed.specs.Framed.{Listed, givenAsked, startsAsked};
+ghost use Rattle.frame_by_settings.specs.Framed.{ListsLong, givenAsked, startsAsked};
 ghost use Rattle.edge_record.specs.Noted.{dark, gridBy, bytesOf, Noted, NotedBy};
-use asked::lists::lists_of;
-use asked::lists::steps_of;
-use frame_checks::planes::plane_of;
-use frame_checks::planes::q_of;
-use frame_checks::planes::tu_of;
-use framed::deblocking::indices;
-use framed::deblocking::marks;
+use by_settings::lists::lists_of;
+use by_settings::lists::steps_of;
+use frame_by_settings::deblocking::indices;
+use frame_by_settings::deblocking::marks;
+use frame_checks::parts::plane_of;
+use frame_checks::parts::q_of;
+use frame_checks::parts::tu_of;
 use grid::tx_grid::build_tx_grid;
 use gridded::spans::leaves_of;
 use gridded::spans::tiles_of;
@@ -102,7 +102,7 @@ pub fn record_of(
     f: Frame,
     chroma: bool,
 ) -> usize
-    requires { ⌜ Listed (length (now shorts)) (length (now steps)) (length (now places)) × Sized f ⌝ }
+    requires { ⌜ ListsLong (length (now shorts)) (length (now steps)) (length (now places)) × Sized f ⌝ }
     ensures { λ n. ⌜ NotedBy f chroma (givenAsked (now (shorts .entry)) (now (steps .entry)) (now (places .entry))) (startsAsked (now (shorts .entry)) (now (places .entry))) (now (buffer .entry)) n (now (buffer .exit)) ⌝ }
 {
     let at = lists_of(places, shorts.len());

@@ -1,19 +1,19 @@
 // From the files to a written record and the outcome.
 ghost use lib.ListN.{length};
 ghost use Rattle.frame_checks.specs.Settings.{Sized};
-ghost use Rattle.framed.specs.Framed.{Listed};
+ghost use Rattle.frame_by_settings.specs.Framed.{ListsLong};
 use crate::entries::record_of;
 use crate::entries::room;
-use asked::told::frame_of;
-use frame_checks::planes::kind_on;
+use by_settings::filters::frame_of;
+use frame_checks::parts::kind_on;
 use gridded::sizes::sized;
 use pictures::defaults;
 use pictures::files;
 use pictures::shapes::chroma_of;
 use pictures::shapes::luma_of;
 use rules::settings::Frame;
+use settings::file::parse;
 use settings::names::first_places;
-use settings::text::parse;
 use y4m::header::Header;
 use y4m::header::read_header;
 
@@ -28,7 +28,7 @@ fn written(fd: i32, bytes: &[u8], n: usize) -> bool {
 
 // Writes luma's record or chroma's, where its planes are deblocked; the outcome.
 fn kept(shorts: &[u16], steps: &[u32], places: &[usize; 24], f: Frame, chroma: bool, to: i32) -> u8
-    requires { ⌜ Listed (length (now shorts)) (length (now steps)) 24 × Sized f ⌝ }
+    requires { ⌜ ListsLong (length (now shorts)) (length (now steps)) 24 × Sized f ⌝ }
 {
     if !kind_on(f, chroma) {
         return 0;

@@ -2,10 +2,10 @@
 ghost use lib.ListN.{length};
 ghost use Rattle.filter.specs.Lent.{Lent};
 ghost use Rattle.streams.specs.Shaped.{Shaped};
-use asked::gated::Applied;
-use asked::gated::offset_planes;
-use asked::places::at;
-use framed::listed::deblock_asked;
+use by_settings::gated::Applied;
+use by_settings::gated::offset_planes;
+use by_settings::places::at;
+use frame_by_settings::lists::deblock_asked;
 use pictures::planes;
 use refused::frame::deblocked;
 use refused::frame::frame_by;

@@ -15,8 +15,8 @@ use Rattle.rules.specs.declared.refusals.Found.the-variants.{Nothing}
 use Rattle.rules.specs.Numbers.{inRange, down}
 use Rattle.rules.specs.Thresholds.{deltasCheck}
 use Rattle.rules.specs.Plane.{Grid, noRoom, overPlane, planeSizesOk, planeCheck}
-use Rattle.rules.specs.Frame.{eighths, halved, lumaPlane, chromaPlane}
-use Rattle.scan.proofs.Checks.{go-on, unless-good, found-good}
+use Rattle.rules.specs.Frame.{upToEight, halved, lumaPlane, chromaPlane}
+use Rattle.checks.proofs.Checks.{go-on, unless-good, found-good}
 use Rattle.frame_checks.specs.Settings.{Sized, planeOf}
 use Rattle.frame_checks.proofs.Ranges.{by-shift}
 use Rattle.frame_planes.specs.Fit.{Sampled}
@@ -30,12 +30,12 @@ unfolding inRange both
 in-range-is low high n a b = rw (le-leb _ _ a, le-leb _ _ b)
 
 -- the border lies within the cells
-luma-border : (n : ℕ) → 1 ≤ n → (1 ≤ eighths n) × (eighths n ≤ 4 * (eighths n / 4))
-unfolding eighths
+luma-border : (n : ℕ) → 1 ≤ n → (1 ≤ upToEight n) × (upToEight n ≤ 4 * (upToEight n / 4))
+unfolding upToEight
 luma-border n h = (omega arith, omega arith)
 
-chroma-border : (ss n : ℕ) → ss ≤ 1 → 1 ≤ n → (1 ≤ down ss (eighths n)) × (down ss (eighths n) ≤ 4 * (eighths (halved ss n) / 4))
-unfolding eighths halved down
+chroma-border : (ss n : ℕ) → ss ≤ 1 → 1 ≤ n → (1 ≤ down ss (upToEight n)) × (down ss (upToEight n) ≤ 4 * (upToEight (halved ss n) / 4))
+unfolding upToEight halved down
 chroma-border zero n h a = (omega arith, omega arith)
 chroma-border (suc k) n h a = let e : suc k ≡ 1 = omega arith in rw e (omega arith, omega arith)
 

@@ -22,10 +22,10 @@ use Rattle.rules.specs.declared.lent.FrameLengths.{FrameLengths}
 use Rattle.rules.specs.Plane.{tilesCheck, badKeep}
 use Rattle.rules.specs.TuGrid.{capOk, foursOk}
 use Rattle.rules.specs.Frame.{Given, lumaPlane, chromaPlane, lumaTu, chromaTu, lumaQ, chromaQ, superblocks, chromaOn, samplesLong, gridLong, lumaLong, chromaLong, givenLong, frameSizes, frameLengths, frameShape, frameSettings, frameTiles, frameLeaves, frameGiven, frameKeep, frameEarly}
-use Rattle.scan.proofs.Checks.{else-parts, unless-true, found-nothing, only-part}
+use Rattle.checks.proofs.Checks.{else-parts, unless-true, found-nothing, only-part}
 use Rattle.tiles.specs.Fit.{AllGood}
 use Rattle.tiles.proofs.Checked.{by-cap, all-good}
-use Rattle.cells.specs.Fit.{Sizes}
+use Rattle.cell_edges.specs.Cells.{Sizes}
 use Rattle.frame_checks.specs.Settings.{Sized, planeOf, tuOf, qOf}
 use Rattle.frame_checks.proofs.Ranges.{superblocks-some, superblocks-most}
 use Rattle.frame_checks.proofs.Accepted.{frame-sized, luma-sizes, chroma-sizes}

@@ -12,12 +12,12 @@ use Rattle.rules.specs.declared.settings.Frame.{Frame}
 use Rattle.rules.specs.declared.settings.Plane.{Plane}
 use Rattle.rules.specs.declared.refusals.Answer.the-variants.{Accepted}
 use Rattle.rules.specs.declared.refusals.Found.the-variants.{Nothing}
-use Rattle.rules.specs.Refusals.{foundUnless, over}
+use Rattle.rules.specs.Refusals.{foundUnless, overTop}
 use Rattle.rules.specs.Plane.{Grid, tiled, keeping, tilesCheck, cellGood, badCell, badKeep, planeLengthsOk}
 use Rattle.rules.specs.TuGrid.{Marks, marks, txGridOf}
 use Rattle.rules.specs.QindexGrid.{qGridOf}
 use Rattle.rules.specs.Frame.{lumaPlane, chromaPlane, lumaTu, chromaTu, lumaQ, chromaQ, withQ, builtGrid}
-use Rattle.scan.proofs.First.{all-nothing, nothing-all, found-unless-not, unless-nothing, over-nothing}
+use Rattle.checks.proofs.First.{all-nothing, nothing-all, found-unless-not, unless-nothing, over-nothing}
 use Rattle.grid.proofs.Built.{no-bad-cell}
 use Rattle.plane.proofs.Accepting.{lengths, readies-by}
 use Rattle.frame_checks.specs.Settings.{kindOn, planeOf, tuOf, qOf}
@@ -58,7 +58,7 @@ kept-cells s v h w t q ts ks e m = all-nothing _ (s .rows * s .cols) (λ k l.
     let p2 = all-parts _ _ (p1 .1) in
     let p3 = all-parts _ _ (p2 .1) in
     let p4 = all-parts _ _ (p3 .1) in
-    let mark = is-le _ 1 (over-nothing 1 ks k (nothing-all (λ i. over 1 ks i) _ m k l)) in
+    let mark = is-le _ 1 (over-nothing 1 ks k (nothing-all (λ i. overTop 1 ks i) _ m k l)) in
     sym (found-unless-not _ k (all-ok _ _ _ (sym (p1 .0)) (all-ok _ _ _ (sym (p2 .0)) (all-ok _ _ _ (sym (p3 .0)) (all-ok _ _ _ (sym (p4 .0)) (all-ok _ _ _ mark all-none)))))))
 
 good-cells : (f : Frame) (chroma : Bool) (ls ks sbq : List ℕ) (g : Grid) → badKeep (planeOf f chroma .rows * planeOf f chroma .cols) (g .keep) ≡ Nothing → badCell (planeOf f chroma) (builtGrid (tuOf f chroma) (qOf f chroma) ls ks sbq g) ≡ Nothing

@@ -17,7 +17,7 @@ use Rattle.rules.specs.declared.counts.Counts.{Counts}
 use Rattle.rules.specs.Refusals.{settle}
 use Rattle.rules.specs.Plane.{Grid, noRoom, overPlane}
 use Rattle.rules.specs.Frame.{Planes, Grids, Given, grids, lent, done, gridLengths, lengthsOf, lumaPlane, chromaPlane, lumaTu, chromaTu, lumaQ, chromaQ, chromaOn, builtGrid, builtGrids, frameEarly, frameRoom, frameSamples, frameLate, frameBuilt, orDone, frameOf, frameStored, frameChanged}
-use Rattle.scan.proofs.Checks.{else-parts, found-nothing, only-part, settle-refused, settle-accepted}
+use Rattle.checks.proofs.Checks.{else-parts, found-nothing, only-part, settle-refused, settle-accepted}
 use Rattle.frame_planes.specs.Ran.{FrameRun}
 use Rattle.frame.specs.Fit.{lengthsFor}
 use Rattle.frame.specs.Stated.{refusedBy, Finished, Stated}

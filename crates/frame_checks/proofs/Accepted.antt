@@ -19,10 +19,10 @@ use Rattle.rules.specs.declared.refusals.Answer.the-variants.{Accepted}
 use Rattle.rules.specs.Numbers.{inRange, subsamplingOk}
 use Rattle.rules.specs.Refusals.{unless, onlyIf}
 use Rattle.rules.specs.Frame.{lumaPlane, chromaPlane, chromaOn, strideOk, gridLong, lumaLong, chromaLong, frameSizes, frameLengths, frameShape}
-use Rattle.scan.proofs.Checks.{else-parts, unless-true, only-part}
+use Rattle.checks.proofs.Checks.{else-parts, unless-true, only-part}
 use Rattle.tiles.proofs.Checked.{ssx-most, ssy-most}
-use Rattle.cells.specs.Fit.{Sizes}
-use Rattle.scan.proofs.Ranges.{in-range}
+use Rattle.cell_edges.specs.Cells.{Sizes}
+use Rattle.checks.proofs.Ranges.{in-range}
 use Rattle.frame_checks.specs.Settings.{Sized, KeepLong, planeOf}
 use Rattle.frame_checks.proofs.Ranges.{cells, blocks}
 

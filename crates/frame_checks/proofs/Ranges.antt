@@ -11,7 +11,7 @@ use mir.Syntax.{w64}
 use Rattle.rules.specs.declared.settings.Frame.{Frame}
 use Rattle.rules.specs.declared.settings.Plane.{Plane}
 use Rattle.rules.specs.Numbers.{down}
-use Rattle.rules.specs.Frame.{eighths, halved, superblocks, lumaPlane, chromaPlane}
+use Rattle.rules.specs.Frame.{upToEight, halved, superblocks, lumaPlane, chromaPlane}
 use Rattle.frame_checks.specs.Settings.{Sized, planeOf}
 
 -- a property of a shift by 0 and by 1
@@ -21,12 +21,12 @@ by-shift P zero n h a b = let e : n / 1 ≡ n = omega arith in rw e a
 by-shift P (suc k) n h a b = let e : suc k ≡ 1 = omega arith in rw e b
 
 -- 1 to 4096 samples, halved or not, are 1 to 1024 cells
-pub cells-some : (n : ℕ) → 1 ≤ n → 1 ≤ eighths n / 4
-unfolding eighths
+pub cells-some : (n : ℕ) → 1 ≤ n → 1 ≤ upToEight n / 4
+unfolding upToEight
 cells-some n h = omega arith
 
-pub cells-most : (n : ℕ) → n ≤ 4096 → eighths n / 4 ≤ 1024
-unfolding eighths
+pub cells-most : (n : ℕ) → n ≤ 4096 → upToEight n / 4 ≤ 1024
+unfolding upToEight
 cells-most n h = omega arith
 
 pub half-some : (ss n : ℕ) → ss ≤ 1 → 1 ≤ n → 1 ≤ halved ss n
@@ -98,7 +98,7 @@ lumaFrom f w h d = record {
   deltaside = d;
 }
 
-pub luma-is : (f : Frame) (w h : ℕ) (d : ℤ) → d ≡ f .deltay → w ≡ eighths (f .width) → h ≡ eighths (f .height) → lumaFrom f w h d ≡ lumaPlane f
+pub luma-is : (f : Frame) (w h : ℕ) (d : ℤ) → d ≡ f .deltay → w ≡ upToEight (f .width) → h ≡ upToEight (f .height) → lumaFrom f w h d ≡ lumaPlane f
 unfolding lumaPlane
 luma-is f w h d i e g = rw (i, e, g)
 
@@ -118,7 +118,7 @@ chromaFrom f w h bw bh sbw sbh d = record {
 }
 
 -- a size halved and rounded up
-pub eighths-by : (a n w : ℕ) → a ≡ n → w ≡ eighths a → w ≡ eighths n
+pub eighths-by : (a n w : ℕ) → a ≡ n → w ≡ upToEight a → w ≡ upToEight n
 eighths-by a n w e g = rw e at g
 
 -- a size rounded up and shifted
@@ -126,6 +126,6 @@ pub down-by : (ss a n w : ℕ) → a ≡ n → w ≡ down ss a → w ≡ down ss
 down-by ss a n w e g = rw e at g
 
 module _ (f : Frame) (w h bw bh sbw sbh : ℕ) (d : ℤ) (i : d ≡ f .deltauv) where
-  pub chroma-is : w ≡ eighths (halved (f .ssx) (f .width)) → h ≡ eighths (halved (f .ssy) (f .height)) → bw ≡ down (f .ssx) (eighths (f .width)) → bh ≡ down (f .ssy) (eighths (f .height)) → sbw ≡ down (f .ssx) 16 → sbh ≡ down (f .ssy) 16 → chromaFrom f w h bw bh sbw sbh d ≡ chromaPlane f
+  pub chroma-is : w ≡ upToEight (halved (f .ssx) (f .width)) → h ≡ upToEight (halved (f .ssy) (f .height)) → bw ≡ down (f .ssx) (upToEight (f .width)) → bh ≡ down (f .ssy) (upToEight (f .height)) → sbw ≡ down (f .ssx) 16 → sbh ≡ down (f .ssy) 16 → chromaFrom f w h bw bh sbw sbh d ≡ chromaPlane f
   unfolding chromaPlane
   chroma-is e1 e2 e3 e4 e5 e6 = rw (i, e1, e2, e3, e4, e5, e6)

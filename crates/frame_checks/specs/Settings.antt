@@ -7,7 +7,7 @@ use Rattle.rules.specs.declared.settings.Plane.{Plane}
 use Rattle.rules.specs.declared.settings.TuGrid.{TuGrid}
 use Rattle.rules.specs.declared.settings.QindexGrid.{QindexGrid}
 use Rattle.rules.specs.Frame.{lumaPlane, chromaPlane, lumaTu, chromaTu, lumaQ, chromaQ, chromaOn}
-use Rattle.cells.specs.Fit.{Sizes}
+use Rattle.cell_edges.specs.Cells.{Sizes}
 
 -- luma's or chroma's
 abbrev pub planeOf : Frame → Bool → Plane

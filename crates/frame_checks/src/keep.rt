@@ -1,11 +1,11 @@
 // Document 02, ticket 7: refusal 6 of a frame's keep marks, luma's and then, where chroma is filtered, chroma's.
 use super::planes::kind_on;
 use super::planes::plane_of;
+use checks::bad_keep;
 use rules::refusals::Answer;
 use rules::refusals::Found;
 use rules::refusals::Refusal;
 use rules::settings::Frame;
-use scan::bad_keep;
 ghost use mathlib.Core.Path.{_≡_};
 ghost use mathlib.Core.Bool.{true, false};
 ghost use Prim.Native.Nat.{_*_};

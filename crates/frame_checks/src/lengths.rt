@@ -20,7 +20,7 @@ ghost use Rattle.rules.specs.declared.refusals.Answer.the-variants.{Accepted};
 ghost use Rattle.rules.specs.Refusals.{unless, onlyIf};
 ghost use Rattle.rules.specs.TuGrid.{foursOk};
 ghost use Rattle.rules.specs.Frame.{superblocks, lumaPlane, chromaPlane, chromaOn, frameSizes, samplesLong, gridLong, lumaLong, chromaLong, givenLong, frameLengths};
-ghost use Rattle.cells.specs.Fit.{Sizes};
+ghost use Rattle.cell_edges.specs.Cells.{Sizes};
 ghost use Rattle.frame_checks.specs.Settings.{Sized};
 
 // A plane of n samples.

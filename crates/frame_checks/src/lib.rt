@@ -1,7 +1,7 @@
 // A frame's settings, plane by plane, and document 01's checks of a frame before its grids are built.
 
 // The settings of a frame's planes and grids.
-pub mod planes;
+pub mod parts;
 
 // Sizes, subsampling and strides: refusal 2.
 mod sizes;

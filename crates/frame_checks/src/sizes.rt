@@ -1,10 +1,10 @@
 // Document 01, refusal 2 of a frame: its size, subsampling and strides, luma before chroma.
 use super::planes::chroma_on;
 use super::planes::plane_of;
+use checks::in_range;
 use rules::refusals::Answer;
 use rules::refusals::Refusal;
 use rules::settings::Frame;
-use scan::in_range;
 use tiles::checks::subsampling_ok;
 ghost use mathlib.Core.Path.{_≡_};
 ghost use mathlib.Core.List.{[], _∷_};

@@ -1,7 +1,7 @@
 // Document 02, ticket 5: refusal 5 of a frame's lists of tile starts, luma's and then, where chroma is filtered, chroma's.
 use super::planes::kind_on;
 use super::planes::plane_of;
-use cells::starts::tiles_check;
+use plane_checks::starts::tiles_check;
 use rules::refusals::Answer;
 use rules::settings::Frame;
 ghost use mathlib.Core.Path.{_≡_};

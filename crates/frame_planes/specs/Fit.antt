@@ -8,8 +8,8 @@ use Rattle.rules.specs.declared.settings.Frame.{Frame}
 use Rattle.rules.specs.Numbers.{depthOk}
 use Rattle.tiles.specs.Fit.{Cut, AllGood}
 use Rattle.qindex.specs.Fit.{QFit}
-use Rattle.grid.specs.Fit.{Fit}
-use Rattle.cells.specs.Fit.{Sizes, Ready}
+use Rattle.grid.specs.Fit.{GridFits}
+use Rattle.cell_edges.specs.Cells.{Sizes, Ready}
 use Rattle.frame_checks.specs.Settings.{Sized, planeOf, tuOf, qOf}
 
 -- a plane of size samples
@@ -28,7 +28,7 @@ pub record Marked (f : Frame) (chroma : Bool) (v h w t : List ℕ) : Type 0 wher
 -- what building a grid asks of leaves, of count entries of superblocks, and of five lists by their lengths
 pub record Buildable (f : Frame) (chroma : Bool) (leaves skips : List ℕ) (count v h w t q : ℕ) : Type 0 where
   pub sized : Sized f
-  pub fit : Fit (tuOf f chroma) v h w t
+  pub fit : GridFits (tuOf f chroma) v h w t
   pub cut : Cut (tuOf f chroma)
   pub leaves-good : AllGood leaves
   pub skips-good : AllGood skips

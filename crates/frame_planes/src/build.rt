@@ -1,7 +1,7 @@
 // The grid of a frame's luma or chroma: marks and size indices from the leaves, qindex from the superblocks.
-use frame_checks::planes::kind_on;
-use frame_checks::planes::q_of;
-use frame_checks::planes::tu_of;
+use frame_checks::parts::kind_on;
+use frame_checks::parts::q_of;
+use frame_checks::parts::tu_of;
 use grid::tx_grid::tx_grid;
 use qindex::qindex_grid::qindex_grid;
 use rules::settings::Frame;

@@ -1,8 +1,8 @@
 // Document 01's refusals 7 and 8 of a frame: room in the built grids, then samples, luma before chroma.
-use cells::room::no_room;
-use cells::samples::over_plane;
-use frame_checks::planes::kind_on;
-use frame_checks::planes::plane_of;
+use frame_checks::parts::kind_on;
+use frame_checks::parts::plane_of;
+use plane_checks::room::no_room;
+use plane_checks::samples::over_plane;
 use rules::refusals::Answer;
 use rules::refusals::Found;
 use rules::refusals::Refusal;

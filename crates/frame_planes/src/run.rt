@@ -1,6 +1,6 @@
 // A frame's planes filtered by their grids, and how many samples that stored and changed.
-use frame_checks::planes::kind_on;
-use frame_checks::planes::plane_of;
+use frame_checks::parts::kind_on;
+use frame_checks::parts::plane_of;
 use plain::deblock_plane_plain;
 use plane::run_plane;
 use rules::counts::Counts;

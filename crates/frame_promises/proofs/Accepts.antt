@@ -11,14 +11,14 @@ use Rattle.laws.specs.Loops.{turns}
 use Rattle.rules.specs.declared.settings.Frame.{Frame}
 use Rattle.rules.specs.declared.refusals.Answer.the-variants.{Accepted}
 use Rattle.rules.specs.Numbers.{depthOk, topOf, inRange, inRangeZ, deltaOk, subsamplingOk, down, up}
-use Rattle.rules.specs.Refusals.{orElse, unless, found, onlyIf, sooner, first, foundIf, foundUnless, over, overRow, overBox}
+use Rattle.rules.specs.Refusals.{orElse, unless, found, onlyIf, sooner, first, foundIf, foundUnless, overTop, overRow, overBox}
 use Rattle.rules.specs.Thresholds.{stepGood, badStep, stepsCheck}
 use Rattle.rules.specs.Lengths.{reachBefore, reachAfter, reachOf, lengthBefore, lengthAfter, pairOf}
 use Rattle.rules.specs.Segment.{hasRoom}
 use Rattle.rules.specs.Plane.{Grid, keeping, cellOf, cellBefore, marksOf, indicesOf, cappedOf, indexAt, shortenedAt, isEdge, edgeRoom, lacksRoom, lacksRow, lacksDir, noRoom, overPlane, badStart, tilesCheck, badKeep}
 use Rattle.rules.specs.TuGrid.{flagOf, bareOf, isSize, log2Of, sizeOf, wholeOf, tileOf, markOf, storeCell, paintCell, paintRow, paintOf, leafOf, leavesOf, clearOf, txGridOf, capOk, foursOk, leafGood, leafGoodAt, badLeaf}
 use Rattle.rules.specs.QindexGrid.{superblockOf, qCell, qRow, qGridOf}
-use Rattle.rules.specs.Frame.{Planes, Grids, Given, given, planes, grids, lent, eighths, halved, superblocks, lumaPlane, chromaPlane, lumaTu, chromaTu, lumaQ, chromaQ, chromaOn, builtGrid, builtGrids}
+use Rattle.rules.specs.Frame.{Planes, Grids, Given, given, planes, grids, lent, upToEight, halved, superblocks, lumaPlane, chromaPlane, lumaTu, chromaTu, lumaQ, chromaQ, chromaOn, builtGrid, builtGrids}
 use Rattle.rules.specs.Frame.{frameSizes, gridLong, lumaLong, chromaLong, givenLong, frameLengths, frameShape, frameSettings, frameTiles, frameLeaves, frameGiven, frameKeep, frameEarly, frameRoom, frameSamples, frameLate, frameOf}
 use Rattle.frame_promises.proofs.Answers.{earlyOf, answer-is}
 
@@ -63,8 +63,8 @@ abbrev cells : Grids
 cells = grids (keeping (blank 4) (blank 4) (blank 4) (blank 4) (blank 4) [] kept) (keeping (blank 4) (blank 4) (blank 4) (blank 4) (blank 4) [] (blank 4))
 
 early : earlyOf small lists (lent samples cells) ≡ Accepted
-unfolding pick either both all depthOk inRange inRangeZ deltaOk subsamplingOk down orElse unless found onlyIf sooner first foundUnless stepGood badStep stepsCheck flagOf bareOf isSize capOk foursOk leafGood leafGoodAt badLeaf eighths halved superblocks lumaPlane chromaPlane chromaOn frameSizes
-    gridLong lumaLong chromaLong givenLong frameLengths badStart tilesCheck badKeep foundIf over frameShape frameSettings frameTiles frameLeaves frameGiven frameKeep frameEarly
+unfolding pick either both all depthOk inRange inRangeZ deltaOk subsamplingOk down orElse unless found onlyIf sooner first foundUnless stepGood badStep stepsCheck flagOf bareOf isSize capOk foursOk leafGood leafGoodAt badLeaf upToEight halved superblocks lumaPlane chromaPlane chromaOn frameSizes
+    gridLong lumaLong chromaLong givenLong frameLengths badStart tilesCheck badKeep foundIf overTop frameShape frameSettings frameTiles frameLeaves frameGiven frameKeep frameEarly
 early = refl
 
 -- every cell is a TU with both its edges marked
@@ -72,15 +72,15 @@ abbrev ones : List ℕ → Grid
 ones ks = keeping (replicate 4 1) (replicate 4 1) (blank 4) (blank 4) (replicate 4 120) [] ks
 
 built : builtGrids small lists cells ≡ grids (ones kept) (ones (blank 4))
-unfolding pick either both turns down up flagOf bareOf log2Of sizeOf wholeOf tileOf markOf storeCell paintCell paintRow paintOf leafOf leavesOf clearOf txGridOf superblockOf qCell qRow qGridOf eighths halved superblocks lumaPlane chromaPlane lumaTu chromaTu lumaQ chromaQ chromaOn builtGrid builtGrids
+unfolding pick either both turns down up flagOf bareOf log2Of sizeOf wholeOf tileOf markOf storeCell paintCell paintRow paintOf leafOf leavesOf clearOf txGridOf superblockOf qCell qRow qGridOf upToEight halved superblocks lumaPlane chromaPlane lumaTu chromaTu lumaQ chromaQ chromaOn builtGrid builtGrids
 built = refl
 
 room : frameRoom small (grids (ones kept) (ones (blank 4))) ≡ Accepted
-unfolding pick both all down orElse found onlyIf sooner first foundUnless pairOf reachBefore reachAfter reachOf lengthBefore lengthAfter hasRoom cellOf cellBefore marksOf indicesOf cappedOf indexAt shortenedAt isEdge edgeRoom lacksRoom lacksRow lacksDir noRoom eighths halved lumaPlane chromaPlane chromaOn frameRoom
+unfolding pick both all down orElse found onlyIf sooner first foundUnless pairOf reachBefore reachAfter reachOf lengthBefore lengthAfter hasRoom cellOf cellBefore marksOf indicesOf cappedOf indexAt shortenedAt isEdge edgeRoom lacksRoom lacksRow lacksDir noRoom upToEight halved lumaPlane chromaPlane chromaOn frameRoom
 room = refl
 
 within : frameSamples small samples ≡ Accepted
-unfolding both down orElse found onlyIf first sooner foundIf over overRow overBox topOf overPlane eighths halved lumaPlane chromaPlane chromaOn frameSamples
+unfolding both down orElse found onlyIf first sooner foundIf overTop overRow overBox topOf overPlane upToEight halved lumaPlane chromaPlane chromaOn frameSamples
 within = refl
 
 pub frame-accepts : frameOf small lists (lent samples cells) .answer ≡ Accepted

@@ -10,8 +10,8 @@ use Rattle.rules.specs.Refusals.{orElse}
 use Rattle.rules.specs.Thresholds.{stepsCheck}
 use Rattle.rules.specs.Plane.{tilesCheck}
 use Rattle.rules.specs.Frame.{Given, Lent, Done, lengthsOf, builtGrids, frameSizes, frameLengths, frameShape, frameSettings, frameTiles, frameLeaves, frameGiven, frameKeep, frameEarly, frameRoom, frameSamples, frameLate, frameBuilt, orDone, frameOf}
-use Rattle.scan.specs.Exactly.{Exactly}
-use Rattle.scan.proofs.Exactly.{exactly, else-joined}
+use Rattle.checks.specs.Exactly.{Exactly}
+use Rattle.checks.proofs.Exactly.{exactly, else-joined}
 use Rattle.frame.specs.Stated.{Stated}
 use Rattle.frame_promises.specs.Exactly.{frameTests}
 

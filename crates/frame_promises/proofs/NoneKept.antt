@@ -16,11 +16,11 @@ use Rattle.rules.specs.declared.refusals.Answer.{Answer}
 use Rattle.rules.specs.declared.refusals.Answer.the-variants.{Accepted, Refused}
 use Rattle.rules.specs.declared.refusals.PlaneAnswer.{PlaneAnswer}
 use Rattle.rules.specs.declared.refusals.Found.the-variants.{Nothing}
-use Rattle.rules.specs.Refusals.{orElse, unless, found, onlyIf, settle, over}
+use Rattle.rules.specs.Refusals.{orElse, unless, found, onlyIf, settle, overTop}
 use Rattle.rules.specs.Plane.{Grid, badKeep}
 use Rattle.rules.specs.Frame.{Planes, Grids, Given, Lent, planes, grids, lent, finish, gridLengths, lengthsOf, lumaPlane, chromaPlane, chromaTu, chromaQ, chromaOn, builtGrid, builtGrids, samplesLong, gridLong, lumaLong, chromaLong, givenLong}
 use Rattle.rules.specs.Frame.{frameLengths, frameShape, frameGiven, frameKeep, frameEarly, frameRoom, frameLate, runFrame, runFrameStored, runFrameChanged, frameBuilt, orDone, frameOf, frameStored, frameChanged}
-use Rattle.scan.proofs.First.{all-nothing, over-good}
+use Rattle.checks.proofs.First.{all-nothing, over-good}
 use Rattle.promises.specs.NoneKept.{unmarked}
 use Rattle.promises.proofs.NoneKept.{all-but, room-unmarked, plane-unkept, stored-unkept, changed-unkept}
 use Rattle.frame.specs.Stated.{Stated}
@@ -65,7 +65,7 @@ grid-before s g long = rw (le-leb _ _ long) (all-but _)
 
 no-bad : {s : Plane} {keep : List ℕ} → KeepUpTo 1 s keep → badKeep (s .rows * s .cols) keep ≡ Nothing
 unfolding badKeep
-no-bad {s} {keep} m = all-nothing (λ k. over 1 keep k) (s .rows * s .cols) (λ k h. sym (over-good 1 keep k (m .small k h)))
+no-bad {s} {keep} m = all-nothing (λ k. overTop 1 keep k) (s .rows * s .cols) (λ k h. sym (over-good 1 keep k (m .small k h)))
 
 -- what is built, without its marks
 grids-before : (f : Frame) (n : Given) (l : Lent) → builtGrids f n (bare l .grids) ≡ grids (unmarked (builtGrids f n (l .grids) .luma)) (unmarked (builtGrids f n (l .grids) .chroma))

@@ -15,7 +15,7 @@ use Rattle.rules.specs.declared.refusals.Found.the-variants.{Nothing}
 use Rattle.rules.specs.Plane.{Grid, tilesCheck, badKeep, overPlane, runPlane, planeCheck, planeAfter}
 use Rattle.rules.specs.TuGrid.{marks}
 use Rattle.rules.specs.Frame.{Given, Lent, lumaPlane, chromaPlane, chromaOn, builtGrid, builtGrids, frameSamples, frameLate, runFrame, frameOf}
-use Rattle.scan.proofs.Checks.{else-parts, found-nothing, only-part}
+use Rattle.checks.proofs.Checks.{else-parts, found-nothing, only-part}
 use Rattle.frame_checks.specs.Settings.{kindOn, planeOf, tuOf, qOf}
 use Rattle.frame_planes.specs.Fit.{Sampled, Buildable}
 use Rattle.frame.specs.Fit.{Gridded}

@@ -10,7 +10,7 @@ use Rattle.rules.specs.Thresholds.{badStep}
 use Rattle.rules.specs.TuGrid.{capOk, badLeaf}
 use Rattle.rules.specs.Plane.{badStart, badKeep, noRoom, overPlane}
 use Rattle.rules.specs.Frame.{Given, Lent, lengthsOf, lumaPlane, chromaPlane, chromaOn, strideOk, lumaLong, chromaLong, givenLong, builtGrids}
-use Rattle.scan.specs.Exactly.{Check, check, ask, seek, seekAny, andThen, askedIf}
+use Rattle.checks.specs.Exactly.{Check, check, ask, seek, seekAny, andThen, askedIf}
 
 -- 6 is given for a keep mark alone: what is built is good
 abbrev pub frameTests : Frame → Given → Lent → List Check

@@ -19,7 +19,7 @@ use Rattle.rules.specs.declared.refusals.Found.the-variants.{Nothing}
 use Rattle.rules.specs.Refusals.{settle}
 use Rattle.rules.specs.Plane.{grid, cellGood, badCell}
 use Rattle.rules.specs.TuGrid.{Marks, markOf, log2Of, paintCell, paintRow, paintOf, leafOf, leavesOf, clearOf, txGridOf, clearedAfter}
-use Rattle.scan.proofs.First.{all-nothing, found-unless-not}
+use Rattle.checks.proofs.First.{all-nothing, found-unless-not}
 use Rattle.tiles.proofs.Turns.{turns-hit, set-keeps}
 use Rattle.tiles.proofs.Places.{same-row, same-col}
 use Rattle.grid.specs.Stated.{Stated}

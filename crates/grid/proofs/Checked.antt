@@ -17,11 +17,11 @@ use Rattle.rules.specs.declared.refusals.Refusal.{Refusal}
 use Rattle.rules.specs.declared.refusals.Refusal.the-variants.{Leaf}
 use Rattle.rules.specs.Numbers.{subsamplingOk}
 use Rattle.rules.specs.TuGrid.{Marks, marks, cellsOk, clearOf, listsLong, txGridOf, txGridCheck, txGridAfter, clearedAfter}
-use Rattle.scan.proofs.Checks.{else-parts, unless-true, found-nothing, refused-by, accepted-by, settle-refused-by, settle-accepted-by}
+use Rattle.checks.proofs.Checks.{else-parts, unless-true, found-nothing, refused-by, accepted-by, settle-refused-by, settle-accepted-by}
 use Rattle.tiles.specs.Fit.{Cut, AllGood}
 use Rattle.tiles.proofs.Places.{cells-fit}
 use Rattle.tiles.proofs.Checked.{cols-most, rows-most, cut-of, all-good}
-use Rattle.grid.specs.Fit.{Fit, Measures, TxChecked}
+use Rattle.grid.specs.Fit.{GridFits, Measures, TxChecked}
 use Rattle.grid.specs.Stated.{Stated}
 
 -- the number of cells fits a word once the sizes are accepted
@@ -33,7 +33,7 @@ pub long-by : (n v h w t k : ℕ) (g : Marks) (keep : List ℕ) → Measures g k
 unfolding listsLong
 long-by n v h w t k g keep m = rw (m .of-v, m .of-h, m .of-w, m .of-t, m .of-k)
 
-pub long-fit : (s : TuGrid) (g : Marks) (keep : List ℕ) → s .cols ≤ 1024 → s .rows ≤ 1024 → listsLong (s .rows * s .cols) g keep ≡ true → Fit s (length (g .vedge)) (length (g .hedge)) (length (g .sqw)) (length (g .sqh)) × (s .rows * s .cols ≤ length keep)
+pub long-fit : (s : TuGrid) (g : Marks) (keep : List ℕ) → s .cols ≤ 1024 → s .rows ≤ 1024 → listsLong (s .rows * s .cols) g keep ≡ true → GridFits s (length (g .vedge)) (length (g .hedge)) (length (g .sqw)) (length (g .sqh)) × (s .rows * s .cols ≤ length keep)
 unfolding listsLong
 long-fit s g keep a b e =
     let p1 = all-parts _ _ e in
@@ -44,7 +44,7 @@ long-fit s g keep a b e =
     (record { cols-most = a; rows-most = b; long-v = leb-true _ _ (p1 .0); long-h = leb-true _ _ (p2 .0); long-w = leb-true _ _ (p3 .0); long-t = leb-true _ _ (p4 .0) }, leb-true _ _ (p5 .0))
 
 -- all that building asks for, and room for the keep marks
-pub tx-accepted : (s : TuGrid) (ls skips : List ℕ) (g : Marks) (keep : List ℕ) → txGridCheck s ls skips g keep ≡ Accepted → Fit s (length (g .vedge)) (length (g .hedge)) (length (g .sqw)) (length (g .sqh)) × Cut s × AllGood ls × AllGood skips × (s .rows * s .cols ≤ length keep)
+pub tx-accepted : (s : TuGrid) (ls skips : List ℕ) (g : Marks) (keep : List ℕ) → txGridCheck s ls skips g keep ≡ Accepted → GridFits s (length (g .vedge)) (length (g .hedge)) (length (g .sqw)) (length (g .sqh)) × Cut s × AllGood ls × AllGood skips × (s .rows * s .cols ≤ length keep)
 unfolding txGridCheck
 tx-accepted s ls skips g keep e =
     let p1 = else-parts _ _ e in
@@ -67,7 +67,7 @@ module _ (s : TuGrid) (ls skips : List ℕ) (v h w t : List ℕ) (keep : List �
   unfolding txGridAfter clearedAfter
   grid-refused e = record { answer = refused-by _ _ by-checks e; lists = settle-refused-by _ _ _ _ by-checks e; cleared = settle-refused-by _ _ _ _ by-checks e }
 
-  pub grid-accepted : a ≡ Accepted → Fit s (length v) (length h) (length w) (length t) × Cut s × AllGood ls × AllGood skips × (s .rows * s .cols ≤ length keep)
+  pub grid-accepted : a ≡ Accepted → GridFits s (length v) (length h) (length w) (length t) × Cut s × AllGood ls × AllGood skips × (s .rows * s .cols ≤ length keep)
   grid-accepted e = tx-accepted s ls skips (marks v h w t) keep (sym by-checks ∙ e)
 
   pub grid-stated : a ≡ Accepted → {m : Marks} {n : List ℕ} → m ≡ txGridOf s ls skips (marks v h w t) → n ≡ clearOf (s .rows * s .cols) keep → Stated s ls skips (marks v h w t) keep Accepted m n

@@ -11,8 +11,8 @@ use Rattle.rules.specs.declared.refusals.Answer.the-variants.{Accepted}
 use Rattle.rules.specs.Numbers.{inRange, subsamplingOk}
 use Rattle.rules.specs.Refusals.{orElse, unless, found, sooner, first, foundUnless}
 use Rattle.rules.specs.TuGrid.{Marks, marks, flagOf, bareOf, isSize, cellsOk, capOk, foursOk, leafGood, leafGoodAt, badLeaf, listsLong, txGridCheck}
-use Rattle.scan.specs.Exactly.{Exactly}
-use Rattle.scan.proofs.Exactly.{exactly}
+use Rattle.checks.specs.Exactly.{Exactly}
+use Rattle.checks.proofs.Exactly.{exactly}
 use Rattle.grid.specs.Exactly.{txTests}
 
 pub tx-exactly : (s : TuGrid) (leaves skips : List ℕ) (g : Marks) (keep : List ℕ) {r : Answer} → r ≡ txGridCheck s leaves skips g keep → Exactly r (txTests s leaves skips g keep)

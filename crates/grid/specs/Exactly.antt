@@ -8,7 +8,7 @@ use Rattle.laws.specs.Choose.{both, all}
 use Rattle.rules.specs.declared.settings.TuGrid.{TuGrid}
 use Rattle.rules.specs.Numbers.{subsamplingOk}
 use Rattle.rules.specs.TuGrid.{Marks, cellsOk, capOk, foursOk, badLeaf, listsLong}
-use Rattle.scan.specs.Exactly.{ask, seek, andThen, Check, check}
+use Rattle.checks.specs.Exactly.{ask, seek, andThen, Check, check}
 
 abbrev pub txTests : TuGrid → List ℕ → List ℕ → Marks → List ℕ → List Check
 txTests s leaves skips g keep =

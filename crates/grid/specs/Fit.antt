@@ -9,7 +9,7 @@ use Rattle.rules.specs.TuGrid.{Marks, txGridCheck}
 use Rattle.rules.specs.declared.refusals.Answer.{Answer}
 
 -- the cells are in range, and four lists are long enough
-pub record Fit (s : TuGrid) (v h w t : ℕ) : Type 0 where
+pub record GridFits (s : TuGrid) (v h w t : ℕ) : Type 0 where
   pub cols-most : s .cols ≤ 1024
   pub rows-most : s .rows ≤ 1024
   pub long-v : s .rows * s .cols ≤ v

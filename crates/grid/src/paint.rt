@@ -4,7 +4,7 @@ ghost use Prim.Native.Nat.{_≤_, _<_, _/_, _%_};
 ghost use lib.ListN.{length};
 ghost use Rattle.rules.specs.TuGrid.{marks, log2Of, markOf, storeCell, paintCell, paintRow, paintOf, tileOf, leafOf, leavesOf, clearOf, blankOf};
 ghost use Rattle.tiles.specs.Fit.{Cut, Placed, Good, AllGood};
-ghost use Rattle.grid.specs.Fit.{Fit};
+ghost use Rattle.grid.specs.Fit.{GridFits};
 use rules::settings::Tile;
 use rules::settings::TuGrid;
 use tiles::tile::tile_of;
@@ -70,7 +70,7 @@ fn cell(
     dr: usize,
     dc: usize,
 )
-    requires { ⌜ Fit s (length (now vedge)) (length (now hedge)) (length (now sqw)) (length (now sqh)) ⌝ }
+    requires { ⌜ GridFits s (length (now vedge)) (length (now hedge)) (length (now sqw)) (length (now sqh)) ⌝ }
     requires { ⌜ Placed a ⌝ }
     requires { ⌜ (dr < a .h) × (dc < a .w) ⌝ }
     ensures { λ _. ⌜ marks (now (vedge .exit)) (now (hedge .exit)) (now (sqw .exit)) (now (sqh .exit)) ≡ paintCell s a dr dc (marks (now (vedge .entry)) (now (hedge .entry)) (now (sqw .entry)) (now (sqh .entry))) ⌝ }
@@ -105,7 +105,7 @@ fn row(
     a: Tile,
     dr: usize,
 )
-    requires { ⌜ Fit s (length (now vedge)) (length (now hedge)) (length (now sqw)) (length (now sqh)) ⌝ }
+    requires { ⌜ GridFits s (length (now vedge)) (length (now hedge)) (length (now sqw)) (length (now sqh)) ⌝ }
     requires { ⌜ Placed a ⌝ }
     requires { ⌜ dr < a .h ⌝ }
     ensures { λ _. ⌜ marks (now (vedge .exit)) (now (hedge .exit)) (now (sqw .exit)) (now (sqh .exit)) ≡ paintRow s a dr (marks (now (vedge .entry)) (now (hedge .entry)) (now (sqw .entry)) (now (sqh .entry))) ⌝ }
@@ -118,7 +118,7 @@ fn row(
 
 // A whole tile.
 pub fn paint(vedge: &mut [u8], hedge: &mut [u8], sqw: &mut [u8], sqh: &mut [u8], s: TuGrid, a: Tile)
-    requires { ⌜ Fit s (length (now vedge)) (length (now hedge)) (length (now sqw)) (length (now sqh)) ⌝ }
+    requires { ⌜ GridFits s (length (now vedge)) (length (now hedge)) (length (now sqw)) (length (now sqh)) ⌝ }
     requires { ⌜ Placed a ⌝ }
     ensures { λ _. ⌜ marks (now (vedge .exit)) (now (hedge .exit)) (now (sqw .exit)) (now (sqh .exit)) ≡ paintOf s a (marks (now (vedge .entry)) (now (hedge .entry)) (now (sqw .entry)) (now (sqh .entry))) ⌝ }
 {
@@ -141,7 +141,7 @@ pub fn paint_leaf(
     w: u16,
     h: u16,
 )
-    requires { ⌜ Fit s (length (now vedge)) (length (now hedge)) (length (now sqw)) (length (now sqh)) ⌝ }
+    requires { ⌜ GridFits s (length (now vedge)) (length (now hedge)) (length (now sqw)) (length (now sqh)) ⌝ }
     requires { ⌜ Cut s ⌝ }
     requires { ⌜ Good row col w h ⌝ }
     ensures { λ _. ⌜ marks (now (vedge .exit)) (now (hedge .exit)) (now (sqw .exit)) (now (sqh .exit)) ≡ paintOf s (tileOf s skip row col w h) (marks (now (vedge .entry)) (now (hedge .entry)) (now (sqw .entry)) (now (sqh .entry))) ⌝ }
@@ -161,7 +161,7 @@ fn paint_at(
     skip: bool,
     k: usize,
 )
-    requires { ⌜ Fit s (length (now vedge)) (length (now hedge)) (length (now sqw)) (length (now sqh)) ⌝ }
+    requires { ⌜ GridFits s (length (now vedge)) (length (now hedge)) (length (now sqw)) (length (now sqh)) ⌝ }
     requires { ⌜ Cut s ⌝ }
     requires { ⌜ AllGood (now ls) ⌝ }
     requires { ⌜ k < length (now ls) / 4 ⌝ }
@@ -185,7 +185,7 @@ pub fn leaves(
     s: TuGrid,
     skip: bool,
 )
-    requires { ⌜ Fit s (length (now vedge)) (length (now hedge)) (length (now sqw)) (length (now sqh)) ⌝ }
+    requires { ⌜ GridFits s (length (now vedge)) (length (now hedge)) (length (now sqw)) (length (now sqh)) ⌝ }
     requires { ⌜ Cut s ⌝ }
     requires { ⌜ AllGood (now ls) ⌝ }
     ensures { λ _. ⌜ marks (now (vedge .exit)) (now (hedge .exit)) (now (sqw .exit)) (now (sqh .exit)) ≡ leavesOf s skip (now (ls .entry)) (marks (now (vedge .entry)) (now (hedge .entry)) (now (sqw .entry)) (now (sqh .entry))) ⌝ }

@@ -8,7 +8,7 @@ ghost use Rattle.rules.specs.Refusals.{orElse, found};
 ghost use Rattle.rules.specs.TuGrid.{marks, cellsOk, capOk, badLeaf, txGridOf};
 ghost use Rattle.rules.specs.declared.refusals.Refusal.the-variants.{Leaf};
 ghost use Rattle.tiles.specs.Fit.{Cut, AllGood};
-ghost use Rattle.grid.specs.Fit.{Fit, TxChecked};
+ghost use Rattle.grid.specs.Fit.{GridFits, TxChecked};
 ghost use Rattle.grid.specs.Stated.{Stated};
 use super::paint::blank;
 use super::paint::clear;
@@ -33,7 +33,7 @@ pub fn tx_grid(
     sqh: &mut [u8],
     s: TuGrid,
 )
-    requires { ⌜ Fit s (length (now vedge)) (length (now hedge)) (length (now sqw)) (length (now sqh)) ⌝ }
+    requires { ⌜ GridFits s (length (now vedge)) (length (now hedge)) (length (now sqw)) (length (now sqh)) ⌝ }
     requires { ⌜ Cut s ⌝ }
     requires { ⌜ AllGood (now ls) ⌝ }
     requires { ⌜ AllGood (now skips) ⌝ }

@@ -1,7 +1,7 @@
 -- Where the leaves and the tile starts of luma or of chroma stand. Assumes nothing.
 use mathlib.Core.Bool.{Bool, true, false}
 use Prim.Native.Nat.{ℕ}
-use Rattle.asked.specs.declared.lists.Lists.{Lists}
+use Rattle.by_settings.specs.declared.lists.Lists.{Lists}
 
 -- luma's leaves, or chroma's
 abbrev pub leavesFrom : Lists → Bool → ℕ

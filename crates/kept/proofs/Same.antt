@@ -18,7 +18,7 @@ use Rattle.laws.specs.Stores.{Store, puts, puts-agree-in}
 use Rattle.laws.specs.Trace.{run, total}
 use Rattle.rules.specs.declared.edge.Edge.{Edge}
 use Rattle.rules.specs.declared.edge.Line.{Line}
-use Rattle.rules.specs.Segment.{placeOf, windowOf, chosenOf, storesOf, keptIn, noneKept, widthAt, openStores, segmentOf, runEdges}
+use Rattle.rules.specs.Segment.{edgePlace, windowOf, chosenOf, storesOf, keptIn, noneKept, widthAt, openStores, segmentOf, runEdges}
 use Rattle.rules.specs.Counts.{storedAt, changedAt, storedBy, changedBy}
 use Rattle.segment.specs.declared.outcome.Outcome.{Outcome}
 use Rattle.segment.specs.Boxes.{readBox, writeBox}
@@ -44,9 +44,9 @@ module _ (top stride : ℕ) (kept keep : ℕ → Bool) (e : Edge) {columns rows 
   -- tests that agree where it may store
   pub open-same : (l : List ℕ) → openStores top stride kept e l ≡ openStores top stride keep e l
   open-same l =
-      let ss = storesOf top (placeOf stride e) (windowOf (placeOf stride e) l) in
+      let ss = storesOf top (edgePlace stride e) (windowOf (edgePlace stride e) l) in
       outside-same kept keep ss
-      (each-map (λ st. T (inBox stride (writeBox e) (st .0))) (λ st. kept (st .0) ≡ keep (st .0)) (λ st t. same (st .0) t) ss (stores-in stride e h top (windowOf (placeOf stride e) l)))
+      (each-map (λ st. T (inBox stride (writeBox e) (st .0))) (λ st. kept (st .0) ≡ keep (st .0)) (λ st t. same (st .0) t) ss (stores-in stride e h top (windowOf (edgePlace stride e) l)))
 
   -- and planes that agree within its reach
   pub samples-same : (l m : List ℕ) → rows * stride ≤ length l → rows * stride ≤ length m → Agree (inBox stride (readBox e)) l m
@@ -56,7 +56,7 @@ module _ (top stride : ℕ) (kept keep : ℕ → Bool) (e : Edge) {columns rows 
       let p = read-inside stride e h i t in
       let q : i / stride + 1 ≤ rows = omega (arith, p .1) in
       let r : i < rows * stride = omega (arith, p .0, h .row, mul-le-mul-right stride q, add-mul (i / stride) 1 stride, div-add-mod' i stride) in
-      ap (λ (ss : List Store). getD (puts ss l) i 0) (open-same l ∙ ap (λ (ls : List Line). outside keep (storesOf top (placeOf stride e) ls)) (same-window stride e h l m g))
+      ap (λ (ss : List Store). getD (puts ss l) i 0) (open-same l ∙ ap (λ (ls : List Line). outside keep (storesOf top (edgePlace stride e) ls)) (same-window stride e h l m g))
       ∙ puts-agree-in (openStores top stride keep e m) l m i (omega arith) (omega arith) (g i t)
 
 -- document 01: "Two accepted lone segments with the same settings, whose planes are equal within an edge's reach on its four lines, get equal new samples there."
@@ -65,7 +65,7 @@ module _ (cols : ℕ) (front back : List ℕ) {top stride columns rows : ℕ} {e
     (f : EdgeFiltered top stride (keptIn cols stride front) e l r a) (g : EdgeFiltered top stride (keptIn cols stride back) e m s b) (planes : Agree (inBox stride (readBox e)) l m) where
   pub marked-width : r .width ≡ s .width
   unfolding widthAt
-  marked-width = f .width ∙ ap (λ (ls : List Line). chosenOf (placeOf stride e) ls) (same-window stride e hl l m planes) ∙ sym (g .width)
+  marked-width = f .width ∙ ap (λ (ls : List Line). chosenOf (edgePlace stride e) ls) (same-window stride e hl l m planes) ∙ sym (g .width)
 
   pub marked-samples : ((k : ℕ) → T (inBox stride (readBox e) k) → getD front (k / stride / 4 * cols + k % stride / 4) 0 ≡ getD back (k / stride / 4 * cols + k % stride / 4) 0)
       → Agree (inBox stride (readBox e)) a b

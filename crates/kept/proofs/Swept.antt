@@ -24,14 +24,14 @@ use Rattle.rules.specs.declared.edge.Place.{Place}
 use Rattle.rules.specs.Lengths.{mostBefore, mostAfter, reachBefore, reachAfter}
 use Rattle.rules.specs.Taps.{weightOf, mostOf, difference, before, after}
 use Rattle.rules.specs.Width.{blank, pOf, qOf}
-use Rattle.rules.specs.Segment.{pAt, qAt, placeOf, windowOf, chosenOf, differenceOf, lineStores, fourStores, storesBefore, storesAfter, storesOf, keptIn, noneKept, openStores, segmentOf}
+use Rattle.rules.specs.Segment.{pAt, qAt, edgePlace, windowOf, chosenOf, differenceOf, lineStores, fourStores, storesBefore, storesAfter, storesOf, keptIn, noneKept, openStores, segmentOf}
 use Rattle.rules.specs.Counts.{storedAt, changedAt}
 use Rattle.lengths.proofs.Lengths.{PairFacts, pair-facts}
 use Rattle.taps.specs.Signed.{signed}
 use Rattle.taps.proofs.Signs.{before-is, after-is}
 use Rattle.segment.specs.declared.outcome.Outcome.{Outcome}
 use Rattle.segment.specs.Boxes.{writeBox}
-use Rattle.segment.specs.Fit.{Fit, Filtered, InPlane, EdgeFiltered}
+use Rattle.segment.specs.Fit.{EdgeFits, Filtered, InPlane, EdgeFiltered}
 use Rattle.kept.specs.Kept.{alongLine, againstLine, limitedIn, lineOpen, linesOpen, Holds, HoldsLine, HoldsLines, Swept, Few}
 use Rattle.segment.specs.Sides.{Scales, none}
 use Rattle.segment.proofs.Edges.{after-most, filtered-none}
@@ -158,11 +158,11 @@ module _ (top : ℕ) (e : Place) (l : List ℕ) (f : PairFacts (e .pair)) (n w :
 pub filtered-off : (top : ℕ) (kept : ℕ → Bool) (e : Place) (l : List ℕ) {w : ℕ} {m : List ℕ} → w ≡ chosenOf e (windowOf e l) → w ≡ 0 → m ≡ l → Filtered top kept e l record { width = 0; stored = 0; changed = 0 } m
 filtered-off top kept e l hw hz same = rw same (filtered-none top kept e l hw hz)
 
-pub fit-as : {e : Place} {a b : ℕ} → a ≡ b → Fit e b → Fit e a
+pub fit-as : {e : Place} {a b : ℕ} → a ≡ b → EdgeFits e b → EdgeFits e a
 fit-as h f = rw h f
 
 -- an edge that filters: its window was read, and then its open samples stored, into a plane that was as it is
-pub filtered-open : (top : ℕ) (kept : ℕ → Bool) (e : Place) (l o m : List ℕ) {r : Counts} {ls : List Line} {size n w k lim : ℕ} → Fit e size → w ≡ chosenOf e (windowOf e l) → (w ≡ 0 → ⊥) → n ≡ mostBefore (e .pair) → k ≡ min w n
+pub filtered-open : (top : ℕ) (kept : ℕ → Bool) (e : Place) (l o m : List ℕ) {r : Counts} {ls : List Line} {size n w k lim : ℕ} → EdgeFits e size → w ≡ chosenOf e (windowOf e l) → (w ≡ 0 → ⊥) → n ≡ mostBefore (e .pair) → k ≡ min w n
     → o ≡ l → ls ≡ windowOf e o → lim ≡ e .q * mostOf w
     → Swept kept (linesOpen top (e .at) (e .step) (e .line) k w lim ls) (HoldsLines (e .at) (e .step) (e .line) k w ls) o none r m
     → Filtered top kept e l record { width = w; stored = r .stored; changed = r .changed } m

@@ -28,10 +28,10 @@ ghost use mathlib.Core.List.{[], _∷_};
 ghost use Prim.Native.Nat.{_+_, _-_, _*_, _≤_, _<_};
 ghost use lib.ListN.{length, getD};
 ghost use Rattle.laws.specs.Changes.{differ};
-ghost use Rattle.rules.specs.Segment.{pAt, qAt, placed, placeOf, keptIn};
+ghost use Rattle.rules.specs.Segment.{pAt, qAt, placed, edgePlace, keptIn};
 ghost use Rattle.width.specs.Tests.{offOf};
 ghost use Rattle.segment.specs.Sides.{Scales, Lane, Lanes, none};
-ghost use Rattle.segment.specs.Fit.{Fit, Filtered, InPlane, EdgeFiltered};
+ghost use Rattle.segment.specs.Fit.{EdgeFits, Filtered, InPlane, EdgeFiltered};
 ghost use Rattle.kept.specs.Kept.{alongLine, againstLine, lineOpen, linesOpen, Holds, HoldsLine, HoldsLines, Swept, Few, Somewhere};
 
 // Stores a sample that was moved, unless its cell is kept; the counts, with those so far.
@@ -221,7 +221,7 @@ fn segment_open(
     e: Place,
     top: u16,
 ) -> Outcome
-    requires { ⌜ (1 ≤ stride) × (cols ≤ stride) × Fit e (length (now plane)) × (offOf (e .q) (e .side) ≡ false) ⌝ }
+    requires { ⌜ (1 ≤ stride) × (cols ≤ stride) × EdgeFits e (length (now plane)) × (offOf (e .q) (e .side) ≡ false) ⌝ }
     ensures { λ r. ⌜ Filtered top (keptIn cols stride (now (keep .entry))) e (now (plane .entry)) r (now (plane .exit)) ⌝ }
 {
     let o = filter_segment(plane, e, top, false);
@@ -278,7 +278,7 @@ fn filter_kept(
     stands: bool,
     top: u16,
 ) -> Outcome
-    requires { ⌜ Somewhere stride e (length (now plane)) × (cols ≤ stride) × (placed stands stride e ≡ placeOf stride e) ⌝ }
+    requires { ⌜ Somewhere stride e (length (now plane)) × (cols ≤ stride) × (placed stands stride e ≡ edgePlace stride e) ⌝ }
     ensures { λ r. ⌜ EdgeFiltered top stride (keptIn cols stride (now (keep .entry))) e (now (plane .entry)) r (now (plane .exit)) ⌝ }
 {
     if off(e.q, e.side) {

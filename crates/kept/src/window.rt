@@ -7,7 +7,7 @@ ghost use mathlib.Core.Path.{_≡_};
 ghost use Prim.Native.Nat.{_+_, _*_, _-_, _≤_, _<_};
 ghost use lib.ListN.{length};
 ghost use Rattle.rules.specs.Segment.{beforeOf, afterOf, lineOf, linesOf, windowOf};
-ghost use Rattle.segment.specs.Fit.{Room, Fit};
+ghost use Rattle.segment.specs.Fit.{Room, EdgeFits};
 
 // The b samples of a line before the edge, q0 at `at`.
 fn window_before(plane: &[u16], at: usize, step: usize, b: usize) -> [u16; 9]
@@ -62,7 +62,7 @@ fn window_lines(plane: &[u16], at: usize, step: usize, line: usize, b: usize, a:
 
 // All that an edge may look at.
 pub fn window(plane: &[u16], e: Place) -> [Line; 4]
-    requires { ⌜ Fit e (length (now plane)) ⌝ }
+    requires { ⌜ EdgeFits e (length (now plane)) ⌝ }
     ensures { λ r. ⌜ r ≡ windowOf e (now (plane .entry)) ⌝ }
 {
     window_lines(

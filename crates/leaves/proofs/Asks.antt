@@ -42,11 +42,11 @@ use Rattle.rules.proofs.settings.TuGrid.Laws as S′
 use Rattle.rules.proofs.refusals.Answer as N
 use Rattle.rules.proofs.refusals.Answer.Laws as N′
 use Rattle.tiles.specs.Fit.{Cut, AllGood}
-use Rattle.grid.specs.Fit.{Fit}
+use Rattle.grid.specs.Fit.{GridFits}
 use Rattle.leaves.specs.declared.records.Leaf.{Leaf}
 use Rattle.leaves.specs.Records.{flat, goodOf, refusedOf, Started}
 use Rattle.leaves.proofs.records.Leaf as T
-use Rattle.leaves.proofs.Four.{Lane, Lanes, Call, Calls4, Long, Rooms, Lent, Lents, relent, relents, Kept, Kepts, Last, toks, owns4, val, at-list, hands, lends, comes, lends-four, comes-with, comes-four}
+use Rattle.leaves.proofs.Four.{Lane, Lanes, Call, Calls4, LanesLong, Rooms, Lent, Lents, relent, relents, Kept, Kepts, Last, toks, owns4, val, at-list, hands, lends, comes, lends-four, comes-with, comes-four}
 use Rattle.leaves.proofs.records.good_leaves as good-leaves
 use Rattle.leaves.proofs.records.good_leaves.Symbol.{name as #good-leaves}
 use Rattle.leaves.proofs.records.paint_leaves as paint-leaves
@@ -151,7 +151,7 @@ module _ {M : Type 1} (𝓤 : URA M) (H : Heap 𝓤) (A : Atoms 𝓤) (mem : Mem
           move ! (2 ∷ 0 ∷ 1 ∷ []) $
           use3 W (raw (toks 𝓤 H A W K (sep 𝓤 (A .lft (B .κ) (B .q)) (emp 𝓤))) ⊛ ‵ (owns4 K g (start-rest B k s n good m sound))) (hands 𝓤 H A W K g (sep 𝓤 (A .lft (B .κ) (B .q)) (emp 𝓤)) (start-rest B k s n good m sound)) $ frame ! $ done !
 
-      goes-paint : (K : Lanes) (g : Marks) (R : Lane) (xs : List Leaf) (skip : Bool) → Fit s (length (g .vedge)) (length (g .hedge)) (length (g .sqw)) (length (g .sqh)) × Cut s × AllGood (flat xs)
+      goes-paint : (K : Lanes) (g : Marks) (R : Lane) (xs : List Leaf) (skip : Bool) → GridFits s (length (g .vedge)) (length (g .hedge)) (length (g .sqw)) (length (g .sqh)) × Cut s × AllGood (flat xs)
           → ent 𝓤 (sep 𝓤 (sem 𝓤 H A (Lents K g)) (sep 𝓤 (sem 𝓤 H A (Shared R xs)) (A .lft (R .κ) (R .q)))) (PaintLeaves .pre (to-paint K g R xs s skip))
       goes-paint K g R xs skip had =
           qed W (‵ (Lents K g) ∷ ‵ (Shared R xs) ∷ ‵ (flft (R .κ) (R .q)) ∷ []) ∵ says ! had $ nothing ! $ owned ! Boolean (Is Boolean) (bool-makes 𝓤 H A W) skip _ refl $ fjoin ! $
@@ -182,10 +182,10 @@ module _ {M : Type 1} (𝓤 : URA M) (H : Heap 𝓤) (A : Atoms 𝓤) (mem : Mem
           split ! $ let-go ! $ heard ! (r ≡ refusedOf a) (λ e. split ! $ let-go ! $ feqL ! (λ is-r.
           regoal ! (λ (v : Val). lands (𝓣 .C) (𝓣 .Λ) E d v rest p) (ap only is-r ∙ ap vbool e) refl $ k)))))
 
-      module _ (L : Lanes) (room : Rooms L) (s : TuGrid) (is-s : Is S.the-row s (S′.lowered s ∷ [])) (g : Marks) (long : Long L g) where
+      module _ (L : Lanes) (room : Rooms L) (s : TuGrid) (is-s : Is S.the-row s (S′.lowered s ∷ [])) (g : Marks) (long : LanesLong L g) where
         pub starts : Triple 𝓤 (𝓣 .C #start) Start → (B : Lane) (k : List ℕ) → Room u8 (B .m) → length k ≡ B .m → (n good m sound : ℕ) → n < 2 ^ 64 → good < 2 ^ 64 → m < 2 ^ 64 → sound < 2 ^ 64
             → ((c : Calls4) (b : Call) → Opds (Go {0}) W (raw (Start .pre (to-start (relents L c) g (relent B b) k s n good m sound)) ∷ ‵ (Kept B b k) ∷ ‵ (Kepts L c g) ∷ Γ) E xs (Start .args (to-start (relents L c) g (relent B b) k s n good m sound)))
-            → ((a : Answer) (w : Val) → Is N.the-row a (w ∷ []) → (g' : Marks) → Long L g' → (k' : List ℕ) → length k' ≡ B .m → Started s n good m sound g k a g' k' → Sq W (‵ (Lents L g') ∷ ‵ (Lent B k') ∷ Γ) (lands (𝓣 .C) (𝓣 .Λ) E d w rest p))
+            → ((a : Answer) (w : Val) → Is N.the-row a (w ∷ []) → (g' : Marks) → LanesLong L g' → (k' : List ℕ) → length k' ≡ B .m → Started s n good m sound g k a g' k' → Sq W (‵ (Lents L g') ∷ ‵ (Lent B k') ∷ Γ) (lands (𝓣 .C) (𝓣 .Λ) E d w rest p))
             → Sq W (‵ (Lents L g) ∷ ‵ (Lent B k) ∷ Γ) (runs (𝓣 .C) (𝓣 .Λ) E (seq (call #start xs d) rest) p)
         starts known B k roomy e n good m sound fn fg fm fs os go =
             use1 W (later (some (λ (c : Calls4). ‵ (Lents (relents L c) g) ⊛ ‵ (Kepts L c g)))) (lends-four 𝓤 H A W L g long) $ await ! tt $ pick ! (λ c. split ! $ move ! (2 ∷ []) $
@@ -201,7 +201,7 @@ module _ {M : Type 1} (𝓤 : URA M) (H : Heap 𝓤) (A : Atoms 𝓤) (mem : Mem
             split ! $ move ! (1 ∷ []) $ heard ! (Started s n good m sound g k a (marks (ws .0) (ws .1 .0) (ws .1 .1 .0) (ws .1 .1 .1 .0)) (ws .1 .1 .1 .1 .0)) (λ f.
             move ! (1 ∷ []) $ split ! $ move ! (1 ∷ []) $ facts ! N.the-row (Is N.the-row) (shows 𝓤 H A N.the-row) a (w ∷ []) (λ is.
             -- [the tokens; what is last; what was kept of the keep marks, and of the lists]
-            move ! (0 ∷ 3 ∷ 1 ∷ []) $ use3 W (later (some (λ (l : Long L (marks (ws .0) (ws .1 .0) (ws .1 .1 .0) (ws .1 .1 .1 .0))). ‵ (Lents L (marks (ws .0) (ws .1 .0) (ws .1 .1 .0) (ws .1 .1 .1 .0)))
+            move ! (0 ∷ 3 ∷ 1 ∷ []) $ use3 W (later (some (λ (l : LanesLong L (marks (ws .0) (ws .1 .0) (ws .1 .1 .0) (ws .1 .1 .1 .0))). ‵ (Lents L (marks (ws .0) (ws .1 .0) (ws .1 .1 .0) (ws .1 .1 .1 .0)))
             ⊛ (‵ (flft (b .0 ∷ []) fullShare) ⊛ ‵ ftrue) ⊛ ‵ (fsep (Last b k (ws .1 .1 .1 .1 .0)) (fsep ftrue (fsep ftrue (fsep ftrue (fsep ftrue (fsep ftrue ftrue)))))))))
             (comes-with 𝓤 H A W L (sep 𝓤 (A .lft (b .0 ∷ []) fullShare) (emp 𝓤)) (fsep (Last b k (ws .1 .1 .1 .1 .0)) (fsep ftrue (fsep ftrue (fsep ftrue (fsep ftrue (fsep ftrue ftrue))))))
             c g (marks (ws .0) (ws .1 .0) (ws .1 .1 .0) (ws .1 .1 .1 .0)) room long) $ await ! tt $ pick ! (λ l. split3 ! $
@@ -210,9 +210,9 @@ module _ {M : Type 1} (𝓤 : URA M) (H : Heap 𝓤) (A : Atoms 𝓤) (mem : Mem
             use3 W (later (some (λ (q : length (ws .1 .1 .1 .1 .0) ≡ B .m). ‵ (Lent B (ws .1 .1 .1 .1 .0))))) (comes 𝓤 H A W B b k (ws .1 .1 .1 .1 .0) roomy e) $ await ! tt $ pick ! (λ q. move ! (1 ∷ []) $
             go a w is (marks (ws .0) (ws .1 .0) (ws .1 .1 .0) (ws .1 .1 .1 .0)) l (ws .1 .1 .1 .1 .0) q f)))))))))
 
-        pub paints : Triple 𝓤 (𝓣 .C #paint-leaves) PaintLeaves → (R : Lane) (ls : List Leaf) (skip : Bool) → Fit s (length (g .vedge)) (length (g .hedge)) (length (g .sqw)) (length (g .sqh)) × Cut s × AllGood (flat ls)
+        pub paints : Triple 𝓤 (𝓣 .C #paint-leaves) PaintLeaves → (R : Lane) (ls : List Leaf) (skip : Bool) → GridFits s (length (g .vedge)) (length (g .hedge)) (length (g .sqw)) (length (g .sqh)) × Cut s × AllGood (flat ls)
             → ((c : Calls4) → Opds (Go {0}) W (raw (PaintLeaves .pre (to-paint (relents L c) g R ls s skip)) ∷ ‵ (Kepts L c g) ∷ ‵ (Shared R ls) ∷ Γ) E xs (PaintLeaves .args (to-paint (relents L c) g R ls s skip)))
-            → ((g' : Marks) → Long L g' → g' ≡ leavesOf s skip (flat ls) g → Sq W (‵ (Shared R ls) ∷ ‵ (flft (R .κ) (R .q)) ∷ ‵ (Lents L g') ∷ Γ) (lands (𝓣 .C) (𝓣 .Λ) E d vunit rest p))
+            → ((g' : Marks) → LanesLong L g' → g' ≡ leavesOf s skip (flat ls) g → Sq W (‵ (Shared R ls) ∷ ‵ (flft (R .κ) (R .q)) ∷ ‵ (Lents L g') ∷ Γ) (lands (𝓣 .C) (𝓣 .Λ) E d vunit rest p))
             → Sq W (‵ (Shared R ls) ∷ ‵ (flft (R .κ) (R .q)) ∷ ‵ (Lents L g) ∷ Γ) (runs (𝓣 .C) (𝓣 .Λ) E (seq (call #paint-leaves xs d) rest) p)
         paints known R ls skip had os k =
             use1 W (‵ (Shared R ls) ⊛ ‵ (Shared R ls)) (shr-slice-copy 𝓤 H A W (named 0) (R .κ) T.the-row .twice (at-leaves R ls) (val R ∷ [])) $ split ! $ move ! (3 ∷ []) $
@@ -225,6 +225,6 @@ module _ {M : Type 1} (𝓤 : URA M) (H : Heap 𝓤) (A : Atoms 𝓤) (mem : Mem
             split ! $ move ! (1 ∷ []) $ heard ! (marks (ws .0) (ws .1 .0) (ws .1 .1 .0) (ws .1 .1 .1 .0) ≡ leavesOf s skip (flat ls) g) (λ e.
             move ! (1 ∷ []) $ split ! $ move ! (1 ∷ []) $ feqL ! (λ is-unit.
             -- [the lists' tokens; what is last; what was kept; the leaves]
-            move ! (0 ∷ 2 ∷ 1 ∷ []) $ use3 W (later (some (λ (l : Long L (marks (ws .0) (ws .1 .0) (ws .1 .1 .0) (ws .1 .1 .1 .0))). ‵ (Lents L (marks (ws .0) (ws .1 .0) (ws .1 .1 .0) (ws .1 .1 .1 .0))) ⊛ ‵ (flft (R .κ) (R .q)) ⊛ ‵ ftrue)))
+            move ! (0 ∷ 2 ∷ 1 ∷ []) $ use3 W (later (some (λ (l : LanesLong L (marks (ws .0) (ws .1 .0) (ws .1 .1 .0) (ws .1 .1 .1 .0))). ‵ (Lents L (marks (ws .0) (ws .1 .0) (ws .1 .1 .0) (ws .1 .1 .1 .0))) ⊛ ‵ (flft (R .κ) (R .q)) ⊛ ‵ ftrue)))
             (comes-four 𝓤 H A W L (sep 𝓤 (A .lft (R .κ) (R .q)) (emp 𝓤)) (fsep ftrue (fsep ftrue (fsep ftrue ftrue))) c g (marks (ws .0) (ws .1 .0) (ws .1 .1 .0) (ws .1 .1 .1 .0)) room long) $ await ! tt $ pick ! (λ l. split3 ! $ move ! (2 ∷ []) $ let-go ! $ move ! (2 ∷ 1 ∷ 0 ∷ []) $
             regoal ! (λ (v : Val). lands (𝓣 .C) (𝓣 .Λ) E d v rest p) (ap only is-unit) refl $ k (marks (ws .0) (ws .1 .0) (ws .1 .1 .0) (ws .1 .1 .1 .0)) l e)))))))

@@ -18,9 +18,9 @@ use Rattle.rules.specs.declared.refusals.Found.the-variants.{At, Nothing}
 use Rattle.rules.specs.Refusals.{orElse, found, settle, first, foundIf, foundUnless}
 use Rattle.rules.specs.declared.refusals.Refusal.{Refusal}
 use Rattle.rules.specs.TuGrid.{Marks, marks, foursOk, listsLong, leafGoodAt, badLeaf, leavesOf, clearOf, blankOf, txGridCheck, txGridAfter, clearedAfter}
-use Rattle.scan.proofs.First.{at-first, at-not-nothing, found-if, found-if-not}
-use Rattle.scan.proofs.Checks.{else-parts, unless-true, refused-by, accepted-by, settle-refused-by, settle-accepted-by}
-use Rattle.grid.specs.Fit.{Fit}
+use Rattle.checks.proofs.First.{at-first, at-not-nothing, found-if, found-if-not}
+use Rattle.checks.proofs.Checks.{else-parts, unless-true, refused-by, accepted-by, settle-refused-by, settle-accepted-by}
+use Rattle.grid.specs.Fit.{GridFits}
 use Rattle.grid.specs.Stated.{Stated}
 use Rattle.grid.proofs.Painted.{grid-built}
 use Rattle.tiles.proofs.Checked.{cols-most, rows-most}
@@ -71,7 +71,7 @@ three false = refl
 -- ---- the whole
 
 -- what accepted checks leave in hand for the lists to start at 0
-pub record-fit : (s : TuGrid) (n good m sound : ℕ) (g : Marks) (keep : List ℕ) → recordCheck s n good m sound g keep ≡ Accepted → Fit s (length (g .vedge)) (length (g .hedge)) (length (g .sqw)) (length (g .sqh)) × (s .rows * s .cols ≤ length keep)
+pub record-fit : (s : TuGrid) (n good m sound : ℕ) (g : Marks) (keep : List ℕ) → recordCheck s n good m sound g keep ≡ Accepted → GridFits s (length (g .vedge)) (length (g .hedge)) (length (g .sqw)) (length (g .sqh)) × (s .rows * s .cols ≤ length keep)
 unfolding recordCheck
 record-fit s n good m sound g keep e =
     let p1 = else-parts _ _ e in
@@ -87,7 +87,7 @@ module _ (s : TuGrid) (n good m sound : ℕ) (v h w t keep : List ℕ) {a : Answ
   pub start-refused : {r : Refusal} → a ≡ Refused r → Started s n good m sound (marks v h w t) keep (Refused r) (marks v h w t) keep
   start-refused e = record { answer = refused-by _ _ by-checks e; lists = settle-refused-by _ _ _ _ by-checks e; cleared = settle-refused-by _ _ _ _ by-checks e }
 
-  pub start-fit : a ≡ Accepted → Fit s (length v) (length h) (length w) (length t) × (s .rows * s .cols ≤ length keep)
+  pub start-fit : a ≡ Accepted → GridFits s (length v) (length h) (length w) (length t) × (s .rows * s .cols ≤ length keep)
   start-fit e = record-fit s n good m sound (marks v h w t) keep (sym by-checks ∙ e)
 
   pub start-done : a ≡ Accepted → {g : Marks} {k : List ℕ} → g ≡ blankOf (s .rows * s .cols) (marks v h w t) → k ≡ clearOf (s .rows * s .cols) keep → Started s n good m sound (marks v h w t) keep Accepted g k

@@ -7,7 +7,7 @@ use Rattle.rules.specs.declared.settings.TuGrid.{TuGrid}
 use Rattle.rules.specs.declared.refusals.Answer.{Answer}
 use Rattle.rules.specs.declared.refusals.Answer.the-variants.{Accepted}
 use Rattle.rules.specs.TuGrid.{Marks, marks, txGridCheck}
-use Rattle.scan.specs.Exactly.{Exactly}
+use Rattle.checks.specs.Exactly.{Exactly}
 use Rattle.grid.specs.Exactly.{txTests}
 use Rattle.grid.proofs.Exactly.{tx-exactly, tx-accepts}
 use Rattle.leaves.specs.declared.records.Leaf.{Leaf}

@@ -13,7 +13,7 @@ use Rattle.rules.specs.declared.refusals.Found.{Found}
 use Rattle.rules.specs.declared.refusals.Found.the-variants.{At, Nothing}
 use Rattle.rules.specs.Refusals.{first, foundUnless}
 use Rattle.rules.specs.TuGrid.{Marks, tileOf, paintOf, leafOf, leavesOf, leafGood, leafGoodAt, badLeaf}
-use Rattle.scan.proofs.First.{first-more, first-found, first-end, found-unless, found-unless-not}
+use Rattle.checks.proofs.First.{first-more, first-found, first-end, found-unless, found-unless-not}
 use Rattle.tiles.specs.Fit.{Good, AllGood}
 use Rattle.leaves.specs.declared.records.Leaf.{Leaf}
 use Rattle.leaves.specs.Records.{none, flat, placeOr, goodOf}

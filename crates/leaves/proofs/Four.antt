@@ -107,7 +107,7 @@ pub record Calls4 : Type 0 where
   pub nt : Call
 
 -- the lists are as long as the machine says, and have room
-pub record Long (L : Lanes) (g : Marks) : Type 0 where
+pub record LanesLong (L : Lanes) (g : Marks) : Type 0 where
   pub long-v : length (g .vedge) ≡ L .lv .m
   pub long-h : length (g .hedge) ≡ L .lh .m
   pub long-w : length (g .sqw) ≡ L .lw .m
@@ -163,7 +163,7 @@ module _ {M : Type 1} (𝓤 : URA M) (H : Heap 𝓤) (A : Atoms 𝓤) (W : Given
     abbrev Lends : Marks → Calls4 → SProp 𝓤
     Lends g n = sep 𝓤 (sem 𝓤 H A (Lents (relents L n) g)) (sem 𝓤 H A (Kepts L n g))
 
-    pub lends-four : (g : Marks) → Long L g → ent 𝓤 (sem 𝓤 H A (Lents L g)) (H .⇛ (ex 𝓤 (Lends g)))
+    pub lends-four : (g : Marks) → LanesLong L g → ent 𝓤 (sem 𝓤 H A (Lents L g)) (H .⇛ (ex 𝓤 (Lends g)))
     lends-four g e =
         qed W (‵ (Lents L g) ∷ []) ∵ updating ! $ fsplit ! $ move ! (1 ∷ []) $ fsplit ! $ move ! (1 ∷ []) $ fsplit ! $
         -- [sqw; sqh; hedge; vedge]
@@ -178,8 +178,8 @@ module _ {M : Type 1} (𝓤 : URA M) (H : Heap 𝓤) (A : Atoms 𝓤) (W : Given
         move ! (3 ∷ 2 ∷ []) $ fjoin ! $ move ! (2 ∷ 0 ∷ []) $ fjoin ! $ move ! (1 ∷ 0 ∷ []) $ fjoin ! $ done !))))
 
     -- with what belongs to other parameters
-    pub comes-with : (P : SProp 𝓤) (F : Fml) (n : Calls4) (g g' : Marks) → Rooms L → Long L g
-        → ent 𝓤 (sep 𝓤 (toks (relents L n) P) (sep 𝓤 (sem 𝓤 H A (Kepts L n g)) (sem 𝓤 H A (Lasts4 n g g' F)))) (H .⇛ (ex 𝓤 (λ (l : Long L g'). sep 𝓤 (sem 𝓤 H A (Lents L g')) (sep 𝓤 P (sem 𝓤 H A F)))))
+    pub comes-with : (P : SProp 𝓤) (F : Fml) (n : Calls4) (g g' : Marks) → Rooms L → LanesLong L g
+        → ent 𝓤 (sep 𝓤 (toks (relents L n) P) (sep 𝓤 (sem 𝓤 H A (Kepts L n g)) (sem 𝓤 H A (Lasts4 n g g' F)))) (H .⇛ (ex 𝓤 (λ (l : LanesLong L g'). sep 𝓤 (sem 𝓤 H A (Lents L g')) (sep 𝓤 P (sem 𝓤 H A F)))))
     comes-with P F n g g' room e =
         qed W ((‵ (flft (n .nv .0 ∷ []) fullShare) ⊛ ‵ (flft (n .nh .0 ∷ []) fullShare) ⊛ ‵ (flft (n .nw .0 ∷ []) fullShare) ⊛ ‵ (flft (n .nt .0 ∷ []) fullShare) ⊛ raw P) ∷ ‵ (Kepts L n g) ∷ ‵ (Lasts4 n g g' F) ∷ []) ∵ updating ! $
         split ! $ move ! (1 ∷ []) $ split ! $ move ! (1 ∷ []) $ split ! $ move ! (1 ∷ []) $ split ! $
@@ -200,13 +200,13 @@ module _ {M : Type 1} (𝓤 : URA M) (H : Heap 𝓤) (A : Atoms 𝓤) (W : Given
         move ! (7 ∷ 5 ∷ 4 ∷ []) $
         use3 W (later (some (λ (l : length (g' .vedge) ≡ L .lv .m). ‵ (Lent (L .lv) (g' .vedge))))) (comes 𝓤 H A W (L .lv) (n .nv) (g .vedge) (g' .vedge) (room .room-v) (e .long-v)) $ await ! tt $ pick ! (λ lv.
         -- [vedge; hedge; sqw; sqh; F; P]
-        at-once ! $ show ! (λ (l : Long L g'). sep 𝓤 (sem 𝓤 H A (Lents L g')) (sep 𝓤 P (sem 𝓤 H A F))) (record { long-v = lv; long-h = lh; long-w = lw; long-t = lt }) $
+        at-once ! $ show ! (λ (l : LanesLong L g'). sep 𝓤 (sem 𝓤 H A (Lents L g')) (sep 𝓤 P (sem 𝓤 H A F))) (record { long-v = lv; long-h = lh; long-w = lw; long-t = lt }) $
         move ! (2 ∷ 3 ∷ []) $ fjoin ! $ move ! (2 ∷ 0 ∷ []) $ fjoin ! $ move ! (1 ∷ 0 ∷ []) $ fjoin ! $ frame ! $ move ! (1 ∷ 0 ∷ []) $ done !))))
 
     -- nothing of them
-    pub comes-four : (P : SProp 𝓤) (F : Fml) (n : Calls4) (g g' : Marks) → Rooms L → Long L g
-        → ent 𝓤 (sep 𝓤 (toks (relents L n) P) (sep 𝓤 (sem 𝓤 H A (Kepts L n g)) (sem 𝓤 H A (Lasts4 n g g' F)))) (H .⇛ (ex 𝓤 (λ (l : Long L g'). sep 𝓤 (sem 𝓤 H A (Lents L g')) P)))
+    pub comes-four : (P : SProp 𝓤) (F : Fml) (n : Calls4) (g g' : Marks) → Rooms L → LanesLong L g
+        → ent 𝓤 (sep 𝓤 (toks (relents L n) P) (sep 𝓤 (sem 𝓤 H A (Kepts L n g)) (sem 𝓤 H A (Lasts4 n g g' F)))) (H .⇛ (ex 𝓤 (λ (l : LanesLong L g'). sep 𝓤 (sem 𝓤 H A (Lents L g')) P)))
     comes-four P F n g g' room e =
         qed W (raw (toks (relents L n) P) ∷ ‵ (Kepts L n g) ∷ ‵ (Lasts4 n g g' F) ∷ []) ∵ updating ! $
-        use3 W (later (some (λ (l : Long L g'). ‵ (Lents L g') ⊛ raw P ⊛ ‵ F))) (comes-with P F n g g' room e) $ await ! tt $ pick ! (λ l. split3 ! $ move ! (2 ∷ []) $ drop ! $
-        at-once ! $ show ! (λ (l : Long L g'). sep 𝓤 (sem 𝓤 H A (Lents L g')) P) l $ frame ! $ done !)
+        use3 W (later (some (λ (l : LanesLong L g'). ‵ (Lents L g') ⊛ raw P ⊛ ‵ F))) (comes-with P F n g g' room e) $ await ! tt $ pick ! (λ l. split3 ! $ move ! (2 ∷ []) $ drop ! $
+        at-once ! $ show ! (λ (l : LanesLong L g'). sep 𝓤 (sem 𝓤 H A (Lents L g')) P) l $ frame ! $ done !)

@@ -3,7 +3,7 @@ ghost use mathlib.Core.Path.{_≡_};
 ghost use lib.ListN.{length};
 ghost use Rattle.rules.specs.TuGrid.{marks, leavesOf};
 ghost use Rattle.tiles.specs.Fit.{Cut, AllGood};
-ghost use Rattle.grid.specs.Fit.{Fit};
+ghost use Rattle.grid.specs.Fit.{GridFits};
 ghost use Rattle.leaves.specs.Records.{flat, goodOf};
 use grid::paint::paint_leaf;
 use rules::settings::TuGrid;
@@ -44,7 +44,7 @@ pub fn paint_leaves(
     s: TuGrid,
     skip: bool,
 )
-    requires { ⌜ Fit s (length (now vedge)) (length (now hedge)) (length (now sqw)) (length (now sqh)) × Cut s × AllGood (flat (now ls)) ⌝ }
+    requires { ⌜ GridFits s (length (now vedge)) (length (now hedge)) (length (now sqw)) (length (now sqh)) × Cut s × AllGood (flat (now ls)) ⌝ }
     ensures { λ _. ⌜ marks (now (vedge .exit)) (now (hedge .exit)) (now (sqw .exit)) (now (sqh .exit)) ≡ leavesOf s skip (flat (now (ls .entry))) (marks (now (vedge .entry)) (now (hedge .entry)) (now (sqw .entry)) (now (sqh .entry))) ⌝ }
 {
     let mut i: usize = 0;

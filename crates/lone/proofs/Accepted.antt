@@ -26,10 +26,10 @@ use Rattle.rules.specs.Counts.{storedAt, changedAt}
 use Rattle.rules.specs.Lone.{edgeOf, sizesOk, settingsOk, overEdge, loneCheck, lonePlane, answerWidth, loneWidth, loneStored, loneChanged}
 use Rattle.lengths.proofs.Lengths.{pair-facts}
 use Rattle.lengths.proofs.Inside.{ranges-are}
-use Rattle.scan.specs.Rows.{Box}
-use Rattle.scan.proofs.Rows.{box-inner}
-use Rattle.scan.proofs.Ranges.{in-range}
-use Rattle.scan.proofs.Checks.{stop, go-on, unless-bad, unless-good, else-parts, unless-true, found-nothing, settle-refused-by, settle-accepted-by}
+use Rattle.checks.specs.Rows.{Box}
+use Rattle.checks.proofs.Rows.{box-inner}
+use Rattle.checks.proofs.Ranges.{in-range}
+use Rattle.checks.proofs.Checks.{stop, go-on, unless-bad, unless-good, else-parts, unless-true, found-nothing, settle-refused-by, settle-accepted-by}
 use Rattle.segment.specs.declared.outcome.Outcome.{Outcome}
 use Rattle.segment.specs.Fit.{InPlane, EdgeFiltered}
 use Rattle.segment.proofs.Cells.{along-of}

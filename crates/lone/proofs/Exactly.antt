@@ -10,8 +10,8 @@ use Rattle.rules.specs.declared.refusals.Width.{Width}
 use Rattle.rules.specs.Lone.{loneCheck, answerWidth, loneWidth}
 use Rattle.rules.specs.Figures.{flat}
 use Rattle.rules.specs.Orders.{orders}
-use Rattle.scan.specs.Exactly.{Exactly}
-use Rattle.scan.proofs.Exactly.{exactly}
+use Rattle.checks.specs.Exactly.{Exactly}
+use Rattle.checks.proofs.Exactly.{exactly}
 use Rattle.lone.specs.Exactly.{tests, answered}
 
 answered-is : (a : Answer) (w : ℕ) → answered (answerWidth a w) ≡ a

@@ -20,10 +20,10 @@ use Rattle.rules.specs.declared.refusals.LoneAnswer.{LoneAnswer}
 use Rattle.rules.specs.Numbers.{topOf}
 use Rattle.rules.specs.Refusals.{settle}
 use Rattle.rules.specs.Lengths.{reachBefore, reachAfter}
-use Rattle.rules.specs.Segment.{placeOf, windowOf, chosenOf, storesOf, widthAt, noneKept, openStores, segmentOf}
+use Rattle.rules.specs.Segment.{edgePlace, windowOf, chosenOf, storesOf, widthAt, noneKept, openStores, segmentOf}
 use Rattle.rules.specs.Counts.{storedAt, changedAt}
 use Rattle.rules.specs.Lone.{edgeOf, loneCheck, lonePlane, answerWidth, loneWidth, loneStored, loneChanged}
-use Rattle.segment.specs.Fit.{Fit, InPlane, Within}
+use Rattle.segment.specs.Fit.{EdgeFits, InPlane, AlikeInReach}
 use Rattle.segment.specs.Promises.{pPlace, qPlace, narrowAt, Demand3, Outside}
 use Rattle.segment.proofs.Places.{before-in, after-in, line-in}
 use Rattle.segment.proofs.Edges.{fit-of}
@@ -68,26 +68,26 @@ lone-length s l = go (loneCheck s l)
 
 -- ---- "Two accepted lone segments with the same settings, whose planes are equal within an edge's reach on its four lines, get equal new samples there.";
 -- ticket 7: "01's claim on two lone segments asks equal marks too where a segment takes any", and none takes any
-module _ (top stride : ℕ) (e : Edge) (l m : List ℕ) (h : Within (placeOf stride e) l m) where
+module _ (top stride : ℕ) (e : Edge) (l m : List ℕ) (h : AlikeInReach (edgePlace stride e) l m) where
   same-width : widthAt stride e l ≡ widthAt stride e m
   unfolding widthAt
-  same-width = ap (λ (ls : List Line). chosenOf (placeOf stride e) ls) (window-agree (placeOf stride e) l m h)
+  same-width = ap (λ (ls : List Line). chosenOf (edgePlace stride e) ls) (window-agree (edgePlace stride e) l m h)
 
   same-sample : (i : ℕ) → i < length l → i < length m → getD l i 0 ≡ getD m i 0 → getD (segmentOf top stride noneKept e l) i 0 ≡ getD (segmentOf top stride noneKept e m) i 0
   unfolding segmentOf
   same-sample i hl hm eq =
-      ap (λ (ls : List Line). getD (puts (outside noneKept (storesOf top (placeOf stride e) ls)) l) i 0) (window-agree (placeOf stride e) l m h)
+      ap (λ (ls : List Line). getD (puts (outside noneKept (storesOf top (edgePlace stride e) ls)) l) i 0) (window-agree (edgePlace stride e) l m h)
       ∙ puts-agree-in (openStores top stride noneKept e m) l m i hl hm eq
 
 -- the samples within the reach lie in the plane
-module _ (g : Place) {size : ℕ} (fit : Fit g size) where
+module _ (g : Place) {size : ℕ} (fit : EdgeFits g size) where
   p-reached : (j k : ℕ) → j < 4 → k < reachBefore (g .pair) → pPlace g j k < size
   p-reached j k hj hk = let r = fit .room in omega (arith, before-in k (reachBefore (g .pair)) (g .step) (g .at) hk (r .low), line-in j (g .line) hj)
 
   q-reached : (j k : ℕ) → j < 4 → k < reachAfter (g .pair) → qPlace g j k < size
   q-reached j k hj hk = let r = fit .room in omega (arith, after-in k (reachAfter (g .pair)) (g .step) hk, line-in j (g .line) hj)
 
-module _ (s : Lone) (l m : List ℕ) (hl : loneCheck s l ≡ Accepted) (hm : loneCheck s m ≡ Accepted) (h : Within (placeOf (s .stride) (edgeOf s)) l m) where
+module _ (s : Lone) (l m : List ℕ) (hl : loneCheck s l ≡ Accepted) (hm : loneCheck s m ≡ Accepted) (h : AlikeInReach (edgePlace (s .stride) (edgeOf s)) l m) where
   pub lone-same-width : loneWidth s l ≡ loneWidth s m
   lone-same-width =
       lone-width s l hl ∙ ap (λ (w : ℕ). answerWidth Accepted w) (same-width (topOf (s .depth)) (s .stride) (edgeOf s) l m h) ∙ sym (lone-width s m hm)
@@ -95,9 +95,9 @@ module _ (s : Lone) (l m : List ℕ) (hl : loneCheck s l ≡ Accepted) (hm : lon
   lone-same : (i : ℕ) → i < length l → i < length m → getD l i 0 ≡ getD m i 0 → getD (lonePlane s l) i 0 ≡ getD (lonePlane s m) i 0
   lone-same i bl bm eq = rw (lone-new s l hl, lone-new s m hm) (same-sample (topOf (s .depth)) (s .stride) (edgeOf s) l m h i bl bm eq)
 
-  pub lone-same-samples : Within (placeOf (s .stride) (edgeOf s)) (lonePlane s l) (lonePlane s m)
+  pub lone-same-samples : AlikeInReach (edgePlace (s .stride) (edgeOf s)) (lonePlane s l) (lonePlane s m)
   lone-same-samples =
-      let g = placeOf (s .stride) (edgeOf s) in
+      let g = edgePlace (s .stride) (edgeOf s) in
       let fl = fit-of (passed s l hl .inside) refl in
       let fm = fit-of (passed s m hm .inside) refl in
       record {

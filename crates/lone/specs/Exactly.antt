@@ -12,7 +12,7 @@ use Rattle.rules.specs.declared.refusals.Width.the-variants.{Samples, Refused a
 use Rattle.rules.specs.Numbers.{depthOk, topOf}
 use Rattle.rules.specs.Segment.{hasRoom}
 use Rattle.rules.specs.Lone.{edgeOf, sizesOk, settingsOk, overEdge}
-use Rattle.scan.specs.Exactly.{ask, seek, Check, check}
+use Rattle.checks.specs.Exactly.{ask, seek, Check, check}
 
 abbrev pub tests : Lone → List ℕ → List Check
 tests s l =

@@ -1,4 +1,6 @@
 // A segment alone: any numbers and any plane, the checks of document 01 in their order, and the edge where they all pass.
+use checks::in_range;
+use checks::samples;
 use lengths::pairs::reach_after;
 use lengths::pairs::reach_before;
 use lengths::ranges::ranges_ok;
@@ -11,8 +13,6 @@ use rules::refusals::LoneAnswer;
 use rules::refusals::Refusal;
 use rules::refusals::Width;
 use rules::settings::Lone;
-use scan::in_range;
-use scan::samples;
 use segment::filter_edge;
 ghost use mathlib.Core.Path.{_≡_};
 ghost use Prim.Native.Nat.{_≤_};

@@ -9,8 +9,8 @@ use borrow.Author.Tests.{lt-ltb, le-ltb}
 use lib.Dec.{ltb}
 use lib.ListN.{length, getD}
 use Rattle.laws.specs.Choose.{pick}
-use Rattle.words.specs.Places.{seek}
-use Rattle.words.proofs.Seeking.{seek-on, seek-here, seek-end}
+use Rattle.text.specs.Places.{seek}
+use Rattle.text.proofs.Seeking.{seek-on, seek-here, seek-end}
 use Rattle.y4m.specs.Headers.{tagAt}
 use Rattle.pictures.specs.Outside.{beyond, beyondAt, outsideOf, againOf, twiceOf}
 

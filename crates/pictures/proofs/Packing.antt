@@ -11,7 +11,7 @@ use lib.ListN.{length, take, drop, length-take, length-drop}
 use Rattle.laws.specs.Choose.{pick-yes, pick-no, is-le, not-le}
 use Rattle.laws.specs.Loops.{each, each-add, each-same, each-empty}
 use Rattle.pictures.specs.declared.planes.Shape.{Shape}
-use Rattle.pictures.specs.Shapes.{Fit}
+use Rattle.pictures.specs.Shapes.{ShapeFits}
 use Rattle.pictures.specs.Storing.{stored}
 use Rattle.pictures.specs.Rows.{bareRow, packed}
 use Rattle.pictures.proofs.Storing.{stored-rest, pieces-length, pieces-none, pieces-more, pieces-end}
@@ -36,7 +36,7 @@ module _ (s : Shape) (l : List ℕ) where
   bare-length k h =
       ap length (sym (held k h)) ∙ omega (arith, length-take (s .width) (drop (s .stride * k) l), length-drop (s .stride * k) l)
 
-  pub pack-more : (from to r : ℕ) {q q′ : List ℕ} → Fit s → from ≡ s .stride * r → to ≡ s .width * r → Holds r → ((k : ℕ) → k < r → Holds k)
+  pub pack-more : (from to r : ℕ) {q q′ : List ℕ} → ShapeFits s → from ≡ s .stride * r → to ≡ s .width * r → Holds r → ((k : ℕ) → k < r → Holds k)
       → q ≡ stored l 0 (each r (bareRow s l)) → q′ ≡ stored q to (take (s .width) (drop from q)) → q′ ≡ stored l 0 (each (r + 1) (bareRow s l))
   pack-more from to r {q} fit a b h before e g =
       pieces-more (bareRow s l) (s .width) l 0 r (λ k below. bare-length k (before k below)) e

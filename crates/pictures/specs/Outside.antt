@@ -5,7 +5,7 @@ use mathlib.Core.Bool.{Bool, false}
 use lib.Dec.{leb, ltb}
 use lib.ListN.{length, getD}
 use Rattle.laws.specs.Choose.{pick, either}
-use Rattle.words.specs.Places.{seek}
+use Rattle.text.specs.Places.{seek}
 use Rattle.y4m.specs.Headers.{tagAt}
 
 -- a place, by its row and column

@@ -22,7 +22,7 @@ shapeOf width height ssx ssy =
       rows = eightsOf (halvedOf height ssy);
     }
 
-pub record Fit (s : Shape) : Type 0 where
+pub record ShapeFits (s : Shape) : Type 0 where
   pub some : 1 ≤ s .width
   pub wide : s .width ≤ s .stride
   pub stride : s .stride ≤ 4096

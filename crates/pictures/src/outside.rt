@@ -2,7 +2,7 @@
 ghost use mathlib.Core.Path.{_≡_};
 ghost use Prim.Native.Nat.{_-_, _<_};
 ghost use lib.ListN.{length};
-ghost use Rattle.words.specs.Places.{seek};
+ghost use Rattle.text.specs.Places.{seek};
 ghost use Rattle.y4m.specs.Headers.{tagAt};
 ghost use Rattle.pictures.specs.Outside.{beyond, outsideOf, twiceOf};
 use y4m::header::is_tag;

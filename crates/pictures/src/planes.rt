@@ -5,7 +5,7 @@ ghost use Prim.Native.Nat.{_+_, _*_, _≤_, min};
 ghost use lib.Dec.{leb};
 ghost use lib.ListN.{length, take, drop};
 ghost use Rattle.pictures.specs.Storing.{stored};
-ghost use Rattle.pictures.specs.Shapes.{Fit, eightsOf, halvedOf, shapeOf};
+ghost use Rattle.pictures.specs.Shapes.{ShapeFits, eightsOf, halvedOf, shapeOf};
 ghost use Rattle.pictures.specs.Changes.{differsOf, differingOf};
 ghost use Rattle.pictures.specs.Rows.{rowBytes, NextRow, rowPut, FilePlane, packed, rowOut};
 use laws::least;
@@ -41,7 +41,7 @@ fn halved(n: usize, ss: usize) -> usize
 // The shape of a plane of a picture, by its subsampling.
 pub fn shape_of(width: usize, height: usize, ssx: usize, ssy: usize) -> Shape
     requires { ⌜ (1 ≤ width) × (width ≤ 4096) × (1 ≤ height) × (height ≤ 4096) ⌝ }
-    ensures { λ r. ⌜ Fit r ⌝ }
+    ensures { λ r. ⌜ ShapeFits r ⌝ }
     ensures { λ r. ⌜ r ≡ shapeOf width height ssx ssy ⌝ }
 {
     let w = halved(width, ssx);
@@ -100,7 +100,7 @@ pub fn read_row(fd: i32, bytes: &mut [u8], n: usize, more: bool) -> usize
 
 // One row of a plane from the buffer; false where the plane has no such row.
 pub fn put_row(bytes: &[u8], plane: &mut [u16], at: usize, s: Shape, wide: bool) -> bool
-    requires { ⌜ Fit s × (at ≤ 16777216) ⌝ }
+    requires { ⌜ ShapeFits s × (at ≤ 16777216) ⌝ }
     ensures { λ r. ⌜ r ≡ leb (at + s .stride) (length (now (plane .entry))) ⌝ }
     ensures { λ _. ⌜ now (plane .exit) ≡ rowPut wide s (now (bytes .entry)) at (now (plane .entry)) ⌝ }
 {
@@ -125,7 +125,7 @@ pub fn sum_up(whole: bool, rows: usize, n: usize, bytes: usize) -> Got
 
 // A plane from a file; rows past the last one repeat it. Promised is how bytes make the plane, not which the file has.
 pub fn read_plane(fd: i32, plane: &mut [u16], s: Shape, wide: bool) -> Got
-    requires { ⌜ Fit s ⌝ }
+    requires { ⌜ ShapeFits s ⌝ }
     ensures { λ r. ⌜ (r .whole ≡ true → FilePlane wide s (now (plane .entry)) (now (plane .exit))) ⌝ }
 {
     let mut bytes = [0u8; 8192];
@@ -160,7 +160,7 @@ fn move_row(plane: &mut [u16], from: usize, to: usize, n: usize)
 
 // Takes the padding out of a plane: its rows then follow each other.
 pub fn pack(plane: &mut [u16], s: Shape)
-    requires { ⌜ Fit s ⌝ }
+    requires { ⌜ ShapeFits s ⌝ }
     ensures { λ _. ⌜ now (plane .exit) ≡ packed s (now (plane .entry)) ⌝ }
 {
     let mut from: usize = 0;
@@ -188,7 +188,7 @@ pub fn write_row(fd: i32, row: &[u16], bytes: &mut [u8], n: usize, wide: bool) -
 
 // A packed plane to a file; false where a row can't be written. Promised is that a plane that was written whole was there whole.
 pub fn write_plane(fd: i32, plane: &[u16], s: Shape, wide: bool) -> bool
-    requires { ⌜ Fit s ⌝ }
+    requires { ⌜ ShapeFits s ⌝ }
     ensures { λ r. ⌜ (r ≡ true → s .width * s .height ≤ length (now (plane .entry))) ⌝ }
 {
     let mut bytes = [0u8; 8192];

@@ -1,6 +1,6 @@
 // The shapes of a picture's planes by its header, whose sizes are taken as 1 to 4096.
 ghost use Prim.Native.Nat.{_≤_};
-ghost use Rattle.pictures.specs.Shapes.{Fit};
+ghost use Rattle.pictures.specs.Shapes.{ShapeFits};
 use crate::planes::Shape;
 use crate::planes::shape_of;
 use laws::least;
@@ -16,14 +16,14 @@ fn side(n: usize) -> usize
 
 // Luma's shape.
 pub fn luma_of(h: Header) -> Shape
-    ensures { λ r. ⌜ Fit r ⌝ }
+    ensures { λ r. ⌜ ShapeFits r ⌝ }
 {
     shape_of(side(h.width), side(h.height), 0, 0)
 }
 
 // Chroma's shape.
 pub fn chroma_of(h: Header) -> Shape
-    ensures { λ r. ⌜ Fit r ⌝ }
+    ensures { λ r. ⌜ ShapeFits r ⌝ }
 {
     let layout = h.layout;
     shape_of(side(h.width), side(h.height), layout.ssx, layout.ssy)

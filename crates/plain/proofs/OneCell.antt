@@ -15,7 +15,7 @@ use Rattle.rules.specs.Numbers.{topOf, highestOf, offsetOf, shiftOf}
 use Rattle.rules.specs.Thresholds.{indexOf, stepOf, quantOf, lowered, sideOf, bothOf, qThreshold, sideThreshold}
 use Rattle.rules.specs.Lengths.{lengthBefore, lengthAfter, mostBefore, mostAfter, reachOf, reachBefore, reachAfter, pairOf}
 use Rattle.rules.specs.Width.{bendOf, slopeOf, steepOf, atDistance, failsOf, fromOf, farOf, wideOf, gradeOf, widthOf}
-use Rattle.rules.specs.Segment.{placeOf, lineOf, linesOf, windowOf, chosenOf, lineStores, fourStores, storesOf, keptIn, segmentOf, runEdges}
+use Rattle.rules.specs.Segment.{edgePlace, lineOf, linesOf, windowOf, chosenOf, lineStores, fourStores, storesOf, keptIn, segmentOf, runEdges}
 use Rattle.rules.specs.Plane.{Grid, grid, cellOf, cellBefore, marksOf, indicesOf, cappedOf, indexAt, startsTile, shortenedAt, edgeAt, isEdge, visitOf, startOf, countOf, sbCols, sweepOf, columnOf, turnOf, edgesOf, keptBy, runPlane}
 use Rattle.orders.specs.Walks.{plainOf}
 
@@ -44,5 +44,5 @@ samples = rowsOf 100 102 ++ rowsOf 102 104
 -- the sample at x = 5 of the first row: 100 by superblocks one cell wide, where the horizontal edge comes first, and 101 by the plain order
 pub one-cell-differs : (getD (runPlane settings steps cells samples) 5 0 ≡ 100) × (getD (runEdges 255 16 (keptBy settings cells) (plainOf settings steps cells) samples) 5 0 ≡ 101)
 unfolding each filled puts outside pick either both topOf highestOf offsetOf shiftOf indexOf stepOf quantOf lowered sideOf bothOf qThreshold sideThreshold lengthBefore lengthAfter mostBefore mostAfter reachOf reachBefore reachAfter pairOf bendOf slopeOf steepOf atDistance failsOf fromOf farOf wideOf gradeOf
-    widthOf placeOf lineOf linesOf windowOf chosenOf lineStores fourStores storesOf keptIn segmentOf runEdges cellOf cellBefore marksOf indicesOf cappedOf indexAt startsTile shortenedAt isEdge edgeAt visitOf startOf countOf sbCols sweepOf columnOf turnOf edgesOf runPlane plainOf
+    widthOf edgePlace lineOf linesOf windowOf chosenOf lineStores fourStores storesOf keptIn segmentOf runEdges cellOf cellBefore marksOf indicesOf cappedOf indexAt startsTile shortenedAt isEdge edgeAt visitOf startOf countOf sbCols sweepOf columnOf turnOf edgesOf runPlane plainOf
 one-cell-differs = (refl, refl)

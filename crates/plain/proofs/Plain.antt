@@ -14,12 +14,12 @@ use Rattle.rules.specs.Numbers.{topOf}
 use Rattle.rules.specs.Segment.{keptIn, runEdges}
 use Rattle.rules.specs.Counts.{storedBy, changedBy}
 use Rattle.rules.specs.Plane.{Grid, keeping, keptBy, marksOf, indicesOf, indexAt, shortenedAt, edgeAt, isEdge, visitOf, sweepOf, runStored, runChanged, planeCheck, planeAfter, planeStored, planeChanged}
-use Rattle.scan.specs.Asked.{Asked}
-use Rattle.scan.proofs.Checks.{settle-accepted}
+use Rattle.checks.specs.Asked.{Asked}
+use Rattle.checks.proofs.Checks.{settle-accepted}
 use Rattle.segment.specs.Fit.{InPlane}
 use Rattle.segment.proofs.Counts.{stored-then, changed-then}
 use Rattle.kept.proofs.Same.{marks-agree, run-same, stored-same, changed-same}
-use Rattle.cells.specs.Fit.{oneWay}
+use Rattle.cell_edges.specs.Cells.{oneWay}
 use Rattle.plane.specs.declared.part.Part.{Part}
 use Rattle.plane.specs.declared.visited.Visited.{Visited}
 use Rattle.plane.specs.Run.{Table, PartOf, none, state, Ran}

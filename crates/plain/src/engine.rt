@@ -1,4 +1,5 @@
 // All vertical edges of a plane, rows in order, and then all horizontal edges, columns in order.
+use checks::asked;
 use plane::Part;
 use plane::Visited;
 use plane::plane_check;
@@ -8,7 +9,6 @@ use rules::depth::Depth;
 use rules::refusals::Answer;
 use rules::refusals::PlaneAnswer;
 use rules::settings::Plane;
-use scan::asked;
 use thresholds::by_qindex::thresholds_by_qindex;
 ghost use mathlib.Core.List.{List};
 ghost use Prim.Native.Nat.{ℕ};

@@ -26,13 +26,14 @@ use Rattle.rules.specs.Rows.{settingsCheck}
 use Rattle.thresholds.specs.ByQindex.{packedOf, ByQindex}
 use Rattle.thresholds.proofs.Quants.{q-most}
 use Rattle.thresholds.proofs.Sides.{side-most}
-use Rattle.scan.proofs.First.{sooner-nothing, nothing-all, unless-nothing}
-use Rattle.scan.proofs.Checks.{else-parts, unless-true, found-nothing, settle-refused, settle-accepted}
-use Rattle.scan.proofs.Exactly.{else-joined}
-use Rattle.cells.specs.Fit.{Sizes, Long, Ready, Cell as Inside, badOf, oneWay, marked, shortBy, roomOf}
-use Rattle.cells.proofs.Accepted.{sizes, sizes-by}
-use Rattle.cells.proofs.Marks.{none-good}
-use Rattle.cells.proofs.Reach.{edge-room-is}
+use Rattle.checks.proofs.First.{sooner-nothing, nothing-all, unless-nothing}
+use Rattle.checks.proofs.Checks.{else-parts, unless-true, found-nothing, settle-refused, settle-accepted}
+use Rattle.checks.proofs.Exactly.{else-joined}
+use Rattle.cell_edges.specs.Cells.{Sizes, Ready, Cell as Inside, oneWay, marked, shortBy}
+use Rattle.plane_checks.specs.Fit.{CellsLong, badOf, roomOf}
+use Rattle.plane_checks.proofs.Accepted.{sizes, sizes-by}
+use Rattle.plane_checks.proofs.Marks.{none-good}
+use Rattle.plane_checks.proofs.Reach.{edge-room-is}
 use Rattle.plane.proofs.Edges.{short-is}
 use Rattle.plane.specs.Run.{tableAt, IsTable, startBy, Table, Levels, Field, none, state, Ran}
 use Rattle.plane.specs.Checked.{Sized, Checked, Filtered, Noted, Stated}
@@ -42,7 +43,7 @@ use Rattle.plane.specs.declared.visited.Visited.{Visited}
 
 pub record Lengths (s : Plane) (g : Grid) (n : ℕ) : Type 0 where
   pub samples : 4 * s .rows * s .stride ≤ n
-  pub lists : Long (s .rows * s .cols) (length (g .vedge)) (length (g .hedge)) (length (g .sqw)) (length (g .sqh)) (length (g .keep))
+  pub lists : CellsLong (s .rows * s .cols) (length (g .vedge)) (length (g .hedge)) (length (g .sqw)) (length (g .sqh)) (length (g .keep))
   pub qindex : s .rows * s .cols ≤ length (g .qindex)
 
 pub lengths : (s : Plane) (g : Grid) (n : ℕ) → planeLengthsOk s g n ≡ true → Lengths s g n
@@ -70,7 +71,7 @@ sized-by {s} {n} v h w t q ts ks {a} {b} {c} d d' e e' f f' =
 
 -- ---- cells without a bad number
 
-module _ {s : Plane} (v h w t ks : List ℕ) (z : Sizes s) (l : Long (s .rows * s .cols) (length v) (length h) (length w) (length t) (length ks)) (none : badOf (s .rows * s .cols) (keeping v h w t [] [] ks) ≡ Nothing) where
+module _ {s : Plane} (v h w t ks : List ℕ) (z : Sizes s) (l : CellsLong (s .rows * s .cols) (length v) (length h) (length w) (length t) (length ks)) (none : badOf (s .rows * s .cols) (keeping v h w t [] [] ks) ≡ Nothing) where
   pub ready-vert : Ready s v w
   ready-vert = record {
     sizes-ok = z;
@@ -89,7 +90,7 @@ bad-none : (s : Plane) (v h w t q ts ks : List ℕ) → badCell s (keeping v h w
 unfolding badCell badOf cellGood
 bad-none s v h w t q ts ks e = e
 
-pub readies : {s : Plane} (v h w t ks : List ℕ) {f : Found} → Sizes s → Long (s .rows * s .cols) (length v) (length h) (length w) (length t) (length ks) → ((q ts : List ℕ) → f ≡ badCell s (keeping v h w t q ts ks)) → f ≡ Nothing → Ready s v w × Ready s h t
+pub readies : {s : Plane} (v h w t ks : List ℕ) {f : Found} → Sizes s → CellsLong (s .rows * s .cols) (length v) (length h) (length w) (length t) (length ks) → ((q ts : List ℕ) → f ≡ badCell s (keeping v h w t q ts ks)) → f ≡ Nothing → Ready s v w × Ready s h t
 readies {s} v h w t ks z l e g =
     let none = bad-none s v h w t [] [] ks (sym (e [] []) ∙ g) in
     (ready-vert v h w t ks z l none, ready-horz v h w t ks z l none)

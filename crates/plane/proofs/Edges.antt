@@ -20,9 +20,10 @@ use Rattle.rules.specs.Plane.{cellOf, cellBefore, indicesOf, indexAt, shortened
 use Rattle.thresholds.proofs.Packed.{edge-q, edge-side}
 use Rattle.thresholds.proofs.TwoBlocks.{both-most}
 use Rattle.segment.specs.Fit.{InPlane}
-use Rattle.cells.specs.Fit.{Sizes, Cell, oneWay, sized, marked, shortBy, roomOf}
-use Rattle.cells.proofs.Places.{pair-below}
-use Rattle.cells.proofs.Reach.{inner-by}
+use Rattle.cell_edges.specs.Cells.{Sizes, Cell, oneWay, sized, marked, shortBy}
+use Rattle.plane_checks.specs.Fit.{roomOf}
+use Rattle.cell_edges.proofs.Places.{pair-below}
+use Rattle.plane_checks.proofs.Reach.{inner-by}
 use Rattle.records.specs.Fit.{InBytes}
 use Rattle.plane.specs.Run.{Table, Levels, startBy, IsEdgeAt, Field}
 

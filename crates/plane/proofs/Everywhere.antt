@@ -20,10 +20,10 @@ use Rattle.rules.specs.Plane.{Grid, isEdge, edgeAt, visitOf, startOf, countOf, 
 use Rattle.thresholds.proofs.Quants.{q-most}
 use Rattle.thresholds.proofs.Sides.{side-most}
 use Rattle.thresholds.proofs.TwoBlocks.{both-most}
-use Rattle.scan.proofs.First.{nothing-all, unless-nothing, sooner-nothing}
+use Rattle.checks.proofs.First.{nothing-all, unless-nothing, sooner-nothing}
 use Rattle.segment.specs.Fit.{InPlane}
-use Rattle.cells.specs.Fit.{Cell}
-use Rattle.cells.proofs.Places.{pair-below}
+use Rattle.cell_edges.specs.Cells.{Cell}
+use Rattle.cell_edges.proofs.Places.{pair-below}
 use Rattle.plane.specs.Checked.{Checked}
 use Rattle.plane.proofs.Accepting.{lengths, checked}
 use Rattle.plane.proofs.Superblocks.{sb-end, sb-last}

@@ -13,10 +13,10 @@ use Rattle.rules.specs.Numbers.{topOf}
 use Rattle.rules.specs.Segment.{keptIn, runEdges}
 use Rattle.rules.specs.Counts.{storedBy, changedBy}
 use Rattle.rules.specs.Plane.{Grid, keeping, keptBy, isEdge, edgeAt, indexAt, shortenedAt, marksOf, indicesOf, visitOf, sweepOf, columnOf, turnOf, edgesOf, runPlane, runStored, runChanged, badCell, badKeep}
-use Rattle.scan.specs.Asked.{Asked}
+use Rattle.checks.specs.Asked.{Asked}
 use Rattle.segment.specs.Fit.{InPlane}
-use Rattle.cells.specs.Fit.{badOf}
-use Rattle.cells.proofs.Marks.{none-bad}
+use Rattle.plane_checks.specs.Fit.{badOf}
+use Rattle.plane_checks.proofs.Marks.{none-bad}
 use Rattle.kept.proofs.Same.{marks-agree, run-same, stored-same, changed-same, run-holds}
 use Rattle.plane.specs.Checked.{Checked, Noted}
 use Rattle.plane.specs.declared.visited.Visited.{Visited}

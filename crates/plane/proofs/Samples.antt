@@ -11,10 +11,10 @@ use Rattle.rules.specs.declared.settings.Plane.{Plane}
 use Rattle.rules.specs.declared.refusals.Refusal.the-variants.{Sample}
 use Rattle.rules.specs.declared.refusals.Answer.the-variants.{Accepted}
 use Rattle.rules.specs.Numbers.{topOf}
-use Rattle.rules.specs.Refusals.{over, overRow, overBox}
+use Rattle.rules.specs.Refusals.{overTop, overRow, overBox}
 use Rattle.rules.specs.Plane.{Grid, keptBy, edgesOf, runPlane, overPlane, planeCheck}
-use Rattle.scan.proofs.First.{nothing-all, over-nothing}
-use Rattle.scan.proofs.Checks.{else-parts, found-nothing}
+use Rattle.checks.proofs.First.{nothing-all, over-nothing}
+use Rattle.checks.proofs.Checks.{else-parts, found-nothing}
 use Rattle.rules.specs.Segment.{segmentOf, runEdges}
 use Rattle.segment.proofs.Demand.{edge-most, edge-length}
 
@@ -36,5 +36,5 @@ samples-stay s steps g l e x y hx hy =
     let none = found-nothing _ Sample last in
     let row = nothing-all (λ j. overRow (topOf (s .depth)) l (0 + j * s .stride) (4 * s .cols)) (4 * s .rows) none y hy in
     let same : 0 + y * s .stride + x ≡ y * s .stride + x = omega arith in
-    let one = over-nothing (topOf (s .depth)) l (0 + y * s .stride + x) (nothing-all (λ i. over (topOf (s .depth)) l (0 + y * s .stride + i)) (4 * s .cols) row x hx) in
+    let one = over-nothing (topOf (s .depth)) l (0 + y * s .stride + x) (nothing-all (λ i. overTop (topOf (s .depth)) l (0 + y * s .stride + i)) (4 * s .cols) row x hx) in
     run-low (topOf (s .depth)) (s .stride) (keptBy s g) (edgesOf s steps g) l (y * s .stride + x) (rw same at one)

@@ -15,7 +15,7 @@ use Rattle.laws.specs.Choose.{pick}
 use Rattle.laws.specs.Loops.{each}
 use Rattle.rules.specs.declared.settings.Plane.{Plane}
 use Rattle.rules.specs.Plane.{Grid, tiled, marksOf, indicesOf, indexAt, shortenedAt, isEdge, edgeAt, visitOf, startOf, countOf, sbCols, sweepOf, columnOf, turnOf, edgesOf}
-use Rattle.cells.specs.Fit.{Sizes, Cell, oneWay}
+use Rattle.cell_edges.specs.Cells.{Sizes, Cell, oneWay}
 use Rattle.plane.specs.declared.part.Part.{Part}
 use Rattle.plane.specs.Run.{State, Ran, PartOf, InPart, superblockOf, lineOf}
 use Rattle.plane.proofs.Runs.{ran-same, ran-then, ran-end}

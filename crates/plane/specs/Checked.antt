@@ -15,7 +15,8 @@ use Rattle.rules.specs.Numbers.{depthOk, deltaOk}
 use Rattle.rules.specs.Refusals.{orElse, found}
 use Rattle.rules.specs.Thresholds.{stepsCheck}
 use Rattle.rules.specs.Plane.{Grid, tilesCheck, badCell, noRoom, planeLengthsOk, edgesOf, runPlane, runStored, runChanged, planeCheck, planeAfter, planeStored, planeChanged}
-use Rattle.cells.specs.Fit.{Sizes, Long}
+use Rattle.cell_edges.specs.Cells.{Sizes}
+use Rattle.plane_checks.specs.Fit.{CellsLong}
 use Rattle.records.specs.Noted.{noted}
 use Rattle.plane.specs.declared.visited.Visited.{Visited}
 
@@ -24,7 +25,7 @@ pub record Sized (s : Plane) (n v h w t k : ℕ) : Type 0 where
   pub depth : depthOk (s .depth) ≡ true
   pub sizes-ok : Sizes s
   pub plane-long : 4 * s .rows * s .stride ≤ n
-  pub lists-long : Long (s .rows * s .cols) v h w t k
+  pub lists-long : CellsLong (s .rows * s .cols) v h w t k
 
 -- checks 6 and 7
 unfoldable pub gridCheck : Plane → Grid → Answer

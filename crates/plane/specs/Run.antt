@@ -18,7 +18,8 @@ use Rattle.thresholds.specs.ByQindex.{ByQindex}
 use Rattle.rules.specs.Segment.{keptIn, runEdges}
 use Rattle.rules.specs.Counts.{storedBy, changedBy}
 use Rattle.rules.specs.Plane.{Grid, indexAt, startsTile, edgeAt, isEdge, visitOf, sweepOf, startOf, countOf}
-use Rattle.cells.specs.Fit.{Ready, Cell, oneWay, sized, marked, shortBy, roomOf}
+use Rattle.cell_edges.specs.Cells.{Ready, Cell, oneWay, sized, marked, shortBy}
+use Rattle.plane_checks.specs.Fit.{roomOf}
 use Rattle.records.specs.Noted.{noted}
 use Rattle.plane.specs.declared.part.Part.{Part}
 use Rattle.plane.specs.declared.visited.Visited.{Visited}

@@ -1,10 +1,10 @@
 // Document 01's checks 1 to 8 of a plane, in their order, with document 02's checks of the tile starts and the keep marks; 1 to 7 also alone.
-use cells::grid::bad_cell;
-use cells::room::no_room;
-use cells::samples::over_plane;
-use cells::sizes::lengths_ok;
-use cells::sizes::sizes_ok;
-use cells::starts::tiles_check;
+use plane_checks::grid::bad_cell;
+use plane_checks::room::no_room;
+use plane_checks::samples::over_plane;
+use plane_checks::sizes::lengths_ok;
+use plane_checks::sizes::sizes_ok;
+use plane_checks::starts::tiles_check;
 use rules::depth::Depth;
 use rules::refusals::Answer;
 use rules::refusals::Found;
@@ -18,7 +18,8 @@ ghost use Prim.Native.Nat.{ℕ, _*_};
 ghost use lib.ListN.{length};
 ghost use Rattle.rules.specs.Plane.{keeping, planeCheck};
 ghost use Rattle.rules.specs.Rows.{settingsCheck};
-ghost use Rattle.cells.specs.Fit.{Sizes, Long};
+ghost use Rattle.cell_edges.specs.Cells.{Sizes};
+ghost use Rattle.plane_checks.specs.Fit.{CellsLong};
 ghost use Rattle.plane.specs.Checked.{gridCheck};
 
 // The checks of what the cells hold, 6 and 7, whatever the qindex.
@@ -31,7 +32,7 @@ fn grid_check(
     keep: &[u8],
     s: Plane,
 ) -> Answer
-    requires { ⌜ Sizes s × Long (s .rows * s .cols) (length (now vedge)) (length (now hedge)) (length (now sqw)) (length (now sqh)) (length (now keep)) ⌝ }
+    requires { ⌜ Sizes s × CellsLong (s .rows * s .cols) (length (now vedge)) (length (now hedge)) (length (now sqw)) (length (now sqh)) (length (now keep)) ⌝ }
     ensures { λ a. ⌜ ((q : List ℕ) → a ≡ gridCheck s (keeping (now (vedge .entry)) (now (hedge .entry)) (now (sqw .entry)) (now (sqh .entry)) q (now (tiles .entry)) (now (keep .entry)))) ⌝ }
 {
     let bad = bad_cell(vedge, hedge, sqw, sqh, keep, s);

@@ -1,8 +1,8 @@
 // The edge of a cell: its place, its pair of lengths, and its thresholds from the plane's table.
 use crate::table::entry;
-use cells::pair::cell_before;
-use cells::pair::cell_of;
-use cells::pair::pair_at;
+use cell_edges::pair::cell_before;
+use cell_edges::pair::cell_of;
+use cell_edges::pair::pair_at;
 use rules::edge::Edge;
 use rules::settings::Plane;
 use thresholds::by_qindex::q_of;
@@ -12,7 +12,7 @@ ghost use Prim.Native.Nat.{_*_, _≤_};
 ghost use lib.ListN.{length};
 ghost use mathlib.Core.Bool.{true};
 ghost use Rattle.rules.specs.Numbers.{depthOk};
-ghost use Rattle.cells.specs.Fit.{Sizes, Inner, Indices, shortBy};
+ghost use Rattle.cell_edges.specs.Cells.{Sizes, Inner, Indices, shortBy};
 ghost use Rattle.plane.specs.Run.{Levels, startBy, IsEdgeAt};
 
 // The edge of a cell that has one.

@@ -5,9 +5,9 @@ use crate::edge::edge_at;
 use crate::part::Part;
 use crate::part::superblock;
 use crate::visited::Visited;
-use cells::pair::by_dir;
-use cells::pair::is_edge;
-use cells::pair::shortened_by;
+use cell_edges::pair::by_dir;
+use cell_edges::pair::is_edge;
+use cell_edges::pair::shortened_by;
 use kept::filter_marked;
 use records::note;
 use rules::depth::Depth;
@@ -18,7 +18,7 @@ ghost use lib.Dec.{eqb};
 ghost use lib.ListN.{length};
 ghost use Rattle.laws.specs.Choose.{pick};
 ghost use Rattle.rules.specs.Plane.{tiled, visitOf, sbCols, turnOf, edgesOf};
-ghost use Rattle.cells.specs.Fit.{Sizes, Cell, oneWay, shortBy};
+ghost use Rattle.cell_edges.specs.Cells.{Sizes, Cell, oneWay, shortBy};
 ghost use Rattle.plane.specs.Run.{startBy, Field, PartOf, InPart, inLine, lineOf, inSweep, none, Most, state, Ran, RanFew};
 
 // Whether a cell's edge is shortened. Tile starts are looked up for a vertical edge alone: with less to do for a horizontal one the compiler

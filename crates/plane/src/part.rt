@@ -4,7 +4,7 @@ use rules::settings::Plane;
 ghost use mathlib.Core.Path.{_≡_};
 ghost use Prim.Native.Nat.{_<_};
 ghost use Rattle.rules.specs.Plane.{sbCols};
-ghost use Rattle.cells.specs.Fit.{Sizes};
+ghost use Rattle.cell_edges.specs.Cells.{Sizes};
 ghost use Rattle.plane.specs.Run.{superblockOf};
 
 // So many rows from a row, and so many columns from a column.

@@ -1,5 +1,5 @@
 // A table that a plane makes once and reads at each edge: the thresholds of each qindex, and from entry 1416 on a 1 for each column that starts a tile.
-use cells::starts::starts_tile;
+use cell_edges::starts::starts_tile;
 ghost use mathlib.Core.Path.{_≡_};
 ghost use Prim.Native.Nat.{min};
 ghost use lib.ListN.{getD};

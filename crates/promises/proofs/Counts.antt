@@ -25,7 +25,7 @@ use Rattle.rules.specs.Counts.{storedAt, storedBy}
 use Rattle.rules.specs.Plane.{Grid, keptBy, edgesOf, runStored, runChanged, planeCheck, planeStored, planeChanged}
 use Rattle.segment.specs.Promises.{narrowAt}
 use Rattle.segment.proofs.Counts.{stored-is, stored-within, total-le, run-changed}
-use Rattle.cells.specs.Fit.{Sizes}
+use Rattle.cell_edges.specs.Cells.{Sizes}
 use Rattle.plane.specs.Checked.{Stated}
 use Rattle.plane.proofs.Accepting.{checked}
 use Rattle.orders.proofs.Once.{edges-most, stores-most}

@@ -9,8 +9,8 @@ use Rattle.rules.specs.declared.refusals.PlaneAnswer.{PlaneAnswer}
 use Rattle.rules.specs.Refusals.{orElse}
 use Rattle.rules.specs.Thresholds.{stepsCheck, deltasCheck}
 use Rattle.rules.specs.Plane.{Grid, tilesCheck, planeCheck}
-use Rattle.scan.specs.Exactly.{chain, Exactly}
-use Rattle.scan.proofs.Exactly.{else-joined, exactly}
+use Rattle.checks.specs.Exactly.{chain, Exactly}
+use Rattle.checks.proofs.Exactly.{else-joined, exactly}
 use Rattle.plane.specs.Checked.{Stated}
 use Rattle.promises.specs.Exactly.{planeTests}
 

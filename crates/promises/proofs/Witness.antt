@@ -15,11 +15,11 @@ use Rattle.rules.specs.declared.refusals.Answer.{Answer}
 use Rattle.rules.specs.declared.refusals.Answer.the-variants.{Accepted}
 use Rattle.plane.specs.Checked.{Stated}
 use Rattle.rules.specs.Numbers.{depthOk, topOf, highestOf, offsetOf, shiftOf, inRange, inRangeZ, deltaOk}
-use Rattle.rules.specs.Refusals.{orElse, unless, found, settle, first, sooner, foundIf, foundUnless, over, overRow, overBox}
+use Rattle.rules.specs.Refusals.{orElse, unless, found, settle, first, sooner, foundIf, foundUnless, overTop, overRow, overBox}
 use Rattle.rules.specs.Thresholds.{indexOf, stepOf, quantOf, lowered, sideOf, bothOf, qThreshold, sideThreshold, stepGood, badStep, stepsCheck, deltasCheck}
 use Rattle.rules.specs.Lengths.{lengthBefore, lengthAfter, mostBefore, mostAfter, reachOf, reachBefore, reachAfter, pairOf}
 use Rattle.rules.specs.Width.{bendOf, slopeOf, steepOf, atDistance, failsOf, fromOf, farOf, wideOf, gradeOf, widthOf}
-use Rattle.rules.specs.Segment.{placeOf, hasRoom, lineOf, linesOf, windowOf, chosenOf, lineStores, fourStores, storesOf, keptIn, segmentOf, runEdges}
+use Rattle.rules.specs.Segment.{edgePlace, hasRoom, lineOf, linesOf, windowOf, chosenOf, lineStores, fourStores, storesOf, keptIn, segmentOf, runEdges}
 use Rattle.rules.specs.Counts.{storedAt, changedAt, storedBy, changedBy}
 use Rattle.rules.specs.Plane.{Grid, keeping, cellOf, cellBefore, marksOf, indicesOf, cappedOf, indexAt, shortenedAt, edgeAt, isEdge, visitOf, startOf, countOf, sbCols, sweepOf, columnOf, turnOf, edgesOf, runPlane, runStored, runChanged}
 use Rattle.rules.specs.Plane.{planeSizesOk, planeLengthsOk, badStart, tilesCheck, cellGood, badCell, edgeRoom, lacksRoom, lacksRow, lacksDir, noRoom, overPlane, planeCheck, planeAfter, planeStored, planeChanged}
@@ -43,21 +43,21 @@ abbrev pub samples : List ℕ
 samples = four (100 ∷ 100 ∷ 100 ∷ 100 ∷ 108 ∷ 108 ∷ 108 ∷ 108 ∷ [])
 
 pub accepted : (planeCheck settings steps (cells 0) samples ≡ Accepted) × (planeCheck settings steps (cells 1) samples ≡ Accepted)
-unfolding each pick either both all depthOk topOf inRange inRangeZ deltaOk orElse unless found first sooner foundIf foundUnless over overRow overBox stepGood badStep stepsCheck deltasCheck lengthBefore lengthAfter reachOf reachBefore reachAfter pairOf hasRoom cellOf cellBefore marksOf indicesOf
+unfolding each pick either both all depthOk topOf inRange inRangeZ deltaOk orElse unless found first sooner foundIf foundUnless overTop overRow overBox stepGood badStep stepsCheck deltasCheck lengthBefore lengthAfter reachOf reachBefore reachAfter pairOf hasRoom cellOf cellBefore marksOf indicesOf
     cappedOf indexAt shortenedAt isEdge planeSizesOk planeLengthsOk badStart tilesCheck cellGood badCell edgeRoom lacksRoom lacksRow lacksDir noRoom overPlane planeCheck
 accepted = (refl, refl)
 
 -- three samples each side of four lines are stored, and each of them differs from before
 filtered : (runPlane settings steps (cells 0) samples ≡ four (100 ∷ 101 ∷ 102 ∷ 103 ∷ 105 ∷ 106 ∷ 107 ∷ 108 ∷ [])) × (runStored settings steps (cells 0) samples ≡ 24) × (runChanged settings steps (cells 0) samples ≡ 24)
 unfolding each filled puts outside pick either both topOf highestOf offsetOf shiftOf indexOf stepOf quantOf lowered sideOf bothOf qThreshold sideThreshold lengthBefore lengthAfter mostBefore mostAfter reachOf reachBefore reachAfter pairOf bendOf slopeOf steepOf atDistance failsOf fromOf farOf wideOf gradeOf
-    widthOf placeOf lineOf linesOf windowOf chosenOf lineStores fourStores storesOf keptIn segmentOf runEdges cellOf cellBefore marksOf indicesOf cappedOf indexAt shortenedAt isEdge edgeAt visitOf startOf countOf sbCols sweepOf columnOf turnOf edgesOf runPlane differ changes storedAt changedAt storedBy
+    widthOf edgePlace lineOf linesOf windowOf chosenOf lineStores fourStores storesOf keptIn segmentOf runEdges cellOf cellBefore marksOf indicesOf cappedOf indexAt shortenedAt isEdge edgeAt visitOf startOf countOf sbCols sweepOf columnOf turnOf edgesOf runPlane differ changes storedAt changedAt storedBy
     changedBy runStored runChanged
 filtered = (refl, refl, refl)
 
 -- kept samples are read and not stored: the other side is as before, and half as many are counted
 filtered-kept : (runPlane settings steps (cells 1) samples ≡ four (100 ∷ 100 ∷ 100 ∷ 100 ∷ 105 ∷ 106 ∷ 107 ∷ 108 ∷ [])) × (runStored settings steps (cells 1) samples ≡ 12) × (runChanged settings steps (cells 1) samples ≡ 12)
 unfolding each filled puts outside pick either both topOf highestOf offsetOf shiftOf indexOf stepOf quantOf lowered sideOf bothOf qThreshold sideThreshold lengthBefore lengthAfter mostBefore mostAfter reachOf reachBefore reachAfter pairOf bendOf slopeOf steepOf atDistance failsOf fromOf farOf wideOf gradeOf
-    widthOf placeOf lineOf linesOf windowOf chosenOf lineStores fourStores storesOf keptIn segmentOf runEdges cellOf cellBefore marksOf indicesOf cappedOf indexAt shortenedAt isEdge edgeAt visitOf startOf countOf sbCols sweepOf columnOf turnOf edgesOf runPlane differ changes storedAt changedAt storedBy
+    widthOf edgePlace lineOf linesOf windowOf chosenOf lineStores fourStores storesOf keptIn segmentOf runEdges cellOf cellBefore marksOf indicesOf cappedOf indexAt shortenedAt isEdge edgeAt visitOf startOf countOf sbCols sweepOf columnOf turnOf edgesOf runPlane differ changes storedAt changedAt storedBy
     changedBy runStored runChanged
 filtered-kept = (refl, refl, refl)
 

@@ -8,7 +8,7 @@ use Rattle.rules.specs.declared.settings.Plane.{Plane}
 use Rattle.rules.specs.Numbers.{depthOk, deltaOk}
 use Rattle.rules.specs.Thresholds.{badStep}
 use Rattle.rules.specs.Plane.{Grid, planeSizesOk, planeLengthsOk, badStart, badCell, noRoom, overPlane}
-use Rattle.scan.specs.Exactly.{ask, seek, seekAny, andThen, Check, check}
+use Rattle.checks.specs.Exactly.{ask, seek, seekAny, andThen, Check, check}
 
 abbrev pub planeTests : Plane → List ℕ → Grid → List ℕ → List Check
 planeTests s steps g l =

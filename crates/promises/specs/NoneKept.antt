@@ -16,7 +16,7 @@ use Rattle.rules.specs.declared.refusals.Answer.{Answer}
 use Rattle.rules.specs.Numbers.{depthOk}
 use Rattle.rules.specs.Refusals.{orElse, unless, found, first, foundUnless}
 use Rattle.rules.specs.Thresholds.{stepsCheck, deltasCheck}
-use Rattle.rules.specs.Segment.{placeOf, windowOf, storesOf}
+use Rattle.rules.specs.Segment.{edgePlace, windowOf, storesOf}
 use Rattle.rules.specs.Plane.{Grid, tiled, planeSizesOk, tilesCheck, noRoom, overPlane}
 
 -- the cells without their keep marks
@@ -56,7 +56,7 @@ checkBefore s steps g l =
 -- ---- the run: every store of every edge
 
 abbrev pub storesBefore : ℕ → ℕ → Edge → List ℕ → List Store
-storesBefore top stride e l = storesOf top (placeOf stride e) (windowOf (placeOf stride e) l)
+storesBefore top stride e l = storesOf top (edgePlace stride e) (windowOf (edgePlace stride e) l)
 
 abbrev pub segmentBefore : ℕ → ℕ → Edge → List ℕ → List ℕ
 segmentBefore top stride e l = puts (storesBefore top stride e l) l

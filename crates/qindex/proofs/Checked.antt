@@ -14,8 +14,8 @@ use Rattle.rules.specs.declared.refusals.Answer.the-variants.{Accepted}
 use Rattle.rules.specs.Numbers.{inRange, subsamplingOk}
 use Rattle.rules.specs.TuGrid.{cellsOk}
 use Rattle.rules.specs.QindexGrid.{qGridCheck}
-use Rattle.scan.proofs.Ranges.{in-range}
-use Rattle.scan.proofs.Checks.{else-parts, unless-true}
+use Rattle.checks.proofs.Ranges.{in-range}
+use Rattle.checks.proofs.Checks.{else-parts, unless-true}
 use Rattle.tiles.proofs.Places.{cells-fit}
 use Rattle.tiles.proofs.Checked.{cols-most, rows-most, ssx-most, ssy-most}
 use Rattle.qindex.specs.Fit.{QFit}

@@ -12,8 +12,8 @@ use Rattle.rules.specs.Numbers.{inRange, subsamplingOk}
 use Rattle.rules.specs.Refusals.{orElse, unless}
 use Rattle.rules.specs.TuGrid.{cellsOk}
 use Rattle.rules.specs.QindexGrid.{qGridCheck}
-use Rattle.scan.specs.Exactly.{Exactly}
-use Rattle.scan.proofs.Exactly.{exactly}
+use Rattle.checks.specs.Exactly.{Exactly}
+use Rattle.checks.proofs.Exactly.{exactly}
 use Rattle.qindex.specs.Exactly.{qTests}
 
 pub q-exactly : (s : QindexGrid) (sbq q : List ℕ) {r : Answer} → r ≡ qGridCheck s sbq q → Exactly r (qTests s sbq q)

@@ -8,7 +8,7 @@ use Rattle.laws.specs.Choose.{all}
 use Rattle.rules.specs.declared.settings.QindexGrid.{QindexGrid}
 use Rattle.rules.specs.Numbers.{inRange, subsamplingOk}
 use Rattle.rules.specs.TuGrid.{cellsOk}
-use Rattle.scan.specs.Exactly.{ask, Check, check}
+use Rattle.checks.specs.Exactly.{ask, Check, check}
 
 abbrev pub qTests : QindexGrid → List ℕ → List ℕ → List Check
 qTests s sbq q =

@@ -11,8 +11,8 @@ use Rattle.rules.specs.declared.refusals.RecordAnswer.{RecordAnswer}
 use Rattle.rules.specs.Refusals.{orElse}
 use Rattle.rules.specs.Plane.{Grid}
 use Rattle.rules.specs.Record.{recordedCheck, answerBytes, recordedAnswer}
-use Rattle.scan.specs.Exactly.{Check, chain, Exactly}
-use Rattle.scan.proofs.Exactly.{chain-joined, exactly}
+use Rattle.checks.specs.Exactly.{Check, chain, Exactly}
+use Rattle.checks.proofs.Exactly.{chain-joined, exactly}
 use Rattle.promises.specs.Exactly.{planeTests}
 use Rattle.promises.proofs.Exactly.{plane-chain}
 use Rattle.recorded.specs.Stated.{Stated}

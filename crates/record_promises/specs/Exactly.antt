@@ -10,7 +10,7 @@ use Rattle.rules.specs.declared.refusals.Recorded.{Recorded}
 use Rattle.rules.specs.declared.refusals.Recorded.the-variants.{Bytes, Refused as «NoRecord»}
 use Rattle.rules.specs.Plane.{Grid}
 use Rattle.rules.specs.Record.{edgeCount}
-use Rattle.scan.specs.Exactly.{ask, Check, check}
+use Rattle.checks.specs.Exactly.{ask, Check, check}
 use Rattle.promises.specs.Exactly.{planeTests}
 
 -- "room less than 5 + 10 times the marked edges (column 0 and row 0 left out), tested after 8"; n is the buffer's length

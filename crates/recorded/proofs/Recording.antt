@@ -18,7 +18,7 @@ use Rattle.rules.specs.declared.refusals.Recorded.the-variants.{Bytes, Refused 
 use Rattle.rules.specs.Refusals.{settle}
 use Rattle.rules.specs.Plane.{Grid, keeping, edgesOf, runPlane, planeCheck}
 use Rattle.rules.specs.Record.{header, recordOf, edgeCount, recordedCheck, answerBytes, recordedAnswer, recordedPlane, recordedBuffer, recordedStored, recordedChanged}
-use Rattle.scan.proofs.Checks.{stop-by, go-on-by, unless-bad, unless-good, unless-true, else-parts, settle-refused-by, settle-accepted-by}
+use Rattle.checks.proofs.Checks.{stop-by, go-on-by, unless-bad, unless-good, unless-true, else-parts, settle-refused-by, settle-accepted-by}
 use Rattle.records.proofs.RoundTrip.{record-length}
 use Rattle.records.proofs.Noted.{record-noted}
 use Rattle.plane.specs.declared.visited.Visited.{Visited}

@@ -6,7 +6,7 @@ use Rattle.laws.specs.Sums.{sum}
 use Rattle.laws.specs.Tests.{bit}
 use Rattle.rules.specs.declared.settings.Plane.{Plane}
 use Rattle.rules.specs.Plane.{isEdge}
-use Rattle.cells.specs.Fit.{Sizes, marked}
+use Rattle.cell_edges.specs.Cells.{Sizes, marked}
 
 -- accepted sizes, and marks for every cell
 pub record Marks (s : Plane) (v h : ℕ) : Type 0 where

@@ -1,5 +1,5 @@
 // How many edges of a plane are marked, column 0 and row 0 left out: the record's room is known before anything is written.
-use cells::pair::is_edge;
+use cell_edges::pair::is_edge;
 use rules::settings::Plane;
 ghost use mathlib.Core.Path.{_≡_};
 ghost use mathlib.Core.List.{List};
@@ -9,7 +9,7 @@ ghost use Rattle.laws.specs.Sums.{sum};
 ghost use Rattle.laws.specs.Tests.{bit};
 ghost use Rattle.rules.specs.Plane.{keeping};
 ghost use Rattle.rules.specs.Record.{edgeCount};
-ghost use Rattle.cells.specs.Fit.{Sizes};
+ghost use Rattle.cell_edges.specs.Cells.{Sizes};
 ghost use Rattle.recorded.specs.Count.{Marks, inCell, inRow};
 
 fn one_if(there: bool) -> usize

@@ -15,11 +15,11 @@ use Rattle.rules.specs.declared.refusals.Answer.the-variants.{Accepted, Refused
 use Rattle.rules.specs.declared.refusals.Refusal.{Refusal}
 use Rattle.rules.specs.TuGrid.{cellsOk}
 use Rattle.rules.specs.Keep.{keptOf, keepCheck, keepAfter}
-use Rattle.scan.proofs.Ranges.{in-range}
-use Rattle.scan.proofs.Checks.{else-parts, unless-true, refused-by, accepted-by, settle-refused-by, settle-accepted-by}
+use Rattle.checks.proofs.Ranges.{in-range}
+use Rattle.checks.proofs.Checks.{else-parts, unless-true, refused-by, accepted-by, settle-refused-by, settle-accepted-by}
 use Rattle.tiles.proofs.Places.{cells-fit}
 use Rattle.tiles.proofs.Checked.{cols-most, rows-most}
-use Rattle.rectangle.specs.Cut.{Fit}
+use Rattle.rectangle.specs.Cut.{RectangleFits}
 use Rattle.rectangle.specs.Stated.{Stated}
 
 -- the number of cells fits a word once the sizes are accepted
@@ -27,7 +27,7 @@ pub keep-cells : (s : Keep) → true ≡ cellsOk (s .cols) (s .rows) → Fits w6
 keep-cells s e = cells-fit (s .rows) (s .cols) (rows-most _ _ (sym e)) (cols-most _ _ (sym e))
 
 -- all that setting the marks asks for
-pub keep-accepted : (s : Keep) (k : List ℕ) → keepCheck s k ≡ Accepted → Fit s (length k)
+pub keep-accepted : (s : Keep) (k : List ℕ) → keepCheck s k ≡ Accepted → RectangleFits s (length k)
 unfolding keepCheck cellsOk
 keep-accepted s k e =
     let p = else-parts _ _ e in
@@ -41,7 +41,7 @@ pub keep-refused : {s : Keep} {k : List ℕ} {a : Answer} {r : Refusal} → a �
 unfolding keepAfter
 keep-refused e f = record { answer = refused-by _ _ e f; marks = settle-refused-by _ _ _ _ e f }
 
-pub keep-fit : (s : Keep) (k : List ℕ) {a : Answer} → a ≡ keepCheck s k → a ≡ Accepted → Fit s (length k)
+pub keep-fit : (s : Keep) (k : List ℕ) {a : Answer} → a ≡ keepCheck s k → a ≡ Accepted → RectangleFits s (length k)
 keep-fit s k e f = keep-accepted s k (sym e ∙ f)
 
 pub keep-stated : {s : Keep} {k n : List ℕ} {a : Answer} → a ≡ keepCheck s k → a ≡ Accepted → n ≡ keptOf s k → Stated s k Accepted n

@@ -9,12 +9,12 @@ use Rattle.rules.specs.declared.settings.Keep.{Keep}
 use Rattle.rules.specs.declared.refusals.Answer.{Answer}
 use Rattle.rules.specs.declared.refusals.Answer.the-variants.{Accepted}
 use Rattle.rules.specs.Numbers.{inRange}
-use Rattle.rules.specs.Refusals.{orElse, unless, found, settle, sooner, first, foundIf, over}
+use Rattle.rules.specs.Refusals.{orElse, unless, found, settle, sooner, first, foundIf, overTop}
 use Rattle.rules.specs.TuGrid.{cellsOk}
 use Rattle.rules.specs.Plane.{badKeep}
 use Rattle.rules.specs.Keep.{inRectangle, keptAt, keptOf, keepCheck, keepAfter}
-use Rattle.scan.specs.Exactly.{Exactly}
-use Rattle.scan.proofs.Exactly.{exactly}
+use Rattle.checks.specs.Exactly.{Exactly}
+use Rattle.checks.proofs.Exactly.{exactly}
 use Rattle.rectangle.specs.Exactly.{keepTests}
 
 pub keep-exactly : (s : Keep) (keep : List ℕ) {r : Answer} → r ≡ keepCheck s keep → Exactly r (keepTests s keep)
@@ -30,18 +30,18 @@ abbrev last : ℕ → Keep
 last h = record { cols = 3; rows = 2; row = 0; col = 2; h = h; w = 9 }
 
 pub keep-accepts : keepCheck (last 1) lent ≡ Accepted
-unfolding both inRange orElse unless found sooner first foundIf over cellsOk badKeep keepCheck
+unfolding both inRange orElse unless found sooner first foundIf overTop cellsOk badKeep keepCheck
 keep-accepts = refl
 
 -- cut to the plane, it keeps one cell, one in each row, or none
 pub keep-one : keepAfter (last 1) lent ≡ 1 ∷ 0 ∷ 1 ∷ 0 ∷ 0 ∷ 0 ∷ 7 ∷ []
-unfolding pick both all filled inRange orElse unless found settle sooner first foundIf over cellsOk inRectangle keptAt keptOf badKeep keepCheck keepAfter
+unfolding pick both all filled inRange orElse unless found settle sooner first foundIf overTop cellsOk inRectangle keptAt keptOf badKeep keepCheck keepAfter
 keep-one = refl
 
 pub keep-each : keepAfter (last 9) lent ≡ 1 ∷ 0 ∷ 1 ∷ 0 ∷ 0 ∷ 1 ∷ 7 ∷ []
-unfolding pick both all filled inRange orElse unless found settle sooner first foundIf over cellsOk inRectangle keptAt keptOf badKeep keepCheck keepAfter
+unfolding pick both all filled inRange orElse unless found settle sooner first foundIf overTop cellsOk inRectangle keptAt keptOf badKeep keepCheck keepAfter
 keep-each = refl
 
 pub keep-none : keepAfter (last 0) lent ≡ lent
-unfolding pick both all filled inRange orElse unless found settle sooner first foundIf over cellsOk inRectangle keptAt keptOf badKeep keepCheck keepAfter
+unfolding pick both all filled inRange orElse unless found settle sooner first foundIf overTop cellsOk inRectangle keptAt keptOf badKeep keepCheck keepAfter
 keep-none = refl

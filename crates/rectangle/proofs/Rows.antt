@@ -19,7 +19,7 @@ use Rattle.rules.specs.declared.settings.Keep.{Keep}
 use Rattle.rules.specs.Keep.{inRectangle, keptAt, keptOf}
 use Rattle.tiles.proofs.Turns.{turns-hit, set-keeps}
 use Rattle.tiles.proofs.Places.{place-below, same-row, same-col, row-fits, cell-fits}
-use Rattle.rectangle.specs.Cut.{Fit, partOf, rowSet, rowsSet, Inside}
+use Rattle.rectangle.specs.Cut.{RectangleFits, partOf, rowSet, rowsSet, Inside}
 
 -- ---- the row and the column of a cell
 
@@ -142,7 +142,7 @@ module _ (s : Keep) (l : List ℕ) where
 
 -- ---- what the code's needs ask
 
-module _ {s : Keep} {n high wide i : ℕ} (fit : Fit s n) (eh : high ≡ partOf (s .row) (s .h) (s .rows)) (ew : wide ≡ partOf (s .col) (s .w) (s .cols)) (some : wide ≡ 0 → ⊥) (hi : i < high) where
+module _ {s : Keep} {n high wide i : ℕ} (fit : RectangleFits s n) (eh : high ≡ partOf (s .row) (s .h) (s .rows)) (ew : wide ≡ partOf (s .col) (s .w) (s .cols)) (some : wide ≡ 0 → ⊥) (hi : i < high) where
   -- a row of the rectangle lies in a list as long as the lent one
   pub row-inside : {m : ℕ} → m ≡ n → (s .row + i) * s .cols + s .col + wide ≤ m
   row-inside e =
@@ -159,11 +159,11 @@ module _ {s : Keep} {n high wide i : ℕ} (fit : Fit s n) (eh : high ≡ partOf 
   pub start-fits : Fits w64 ((s .row + i) * s .cols + s .col)
   start-fits = cell-fits (s .row + i) (s .rows) (s .col) (s .cols) (omega arith) (omega arith) (fit .rows-most) (fit .cols-most)
 
-pub cut-done : {s : Keep} {high wide i : ℕ} (l : List ℕ) {m : List ℕ} → Fit s (length l) → high ≡ partOf (s .row) (s .h) (s .rows) → wide ≡ partOf (s .col) (s .w) (s .cols) → m ≡ turns i (λ k. rowSet ((s .row + k) * s .cols + s .col) wide) l → i ≤ high → high ≤ i → m ≡ keptOf s l
+pub cut-done : {s : Keep} {high wide i : ℕ} (l : List ℕ) {m : List ℕ} → RectangleFits s (length l) → high ≡ partOf (s .row) (s .h) (s .rows) → wide ≡ partOf (s .col) (s .w) (s .cols) → m ≡ turns i (λ k. rowSet ((s .row + k) * s .cols + s .col) wide) l → i ≤ high → high ≤ i → m ≡ keptOf s l
 unfolding rowsSet
 cut-done {s} l fit eh ew e a b = turns-end _ l _ _ e a b ∙ rw (eh, ew) (rectangle-is s l (fit .some) (fit .long))
 
-pub cut-none : {s : Keep} {wide : ℕ} (l : List ℕ) → Fit s (length l) → wide ≡ partOf (s .col) (s .w) (s .cols) → wide ≡ 0 → l ≡ keptOf s l
+pub cut-none : {s : Keep} {wide : ℕ} (l : List ℕ) → RectangleFits s (length l) → wide ≡ partOf (s .col) (s .w) (s .cols) → wide ≡ 0 → l ≡ keptOf s l
 cut-none {s} l fit ew e = rectangle-none s l (fit .some) (fit .long) (sym ew ∙ e)
 
 pub ruleset rectangles = (needs, turns-none, turns-more, row-inside, first-fits, line-fits, start-fits, cut-done, cut-none)

@@ -17,13 +17,13 @@ use Rattle.rules.specs.declared.refusals.Answer.the-variants.{Accepted, Refused
 use Rattle.rules.specs.declared.refusals.Refusal.{Refusal}
 use Rattle.rules.specs.declared.refusals.Refusal.the-variants.{Cell}
 use Rattle.rules.specs.declared.refusals.Found.the-variants.{Nothing}
-use Rattle.rules.specs.Refusals.{settle, over}
+use Rattle.rules.specs.Refusals.{settle, overTop}
 use Rattle.rules.specs.Plane.{badKeep}
 use Rattle.rules.specs.Keep.{inRectangle, keptAt, keptOf, keepCheck, keepAfter}
-use Rattle.scan.proofs.First.{nothing-all, all-nothing, over-good, over-nothing}
-use Rattle.scan.proofs.Checks.{else-parts, found-nothing}
+use Rattle.checks.proofs.First.{nothing-all, all-nothing, over-good, over-nothing}
+use Rattle.checks.proofs.Checks.{else-parts, found-nothing}
 use Rattle.tiles.proofs.Places.{place-below}
-use Rattle.rectangle.specs.Cut.{Fit, Inside}
+use Rattle.rectangle.specs.Cut.{RectangleFits, Inside}
 use Rattle.rectangle.specs.Stated.{Stated}
 use Rattle.rectangle.proofs.Rows.{inside-true, true-inside, quotient, remainder}
 use Rattle.rectangle.proofs.Checked.{keep-accepted}
@@ -42,7 +42,7 @@ module _ {s : Keep} {k n : List ℕ} (p : Stated s k Accepted n) where
   unfolding keepAfter settle
   done = p .marks ∙ rw (← p .answer)
 
-  fit : Fit s (length k)
+  fit : RectangleFits s (length k)
   fit = keep-accepted s k (sym (p .answer))
 
   -- the marks are as many as before
@@ -106,4 +106,4 @@ module _ {s : Keep} {k n : List ℕ} (p : Stated s k Accepted n) where
       most false x h = h
 
       low : (i : ℕ) → i < s .rows * s .cols → getD n i 0 ≤ 1
-      low i h = rw (entry-is i h) (most (inRectangle s (i / s .cols) (i % s .cols)) (getD k i 0) (over-nothing 1 k i (nothing-all (λ j. over 1 k j) (s .rows * s .cols) was i h)))
+      low i h = rw (entry-is i h) (most (inRectangle s (i / s .cols) (i % s .cols)) (getD k i 0) (over-nothing 1 k i (nothing-all (λ j. overTop 1 k j) (s .rows * s .cols) was i h)))

@@ -7,7 +7,7 @@ use Rattle.laws.specs.Loops.{turns}
 use Rattle.rules.specs.declared.settings.Keep.{Keep}
 
 -- what accepted checks leave in hand: sizes in range, and a mark for every cell
-pub record Fit (s : Keep) (n : ℕ) : Type 0 where
+pub record RectangleFits (s : Keep) (n : ℕ) : Type 0 where
   pub some : 1 ≤ s .cols
   pub cols-most : s .cols ≤ 1024
   pub rows-most : s .rows ≤ 1024

@@ -7,7 +7,7 @@ use lib.ListN.{length}
 use Rattle.rules.specs.declared.settings.Keep.{Keep}
 use Rattle.rules.specs.TuGrid.{cellsOk}
 use Rattle.rules.specs.Plane.{badKeep}
-use Rattle.scan.specs.Exactly.{ask, seek, Check, check}
+use Rattle.checks.specs.Exactly.{ask, seek, Check, check}
 
 abbrev pub keepTests : Keep → List ℕ → List Check
 keepTests s keep =

@@ -3,7 +3,7 @@ ghost use mathlib.Core.Path.{_≡_};
 ghost use Prim.Native.Nat.{_+_, _≤_};
 ghost use lib.ListN.{length};
 ghost use Rattle.rules.specs.Keep.{keptOf};
-ghost use Rattle.rectangle.specs.Cut.{Fit, partOf, rowSet};
+ghost use Rattle.rectangle.specs.Cut.{RectangleFits, partOf, rowSet};
 use laws::least;
 use rules::settings::Keep;
 
@@ -29,7 +29,7 @@ fn set_row(keep: &mut [u8], at: usize, n: usize)
 
 // 1 at every cell of the plane that lies in the rectangle.
 pub fn set_rectangle(keep: &mut [u8], s: Keep)
-    requires { ⌜ Fit s (length (now keep)) ⌝ }
+    requires { ⌜ RectangleFits s (length (now keep)) ⌝ }
     ensures { λ _. ⌜ now (keep .exit) ≡ keptOf s (now (keep .entry)) ⌝ }
 {
     let wide = part(s.col, s.w, s.cols);

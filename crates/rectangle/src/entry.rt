@@ -3,11 +3,11 @@ ghost use mathlib.Core.Path.{_≡_};
 ghost use Rattle.rules.specs.Keep.{keepCheck};
 ghost use Rattle.rectangle.specs.Stated.{Stated};
 use crate::cut::set_rectangle;
+use checks::bad_keep;
 use rules::refusals::Answer;
 use rules::refusals::Found;
 use rules::refusals::Refusal;
 use rules::settings::Keep;
-use scan::bad_keep;
 use tiles::checks::cells_ok;
 
 // The first refusal, or none.

@@ -2,11 +2,11 @@
 ghost use lib.ListN.{length};
 ghost use Prim.Native.Nat.{_≤_};
 use crate::say;
-use asked::lists::lists_of;
-use asked::places::Place;
-use asked::told::frame_of;
-use cells::starts::tiles_check;
-use framed::listed::Outcome;
+use by_settings::filters::frame_of;
+use by_settings::lists::lists_of;
+use by_settings::places::Place;
+use frame_by_settings::lists::Outcome;
+use plane_checks::starts::tiles_check;
 use rules::refusals::Answer;
 use rules::refusals::Refusal;
 use rules::refusals::number;

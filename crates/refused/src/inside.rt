@@ -2,7 +2,7 @@
 ghost use lib.ListN.{length};
 ghost use Prim.Native.Nat.{_≤_};
 use crate::say;
-use asked::lists::lists_of;
+use by_settings::lists::lists_of;
 use pictures::outside::outside;
 use pictures::planes::Shape;
 use settings::lines::line_with;

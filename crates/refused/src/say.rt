@@ -1,5 +1,5 @@
 // The lines of an answer: the outcome as one byte (1 refused, 2 a bad file), which stands before any name, and then what is said of a leaf, a setting or a refusal.
-use asked::places::Place;
+use by_settings::places::Place;
 use rules::refusals::Refusal;
 use streams::say::number;
 use streams::say::words;

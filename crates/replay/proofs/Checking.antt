@@ -19,7 +19,7 @@ use Rattle.rules.specs.Refusals.{orElse, found, overBox}
 use Rattle.rules.specs.Record.{edgesIn}
 use Rattle.rules.specs.Plane.{badKeep}
 use Rattle.rules.specs.Replay.{replaySizesOk, replayLong, headerOk, cutEntry, badEntry, noRoomIn, overReplay, recordCheck, replayCheck, replayOf, replayAfter, replayStored, replayChanged}
-use Rattle.scan.proofs.Checks.{stop, stop-by, go-on, go-on-by, unless-bad, unless-good, found-bad, found-good, found-bad-by, found-good-by, settle-refused, settle-accepted, else-parts, unless-true, found-nothing}
+use Rattle.checks.proofs.Checks.{stop, stop-by, go-on, go-on-by, unless-bad, unless-good, found-bad, found-good, found-bad-by, found-good-by, settle-refused, settle-accepted, else-parts, unless-true, found-nothing}
 use Rattle.replay.specs.Fit.{Ranged, Roomy, roomCheck, Runnable, inWord, Ran, Replayed}
 use Rattle.replay.proofs.Entries.{sized-of, header-there}
 

@@ -21,8 +21,8 @@ use Rattle.rules.specs.Segment.{rangesOk, hasRoom, segmentOf, runEdges}
 use Rattle.rules.specs.Counts.{storedAt, changedAt, storedBy, changedBy}
 use Rattle.rules.specs.Record.{edgeIn, entryAt, entryCount, edgesIn}
 use Rattle.rules.specs.Replay.{replaySizesOk, headerOk, cutEntry, firstEntry}
-use Rattle.scan.proofs.First.{first-more, first-found, first-end, found-unless, found-unless-not, nothing-all, unless-nothing}
-use Rattle.scan.proofs.Ranges.{in-range}
+use Rattle.checks.proofs.First.{first-more, first-found, first-end, found-unless, found-unless-not, nothing-all, unless-nothing}
+use Rattle.checks.proofs.Ranges.{in-range}
 use Rattle.lengths.proofs.Inside.{Ranges, ranges-are}
 use Rattle.segment.specs.declared.outcome.Outcome.{Outcome}
 use Rattle.segment.specs.Fit.{InPlane, EdgeFiltered}

@@ -15,8 +15,8 @@ use Rattle.rules.specs.Record.{header}
 use Rattle.rules.specs.Replay.{replaySizesOk, replayLong, headerOk, recordCheck, replayCheck}
 use Rattle.rules.specs.Figures.{flat}
 use Rattle.rules.specs.Orders.{again, entry, orders}
-use Rattle.scan.specs.Exactly.{ask, check, chain, Exactly}
-use Rattle.scan.proofs.Exactly.{exactly, chain-joined}
+use Rattle.checks.specs.Exactly.{ask, check, chain, Exactly}
+use Rattle.checks.proofs.Exactly.{exactly, chain-joined}
 use Rattle.replay.specs.Fit.{Replayed}
 use Rattle.replay.specs.Exactly.{entryTests, roomTests, replayTests}
 

@@ -14,7 +14,7 @@ use Rattle.rules.specs.Segment.{noneKept, runEdges}
 use Rattle.rules.specs.Counts.{storedBy, changedBy}
 use Rattle.rules.specs.Record.{edgesIn}
 use Rattle.rules.specs.Replay.{replayCheck}
-use Rattle.scan.specs.Asked.{Asked}
+use Rattle.checks.specs.Asked.{Asked}
 use Rattle.kept.proofs.Same.{marks-agree, marks-none, run-same, stored-same, changed-same}
 use Rattle.replay.specs.Fit.{inWord, held, Ran, Replayed}
 use Rattle.replay.proofs.Theorems.{accepted-inside, runs-entries}

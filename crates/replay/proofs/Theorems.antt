@@ -25,7 +25,7 @@ use Rattle.rules.specs.Counts.{storedBy, changedBy}
 use Rattle.rules.specs.Record.{header, recordOf, edgeIn, entryAt, entryCount, edgesIn}
 use Rattle.rules.specs.Plane.{badKeep}
 use Rattle.rules.specs.Replay.{replaySizesOk, replayLong, headerOk, cutEntry, firstEntry, overReplay, recordCheck, replayCheck, replayOf, replayAfter, replayStored, replayChanged}
-use Rattle.scan.proofs.First.{unless-nothing}
+use Rattle.checks.proofs.First.{unless-nothing}
 use Rattle.records.specs.Fit.{InBytes}
 use Rattle.records.proofs.RoundTrip.{record-length, read-record, write-record}
 use Rattle.segment.specs.Fit.{InPlane}

@@ -7,7 +7,7 @@ use Rattle.rules.specs.declared.settings.Replay.{Replay}
 use Rattle.rules.specs.Numbers.{depthOk}
 use Rattle.rules.specs.Plane.{badKeep}
 use Rattle.rules.specs.Replay.{replaySizesOk, replayLong, headerOk, cutEntry, badEntry, noRoomIn, overReplay}
-use Rattle.scan.specs.Exactly.{ask, seek, Check, check}
+use Rattle.checks.specs.Exactly.{ask, seek, Check, check}
 
 abbrev pub entryTests : List ℕ → List Check
 entryTests bytes = check 12 (seek (cutEntry bytes)) ∷ check 13 (seek (badEntry bytes)) ∷ []

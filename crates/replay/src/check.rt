@@ -1,4 +1,7 @@
 // The checks of a record, its plane and its keep marks, in ticket 2's order.
+use checks::bad_keep;
+use checks::in_range;
+use checks::samples;
 use lengths::ranges::ranges_ok;
 use lengths::room::has_room;
 use low_first::two_at;
@@ -9,9 +12,6 @@ use rules::refusals::Answer;
 use rules::refusals::Found;
 use rules::refusals::Refusal;
 use rules::settings::Replay;
-use scan::bad_keep;
-use scan::in_range;
-use scan::samples;
 ghost use mathlib.Core.Path.{_≡_};
 ghost use Prim.Native.Nat.{_≤_, _<_};
 ghost use lib.ListN.{length};

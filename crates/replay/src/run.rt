@@ -2,13 +2,13 @@
 use crate::check::count;
 use crate::check::entry;
 use crate::check::replay_check;
+use checks::asked;
 use kept::filter_marked;
 use rules::counts::Counts;
 use rules::depth::Depth;
 use rules::refusals::Answer;
 use rules::refusals::PlaneAnswer;
 use rules::settings::Replay;
-use scan::asked;
 use std::num::wrapping_add_usize;
 ghost use lib.ListN.{length};
 ghost use Rattle.rules.specs.Record.{edgesIn};

@@ -25,7 +25,7 @@ use Rattle.rules.specs.Counts.{storedBy, changedBy}
 use Rattle.rules.specs.Plane.{Grid, keptBy, edgeAt, edgesOf, runPlane, runStored, runChanged, planeSizesOk, overPlane, planeCheck}
 use Rattle.rules.specs.Record.{recordOf, entryCount}
 use Rattle.rules.specs.Replay.{replaySizesOk, overReplay, replayCheck, replayOf, replayAfter, replayStored, replayChanged}
-use Rattle.scan.proofs.Checks.{else-parts, unless-true, found-nothing}
+use Rattle.checks.proofs.Checks.{else-parts, unless-true, found-nothing}
 use Rattle.records.proofs.RoundTrip.{record-length, read-record}
 use Rattle.segment.specs.Fit.{InPlane}
 use Rattle.plane.specs.Checked.{Checked}

@@ -18,11 +18,11 @@ use Rattle.rules.specs.Segment.{keptIn, runEdges}
 use Rattle.rules.specs.Counts.{storedBy, changedBy}
 use Rattle.rules.specs.Plane.{Grid, keeping, keptBy, marksOf, indicesOf, indexAt, shortenedAt, edgeAt, isEdge, visitOf, sweepOf}
 use Rattle.rules.specs.Rows.{ready, bandOf, finalOf}
-use Rattle.scan.specs.Asked.{Asked}
+use Rattle.checks.specs.Asked.{Asked}
 use Rattle.segment.specs.Fit.{InPlane}
 use Rattle.segment.proofs.Counts.{stored-then, changed-then}
 use Rattle.kept.proofs.Same.{marks-agree, run-same, stored-same, changed-same}
-use Rattle.cells.specs.Fit.{oneWay}
+use Rattle.cell_edges.specs.Cells.{oneWay}
 use Rattle.plane.specs.declared.visited.Visited.{Visited}
 use Rattle.plane.specs.Run.{Table, PartOf, none, state, Ran}
 use Rattle.plane.specs.Checked.{Checked}

@@ -23,13 +23,13 @@ use Rattle.rules.specs.Numbers.{depthOk}
 use Rattle.rules.specs.Refusals.{numberOf}
 use Rattle.rules.specs.Plane.{Grid}
 use Rattle.rules.specs.Rows.{countOk, countsOk, settingsCheck, overNew, rowsCheck, rowsAfter, rowsStored, rowsChanged, spentBy, stateAfter, rowsState, finalOf, rowsFinal, callEdges}
-use Rattle.scan.specs.Rows.{Box}
-use Rattle.scan.proofs.Rows.{box-inner}
-use Rattle.scan.proofs.Checks.{stop, stop-by, go-on, go-on-by, unless-bad, unless-good, found-bad-by, found-good-by, else-parts, unless-true, found-nothing, settle-refused, settle-accepted}
+use Rattle.checks.specs.Rows.{Box}
+use Rattle.checks.proofs.Rows.{box-inner}
+use Rattle.checks.proofs.Checks.{stop, stop-by, go-on, go-on-by, unless-bad, unless-good, found-bad-by, found-good-by, else-parts, unless-true, found-nothing, settle-refused, settle-accepted}
 use Rattle.plane.specs.declared.visited.Visited.{Visited}
 use Rattle.plane.specs.Checked.{Checked}
 use Rattle.plane.proofs.Accepting.{settled, checked-samples}
-use Rattle.cells.specs.Fit.{Sizes}
+use Rattle.cell_edges.specs.Cells.{Sizes}
 use Rattle.rows.specs.Ran.{RanBand}
 use Rattle.rows.specs.Stated.{Stated}
 

@@ -1,12 +1,12 @@
 // The edges of a call: the vertical edges of the newly filled rows of cells, then the horizontal edges that are done now and were not before.
 use crate::counts::ready_rows;
+use checks::asked;
 use plane::Part;
 use plane::Visited;
 use plane::sweep;
 use plane::table_of;
 use rules::depth::Depth;
 use rules::settings::Plane;
-use scan::asked;
 use thresholds::by_qindex::thresholds_by_qindex;
 ghost use mathlib.Core.List.{List};
 ghost use Prim.Native.Nat.{ℕ, _≤_};

@@ -1,5 +1,6 @@
 // The checks of a call in ticket 8's order: 15, document 01's 1 to 7, 14, and 8 over the newly filled rows.
 use crate::counts::counts_ok;
+use checks::samples;
 use plane::settings_check;
 use rules::depth::Depth;
 use rules::refusals::Answer;
@@ -7,7 +8,6 @@ use rules::refusals::Found;
 use rules::refusals::Refusal;
 use rules::rows::RowState;
 use rules::settings::Plane;
-use scan::samples;
 ghost use mathlib.Core.Path.{_≡_};
 ghost use mathlib.Core.Bool.{true};
 ghost use Prim.Native.Nat.{_*_, _≤_};
@@ -15,7 +15,7 @@ ghost use lib.ListN.{length};
 ghost use Rattle.rules.specs.Numbers.{depthOk};
 ghost use Rattle.rules.specs.Plane.{keeping};
 ghost use Rattle.rules.specs.Rows.{overNew, rowsCheck};
-ghost use Rattle.cells.specs.Fit.{Sizes};
+ghost use Rattle.cell_edges.specs.Cells.{Sizes};
 
 // The first sample over top in the rows from held to filled.
 fn over_new(plane: &[u16], s: Plane, held: usize, filled: usize) -> Found

@@ -15,7 +15,7 @@ use Rattle.laws.specs.Footprints.{Agree, reads-all, widen}
 use Rattle.laws.specs.Boxes.{Box, inBox, Inside, in-inside}
 use Rattle.rules.specs.declared.edge.Edge.{Edge}
 use Rattle.rules.specs.declared.edge.Line.{Line}
-use Rattle.rules.specs.Segment.{placeOf, windowOf, storesOf, openStores, segmentOf, runEdges}
+use Rattle.rules.specs.Segment.{edgePlace, windowOf, storesOf, openStores, segmentOf, runEdges}
 use Rattle.rules.specs.Counts.{storedAt, changedAt, storedBy, changedBy}
 use Rattle.segment.specs.Fit.{InPlane}
 use Rattle.segment.specs.Boxes.{readBox, writeBox}
@@ -54,7 +54,7 @@ module _ (top stride : ℕ) (kept : ℕ → Bool) (columns rows size : ℕ) (b :
         → (l m : List ℕ) → SameIn l m
         → tell (openStores top stride kept e l) l ≡ tell (openStores top stride kept e m) m
     told-agree tell same l m g =
-        ap (λ (ls : List Line). tell (outside kept (storesOf top (placeOf stride e) ls)) l) (same-window stride e (h .0) l m (seen l m g))
+        ap (λ (ls : List Line). tell (outside kept (storesOf top (edgePlace stride e) ls)) l) (same-window stride e (h .0) l m (seen l m g))
         ∙ same (openStores top stride kept e m) l m
         (each-map (λ st. T (inBox stride (writeBox e) (st .0))) (λ st. getD l (st .0) 0 ≡ getD m (st .0) 0) (λ st w. g (st .0) (writes-in (st .0) w))
         (openStores top stride kept e m) (open-in stride e (h .0) top kept m))

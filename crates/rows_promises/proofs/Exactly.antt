@@ -10,8 +10,8 @@ use Rattle.rules.specs.declared.refusals.Answer.{Answer}
 use Rattle.rules.specs.Thresholds.{stepsCheck, deltasCheck}
 use Rattle.rules.specs.Plane.{Grid, tilesCheck}
 use Rattle.rules.specs.Rows.{settingsCheck, rowsCheck}
-use Rattle.scan.specs.Exactly.{chain, Exactly}
-use Rattle.scan.proofs.Exactly.{else-joined, exactly}
+use Rattle.checks.specs.Exactly.{chain, Exactly}
+use Rattle.checks.proofs.Exactly.{else-joined, exactly}
 use Rattle.rows.specs.Stated.{Stated}
 use Rattle.rows_promises.specs.Exactly.{rowsTests}
 

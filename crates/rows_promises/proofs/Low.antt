@@ -9,10 +9,10 @@ use lib.ListN.{getD}
 use Rattle.rules.specs.declared.settings.Plane.{Plane}
 use Rattle.rules.specs.declared.refusals.Found.the-variants.{Nothing}
 use Rattle.rules.specs.Numbers.{topOf}
-use Rattle.rules.specs.Refusals.{over, overRow, overBox}
+use Rattle.rules.specs.Refusals.{overTop, overRow, overBox}
 use Rattle.rules.specs.Plane.{overPlane}
 use Rattle.rules.specs.Rows.{overNew}
-use Rattle.scan.proofs.First.{nothing-all, all-nothing, over-nothing, over-good}
+use Rattle.checks.proofs.First.{nothing-all, all-nothing, over-nothing, over-good}
 
 -- no sample is over top in the rows from `from` up to `upto`
 pub record LowRows (s : Plane) (from upto : ℕ) (l : List ℕ) : Type 0 where
@@ -23,13 +23,13 @@ module _ (top : ℕ) (l : List ℕ) (start stride count rows : ℕ) where
   unfolding overBox overRow
   box-low none x y hx hy =
       let row = nothing-all (λ j. overRow top l (start + j * stride) count) rows none y hy in
-      over-nothing top l (start + y * stride + x) (nothing-all (λ i. over top l (start + y * stride + i)) count row x hx)
+      over-nothing top l (start + y * stride + x) (nothing-all (λ i. overTop top l (start + y * stride + i)) count row x hx)
 
   low-box : ((x y : ℕ) → x < count → y < rows → getD l (start + y * stride + x) 0 ≤ top) → overBox top l start stride count rows ≡ Nothing
   unfolding overBox overRow
   low-box h =
       all-nothing (λ j. overRow top l (start + j * stride) count) rows (λ y hy.
-      all-nothing (λ i. over top l (start + y * stride + i)) count (λ x hx. sym (over-good top l (start + y * stride + x) (h x y hx hy))))
+      all-nothing (λ i. overTop top l (start + y * stride + i)) count (λ x hx. sym (over-good top l (start + y * stride + x) (h x y hx hy))))
 
 module _ (s : Plane) (l : List ℕ) where
   pub plane-low : overPlane s l ≡ Nothing → LowRows s 0 (4 * s .rows) l

@@ -16,7 +16,7 @@ use Rattle.rules.specs.declared.refusals.Answer.the-variants.{Refused}
 use Rattle.rules.specs.Refusals.{numberOf}
 use Rattle.rules.specs.Plane.{Grid}
 use Rattle.rules.specs.Rows.{rowsCheck, rowsAfter, rowsStored, rowsChanged, spentBy, stateAfter, rowsState, rowsFinal}
-use Rattle.scan.proofs.Checks.{settle-refused}
+use Rattle.checks.proofs.Checks.{settle-refused}
 use Rattle.rows.specs.Stated.{Stated}
 use Rattle.rows.proofs.Calls.{spent-refused}
 

@@ -28,7 +28,7 @@ use Rattle.rules.specs.Counts.{storedAt, changedAt, storedBy, changedBy}
 use Rattle.rules.specs.Plane.{Grid, keptBy, runPlane, runStored, runChanged, planeCheck}
 use Rattle.rules.specs.Rows.{bandOf, finalOf, settingsCheck, rowsCheck}
 use Rattle.segment.specs.Boxes.{readBox}
-use Rattle.cells.specs.Fit.{Sizes}
+use Rattle.cell_edges.specs.Cells.{Sizes}
 use Rattle.plane.specs.Checked.{Checked}
 use Rattle.plane.proofs.Accepting.{plane-parts, checked}
 use Rattle.plane.proofs.Samples.{run-length}

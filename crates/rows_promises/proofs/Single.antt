@@ -22,7 +22,7 @@ use Rattle.rules.specs.Segment.{runEdges}
 use Rattle.rules.specs.Counts.{storedBy, changedBy}
 use Rattle.rules.specs.Plane.{Grid, keptBy, planeCheck}
 use Rattle.rules.specs.Rows.{bandOf, callEdges, finalOf, countOk, countsOk, settingsCheck, rowsCheck, rowsAfter, rowsStored, rowsChanged, stateAfter, rowsState, rowsFinal}
-use Rattle.scan.proofs.Checks.{else-parts, found-nothing}
+use Rattle.checks.proofs.Checks.{else-parts, found-nothing}
 use Rattle.segment.proofs.Local.{run-frame}
 use Rattle.plane.proofs.Accepting.{plane-parts}
 use Rattle.rows.specs.Stated.{Stated}

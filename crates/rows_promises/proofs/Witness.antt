@@ -16,11 +16,11 @@ use Rattle.rules.specs.declared.rows.RowState.{RowState}
 use Rattle.rules.specs.declared.refusals.Refusal.the-variants.{Filled, Sample}
 use Rattle.rules.specs.declared.refusals.Answer.the-variants.{Accepted, Refused}
 use Rattle.rules.specs.Numbers.{depthOk, topOf, highestOf, offsetOf, shiftOf, inRange, inRangeZ, deltaOk}
-use Rattle.rules.specs.Refusals.{orElse, unless, found, settle, first, sooner, foundIf, foundUnless, over, overRow, overBox}
+use Rattle.rules.specs.Refusals.{orElse, unless, found, settle, first, sooner, foundIf, foundUnless, overTop, overRow, overBox}
 use Rattle.rules.specs.Thresholds.{indexOf, stepOf, quantOf, lowered, sideOf, bothOf, qThreshold, sideThreshold, stepGood, badStep, stepsCheck, deltasCheck}
 use Rattle.rules.specs.Lengths.{lengthBefore, lengthAfter, mostBefore, mostAfter, reachOf, reachBefore, reachAfter, pairOf}
 use Rattle.rules.specs.Width.{bendOf, slopeOf, steepOf, atDistance, failsOf, fromOf, farOf, wideOf, gradeOf, widthOf}
-use Rattle.rules.specs.Segment.{placeOf, hasRoom, lineOf, linesOf, windowOf, chosenOf, lineStores, fourStores, storesOf, keptIn, segmentOf, runEdges}
+use Rattle.rules.specs.Segment.{edgePlace, hasRoom, lineOf, linesOf, windowOf, chosenOf, lineStores, fourStores, storesOf, keptIn, segmentOf, runEdges}
 use Rattle.rules.specs.Counts.{storedAt, changedAt, storedBy, changedBy}
 use Rattle.rules.specs.Plane.{Grid, keeping, keptBy, cellOf, cellBefore, marksOf, indicesOf, cappedOf, indexAt, shortenedAt, edgeAt, isEdge, visitOf, sweepOf}
 use Rattle.rules.specs.Plane.{planeSizesOk, planeLengthsOk, badStart, tilesCheck, cellGood, badCell, edgeRoom, lacksRoom, lacksRow, lacksDir, noRoom}
@@ -56,7 +56,7 @@ abbrev pub smoothed : List ℕ → List ℕ
 smoothed last = row 100 ++ (row 101 ++ (row 102 ++ (row 103 ++ below last)))
 
 good : (settingsCheck settings steps (cells 0) 64 ≡ Accepted) × (settingsCheck settings steps (cells 1) 64 ≡ Accepted)
-unfolding each pick either both all depthOk topOf inRange inRangeZ deltaOk orElse unless found first sooner foundIf foundUnless over overRow overBox stepGood badStep stepsCheck deltasCheck lengthBefore lengthAfter reachOf reachBefore reachAfter pairOf hasRoom cellOf cellBefore marksOf indicesOf
+unfolding each pick either both all depthOk topOf inRange inRangeZ deltaOk orElse unless found first sooner foundIf foundUnless overTop overRow overBox stepGood badStep stepsCheck deltasCheck lengthBefore lengthAfter reachOf reachBefore reachAfter pairOf hasRoom cellOf cellBefore marksOf indicesOf
     cappedOf indexAt shortenedAt isEdge planeSizesOk planeLengthsOk badStart tilesCheck cellGood badCell edgeRoom lacksRoom lacksRow lacksDir noRoom settingsCheck
 good = (refl, refl)
 
@@ -67,7 +67,7 @@ held n = record { held = n; spent = false }
 -- ---- eight rows: nothing is due
 
 checked-8 : rowsCheck settings steps (cells 0) fresh 8 (picture rubbish) ≡ Accepted
-unfolding rowsCheck orElse unless found countsOk countOk overNew overBox overRow over first sooner foundIf topOf all both
+unfolding rowsCheck orElse unless found countsOk countOk overNew overBox overRow overTop first sooner foundIf topOf all both
 checked-8 = rw (good .0)
 
 none-due : callEdges settings steps (cells 0) fresh 8 ≡ []
@@ -91,7 +91,7 @@ abbrev twelve : List ℕ
 twelve = picture (four (row 108) ++ four (row 999))
 
 checked-12 : rowsCheck settings steps (cells 0) (held 8) 12 twelve ≡ Accepted
-unfolding rowsCheck orElse unless found countsOk countOk overNew overBox overRow over first sooner foundIf topOf all both
+unfolding rowsCheck orElse unless found countsOk countOk overNew overBox overRow overTop first sooner foundIf topOf all both
 checked-12 = rw (good .0)
 
 abbrev edge : Edge
@@ -104,7 +104,7 @@ one-due kept = refl
 filtered : (segmentOf 255 4 (keptBy settings (cells 0)) edge twelve ≡ smoothed (four (row 108) ++ four (row 999)))
     × (storedAt 255 4 (keptBy settings (cells 0)) edge twelve ≡ 24)
     × (changedAt 255 4 (keptBy settings (cells 0)) edge twelve ≡ 24)
-unfolding each filled puts outside pick either both lengthBefore lengthAfter mostBefore mostAfter reachOf reachBefore reachAfter bendOf slopeOf steepOf atDistance failsOf fromOf farOf wideOf gradeOf widthOf placeOf lineOf linesOf windowOf chosenOf lineStores fourStores storesOf keptIn segmentOf differ changes storedAt changedAt
+unfolding each filled puts outside pick either both lengthBefore lengthAfter mostBefore mostAfter reachOf reachBefore reachAfter bendOf slopeOf steepOf atDistance failsOf fromOf farOf wideOf gradeOf widthOf edgePlace lineOf linesOf windowOf chosenOf lineStores fourStores storesOf keptIn segmentOf differ changes storedAt changedAt
 filtered = (refl, refl, refl)
 
 pub runs : Stated settings steps (cells 0) (held 8) 12 twelve (record { answer = Accepted; stored = 24; changed = 24; state = held 12; finalrows = 0 }) (smoothed (four (row 108) ++ four (row 999)))
@@ -120,13 +120,13 @@ runs = record {
 
 -- the same with the first cell kept: its samples are read and not stored, and half as many are counted
 checked-kept : rowsCheck settings steps (cells 1) (held 8) 12 twelve ≡ Accepted
-unfolding rowsCheck orElse unless found countsOk countOk overNew overBox overRow over first sooner foundIf topOf all both
+unfolding rowsCheck orElse unless found countsOk countOk overNew overBox overRow overTop first sooner foundIf topOf all both
 checked-kept = rw (good .1)
 
 filtered-kept : (segmentOf 255 4 (keptBy settings (cells 1)) edge twelve ≡ four (row 100) ++ below (four (row 108) ++ four (row 999)))
     × (storedAt 255 4 (keptBy settings (cells 1)) edge twelve ≡ 12)
     × (changedAt 255 4 (keptBy settings (cells 1)) edge twelve ≡ 12)
-unfolding each filled puts outside pick either both lengthBefore lengthAfter mostBefore mostAfter reachOf reachBefore reachAfter bendOf slopeOf steepOf atDistance failsOf fromOf farOf wideOf gradeOf widthOf placeOf lineOf linesOf windowOf chosenOf lineStores fourStores storesOf keptIn segmentOf differ changes storedAt changedAt
+unfolding each filled puts outside pick either both lengthBefore lengthAfter mostBefore mostAfter reachOf reachBefore reachAfter bendOf slopeOf steepOf atDistance failsOf fromOf farOf wideOf gradeOf widthOf edgePlace lineOf linesOf windowOf chosenOf lineStores fourStores storesOf keptIn segmentOf differ changes storedAt changedAt
 filtered-kept = (refl, refl, refl)
 
 pub runs-kept : Stated settings steps (cells 1) (held 8) 12 twelve (record { answer = Accepted; stored = 12; changed = 12; state = held 12; finalrows = 0 }) (four (row 100) ++ below (four (row 108) ++ four (row 999)))
@@ -146,7 +146,7 @@ abbrev sixteen : List ℕ
 sixteen = smoothed (four (row 108) ++ four (row 108))
 
 checked-16 : rowsCheck settings steps (cells 0) (held 12) 16 sixteen ≡ Accepted
-unfolding rowsCheck orElse unless found countsOk countOk overNew overBox overRow over first sooner foundIf topOf all both
+unfolding rowsCheck orElse unless found countsOk countOk overNew overBox overRow overTop first sooner foundIf topOf all both
 checked-16 = rw (good .0)
 
 none-left : callEdges settings steps (cells 0) (held 12) 16 ≡ []
@@ -171,7 +171,7 @@ unfolding rowsCheck orElse unless countsOk countOk all both
 refused-14 = rw (good .0)
 
 refused-8 : rowsCheck settings steps (cells 0) (held 8) 16 twelve ≡ Refused (Sample 48)
-unfolding rowsCheck orElse unless found countsOk countOk overNew overBox overRow over first sooner foundIf topOf all both
+unfolding rowsCheck orElse unless found countsOk countOk overNew overBox overRow overTop first sooner foundIf topOf all both
 refused-8 = rw (good .0)
 
 pub odd-count : Stated settings steps (cells 0) (held 8) 13 twelve (record { answer = Refused Filled; stored = 0; changed = 0; state = held 8; finalrows = 0 }) twelve

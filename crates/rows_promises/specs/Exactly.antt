@@ -8,7 +8,7 @@ use Rattle.rules.specs.declared.settings.Plane.{Plane}
 use Rattle.rules.specs.declared.rows.RowState.{RowState}
 use Rattle.rules.specs.Plane.{Grid}
 use Rattle.rules.specs.Rows.{countsOk, overNew}
-use Rattle.scan.specs.Exactly.{ask, seek, Check, check}
+use Rattle.checks.specs.Exactly.{ask, seek, Check, check}
 use Rattle.promises.specs.Exactly.{planeTests}
 
 -- "1 to 7 as in 01" are the first seven tests of a plane

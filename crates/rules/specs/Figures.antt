@@ -17,7 +17,7 @@ use Rattle.rules.specs.Thresholds.{quantOf, lowered, sideOf, bothOf}
 use Rattle.rules.specs.Lengths.{lengthBefore, lengthAfter, mostBefore, mostAfter, reachOf, reachBefore, reachAfter}
 use Rattle.rules.specs.Width.{bendOf, slopeOf, steepOf, atDistance, failsOf, fromOf, farOf, wideOf, gradeOf, widthOf}
 use Rattle.rules.specs.Taps.{rounded}
-use Rattle.rules.specs.Segment.{placeOf, lineOf, linesOf, windowOf, chosenOf, lineStores, fourStores, storesOf, noneKept, widthAt, segmentOf}
+use Rattle.rules.specs.Segment.{edgePlace, lineOf, linesOf, windowOf, chosenOf, lineStores, fourStores, storesOf, noneKept, widthAt, segmentOf}
 use Rattle.rules.specs.TuGrid.{Marks, marks, flagOf, bareOf, sizeOf, log2Of, wholeOf, tileOf, markOf, storeCell, paintCell, paintRow, paintOf, leafOf, leavesOf, clearOf, txGridOf}
 use Rattle.rules.specs.Ccso.{offsetPlace, offsetSample}
 
@@ -92,7 +92,7 @@ pub record Figures : Type 0 where
   pub offset : offsetSample bands 5 (negℤ (pos 10)) ≡ 0
 
 pub figures : Figures
-unfolding pick either both each turns filled puts outside topOf offsetOf shiftOf down quantOf lowered sideOf bothOf lengthBefore lengthAfter mostBefore mostAfter reachOf reachBefore reachAfter bendOf slopeOf steepOf atDistance failsOf fromOf farOf wideOf gradeOf widthOf placeOf lineOf linesOf windowOf
+unfolding pick either both each turns filled puts outside topOf offsetOf shiftOf down quantOf lowered sideOf bothOf lengthBefore lengthAfter mostBefore mostAfter reachOf reachBefore reachAfter bendOf slopeOf steepOf atDistance failsOf fromOf farOf wideOf gradeOf widthOf edgePlace lineOf linesOf windowOf
     chosenOf lineStores fourStores storesOf widthAt segmentOf flagOf bareOf sizeOf log2Of wholeOf tileOf markOf storeCell paintCell paintRow paintOf leafOf leavesOf clearOf txGridOf offsetPlace offsetSample
 figures = record {
   steps = refl;

@@ -83,8 +83,8 @@ lengthsOf n l = record {
 -- ---- the planes of a frame
 
 -- rounded up to 8; "Cells per plane: plane size rounded up to 8, over 4"
-unfoldable pub eighths : ℕ → ℕ
-eighths n = (n + 7) / 8 * 8
+unfoldable pub upToEight : ℕ → ℕ
+upToEight n = (n + 7) / 8 * 8
 
 -- "chroma size is rounded up when halved"
 unfoldable pub halved : ℕ → ℕ → ℕ
@@ -96,11 +96,11 @@ superblocks n = (n + 63) / 64
 
 unfoldable pub lumaPlane : Frame → Plane
 lumaPlane f = record {
-  cols = eighths (f .width) / 4;
-  rows = eighths (f .height) / 4;
+  cols = upToEight (f .width) / 4;
+  rows = upToEight (f .height) / 4;
   stride = f .lumastride;
-  width = eighths (f .width);
-  height = eighths (f .height);
+  width = upToEight (f .width);
+  height = upToEight (f .height);
   sbw = 16;
   sbh = 16;
   chroma = false;
@@ -112,11 +112,11 @@ lumaPlane f = record {
 -- "Border width: luma rounded up to 8, shifted for chroma." "Superblocks are 16 >> subsampling."
 unfoldable pub chromaPlane : Frame → Plane
 chromaPlane f = record {
-  cols = eighths (halved (f .ssx) (f .width)) / 4;
-  rows = eighths (halved (f .ssy) (f .height)) / 4;
+  cols = upToEight (halved (f .ssx) (f .width)) / 4;
+  rows = upToEight (halved (f .ssy) (f .height)) / 4;
   stride = f .chromastride;
-  width = down (f .ssx) (eighths (f .width));
-  height = down (f .ssy) (eighths (f .height));
+  width = down (f .ssx) (upToEight (f .width));
+  height = down (f .ssy) (upToEight (f .height));
   sbw = down (f .ssx) 16;
   sbh = down (f .ssy) 16;
   chroma = true;

@@ -14,7 +14,7 @@ use Rattle.rules.specs.declared.settings.Keep.{Keep}
 use Rattle.rules.specs.declared.refusals.Refusal.the-variants.{Depth, Size, Length, Steps, Setting, Cell, Room, Sample, Leaf, Header, Cut, Entry}
 use Rattle.rules.specs.declared.refusals.Answer.the-variants.{Accepted, Refused}
 use Rattle.rules.specs.Numbers.{depthOk, topOf, inRange, inRangeZ, deltaOk, subsamplingOk}
-use Rattle.rules.specs.Refusals.{orElse, unless, found, sooner, first, foundIf, foundUnless, over, overRow, overBox}
+use Rattle.rules.specs.Refusals.{orElse, unless, found, sooner, first, foundIf, foundUnless, overTop, overRow, overBox}
 use Rattle.rules.specs.Thresholds.{stepGood, badStep, stepsCheck, deltasCheck, thresholdsCheck}
 use Rattle.rules.specs.Lengths.{lengthBefore, lengthAfter, reachOf, reachBefore, reachAfter}
 use Rattle.rules.specs.Segment.{rangesOk, hasRoom}
@@ -100,7 +100,7 @@ pub record Orders : Type 0 where
   pub keep-beyond : keepCheck (far 2) (1 ∷ 0 ∷ 2 ∷ []) ≡ Accepted
 
 pub orders : Orders
-unfolding pick either both all depthOk topOf inRange inRangeZ deltaOk subsamplingOk orElse unless found sooner first foundIf foundUnless over overRow overBox stepGood badStep stepsCheck deltasCheck thresholdsCheck lengthBefore lengthAfter reachOf reachBefore reachAfter rangesOk hasRoom edgeOf
+unfolding pick either both all depthOk topOf inRange inRangeZ deltaOk subsamplingOk orElse unless found sooner first foundIf foundUnless overTop overRow overBox stepGood badStep stepsCheck deltasCheck thresholdsCheck lengthBefore lengthAfter reachOf reachBefore reachAfter rangesOk hasRoom edgeOf
     sizesOk settingsOk overEdge loneCheck each numberIn edgeIn entryAt entryCount edgesIn replaySizesOk headerOk cutEntry firstEntry recordCheck replayLong badKeep replayCheck flagOf bareOf isSize cellsOk capOk foursOk leafGood leafGoodAt badLeaf listsLong txGridCheck keepCheck
 orders = record {
   thresholds-1-4 = refl;

@@ -14,7 +14,7 @@ use Rattle.rules.specs.declared.refusals.Refusal.the-variants.{Depth, Si
 use Rattle.rules.specs.declared.refusals.Answer.{Answer}
 use Rattle.rules.specs.declared.refusals.Found.{Found}
 use Rattle.rules.specs.Numbers.{depthOk, topOf, inRange}
-use Rattle.rules.specs.Refusals.{orElse, unless, found, settle, sooner, first, foundIf, foundUnless, over, overBox}
+use Rattle.rules.specs.Refusals.{orElse, unless, found, settle, sooner, first, foundIf, foundUnless, overTop, overBox}
 use Rattle.rules.specs.Thresholds.{qThreshold, sideThreshold, stepsCheck, deltasCheck}
 use Rattle.rules.specs.Lengths.{pairOf}
 use Rattle.rules.specs.Segment.{hasRoom, keptIn, runEdges}
@@ -200,7 +200,7 @@ badCell s g = first (s .rows * s .cols) (λ k. foundUnless (cellGood g k) k)
 
 -- the same of keep marks alone, where an entry has no others: the first of n cells
 unfoldable pub badKeep : ℕ → List ℕ → Found
-badKeep n keep = first n (λ k. over 1 keep k)
+badKeep n keep = first n (λ k. overTop 1 keep k)
 
 -- "7: an edge lacks room": its pair alone decides, whatever its thresholds
 unfoldable pub edgeRoom : Plane → Grid → ℕ → ℕ → ℕ → Bool

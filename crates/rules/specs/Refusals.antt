@@ -34,24 +34,24 @@ numberOf Filled = 14
 numberOf Spent = 15
 
 -- the table's last column
-abbrev pub placeOf : Refusal → ℕ
-placeOf Depth = 0
-placeOf Size = 0
-placeOf Length = 0
-placeOf (Steps k) = k
-placeOf Setting = 0
-placeOf (Cell k) = k
-placeOf (Room k) = k
-placeOf (Sample k) = k
-placeOf (Leaf k) = k
+abbrev pub placeRefused : Refusal → ℕ
+placeRefused Depth = 0
+placeRefused Size = 0
+placeRefused Length = 0
+placeRefused (Steps k) = k
+placeRefused Setting = 0
+placeRefused (Cell k) = k
+placeRefused (Room k) = k
+placeRefused (Sample k) = k
+placeRefused (Leaf k) = k
 -- "any place that a ticket leaves unnamed, is 0"
-placeOf Buffer = 0
-placeOf Header = 0
+placeRefused Buffer = 0
+placeRefused Header = 0
 -- "each with its number"
-placeOf (Cut k) = k
-placeOf (Entry k) = k
-placeOf Filled = 0
-placeOf Spent = 0
+placeRefused (Cut k) = k
+placeRefused (Entry k) = k
+placeRefused Filled = 0
+placeRefused Spent = 0
 
 -- ---- checks, one after the other
 
@@ -103,12 +103,12 @@ foundUnless false k = At k
 
 -- ---- samples: "a used sample exceeds top: its offset, first row by row"
 
-unfoldable pub over : ℕ → List ℕ → ℕ → Found
-over top xs k = foundIf (ltb top (getD xs k 0)) k
+unfoldable pub overTop : ℕ → List ℕ → ℕ → Found
+overTop top xs k = foundIf (ltb top (getD xs k 0)) k
 
 -- count samples from an offset
 unfoldable pub overRow : ℕ → List ℕ → ℕ → ℕ → Found
-overRow top xs start count = first count (λ x. over top xs (start + x))
+overRow top xs start count = first count (λ x. overTop top xs (start + x))
 
 -- rows of count samples, the first at an offset and each a stride after the last
 unfoldable pub overBox : ℕ → List ℕ → ℕ → ℕ → ℕ → ℕ → Found

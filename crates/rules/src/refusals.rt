@@ -1,6 +1,6 @@
 // Document 01's refusals and those of the tickets, as named cases; specs/Refusals.antt gives each its number and place.
 ghost use mathlib.Core.Path.{_≡_};
-ghost use Rattle.rules.specs.Refusals.{numberOf, placeOf};
+ghost use Rattle.rules.specs.Refusals.{numberOf, placeRefused};
 
 // Why an input is refused; a place counts from 0.
 pub enum Refusal {
@@ -97,7 +97,7 @@ pub fn number(r: Refusal) -> u32
 
 // Document 01's place of a refusal.
 pub fn place(r: Refusal) -> usize
-    ensures { λ k. ⌜ k ≡ placeOf r ⌝ }
+    ensures { λ k. ⌜ k ≡ placeRefused r ⌝ }
 {
     match r {
         Refusal::Steps(k) => k,

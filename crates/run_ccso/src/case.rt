@@ -1,12 +1,12 @@
 // One picture: what the entry is asked, and what the stream says that it answers.
 ghost use Prim.Native.Nat.{_≤_};
 ghost use lib.ListN.{length};
-use cases::Cursor;
-use cases::Listed;
-use cases::Told;
 use ccso::apply::apply_edge_gated;
 use rules::settings::Ccso;
 use tally::Tally;
+use text::Answered;
+use text::Cursor;
+use text::Listed;
 
 // The settings and what follows them.
 struct Asked {
@@ -30,8 +30,8 @@ struct Classes {
 }
 
 fn read_pair(text: &[u8], c: Cursor) -> Pair {
-    let a = cases::read_signed(text, c);
-    let b = cases::read_signed(text, a.rest);
+    let a = text::read_signed(text, c);
+    let b = text::read_signed(text, a.rest);
     let rest = b.rest;
     Pair {
         a: a.value,
@@ -41,9 +41,9 @@ fn read_pair(text: &[u8], c: Cursor) -> Pair {
 }
 
 fn read_classes(text: &[u8], c: Cursor) -> Classes {
-    let below = cases::read_unsigned(text, c, 4294967295);
-    let within = cases::read_unsigned(text, below.rest, 4294967295);
-    let above = cases::read_unsigned(text, within.rest, 4294967295);
+    let below = text::read_unsigned(text, c, 4294967295);
+    let within = text::read_unsigned(text, below.rest, 4294967295);
+    let above = text::read_unsigned(text, within.rest, 4294967295);
     let rest = above.rest;
     Classes {
         below: below.value as u32,
@@ -54,17 +54,17 @@ fn read_classes(text: &[u8], c: Cursor) -> Classes {
 }
 
 fn settings(text: &[u8], c: Cursor) -> Asked {
-    let width = cases::read_unsigned(text, c, 4294967295);
-    let height = cases::read_unsigned(text, width.rest, 4294967295);
-    let ssx = cases::read_unsigned(text, height.rest, 4294967295);
-    let ssy = cases::read_unsigned(text, ssx.rest, 4294967295);
-    let depth = cases::read_unsigned(text, ssy.rest, 4294967295);
-    let scale = cases::read_unsigned(text, depth.rest, 4294967295);
+    let width = text::read_unsigned(text, c, 4294967295);
+    let height = text::read_unsigned(text, width.rest, 4294967295);
+    let ssx = text::read_unsigned(text, height.rest, 4294967295);
+    let ssy = text::read_unsigned(text, ssx.rest, 4294967295);
+    let depth = text::read_unsigned(text, ssy.rest, 4294967295);
+    let scale = text::read_unsigned(text, depth.rest, 4294967295);
     let cuts = read_pair(text, scale.rest);
     let classes = read_classes(text, cuts.rest);
     let tap0 = read_pair(text, classes.rest);
     let tap1 = read_pair(text, tap0.rest);
-    let bandlog = cases::read_unsigned(text, tap1.rest, 4294967295);
+    let bandlog = text::read_unsigned(text, tap1.rest, 4294967295);
     let rest = bandlog.rest;
     Asked {
         s: Ccso {
@@ -103,7 +103,7 @@ fn read_offsets(text: &[u8], c: Cursor, to: &mut [i8]) -> Listed
     ensures { λ r. ⌜ r .length ≤ length (now (to .exit)) ⌝ }
 {
     let mut wide = [0i32; 256];
-    let l = cases::read_i32s(text, c, &mut wide);
+    let l = text::read_i32s(text, c, &mut wide);
     for i in 0..256 {
         to[i] = narrow(wide[i]);
     }
@@ -111,21 +111,21 @@ fn read_offsets(text: &[u8], c: Cursor, to: &mut [i8]) -> Listed
 }
 
 // Whether the target is the stream's: the new one of an accepted case, the lent one of a refused case.
-fn held(text: &[u8], lent: Cursor, told: Told, target: &[u16]) -> bool {
+fn held(text: &[u8], lent: Cursor, told: Answered, target: &[u16]) -> bool {
     if told.number == 0 {
-        let new = cases::hold_u16s(text, told.rest, target);
-        return new.same && cases::ended(new.rest);
+        let new = text::hold_u16s(text, told.rest, target);
+        return new.same && text::ended(new.rest);
     }
-    let n = cases::read_unsigned(text, lent, 4294967295);
-    let old = cases::hold_u16s(text, n.rest, target);
-    old.same && cases::ended(told.rest)
+    let n = text::read_unsigned(text, lent, 4294967295);
+    let old = text::hold_u16s(text, n.rest, target);
+    old.same && text::ended(told.rest)
 }
 
 // The entry's answer and its target, held against the stream's.
 fn compare(
     text: &[u8],
     lent: Cursor,
-    told: Told,
+    told: Answered,
     s: Ccso,
     luma: &[u16],
     target: &mut [u16],
@@ -148,9 +148,9 @@ fn replay_lists(
 ) -> Tally {
     let mut flags = [0u8; 256];
     let mut offsets = [0i8; 256];
-    let f = cases::read_u8s(text, c, &mut flags);
+    let f = text::read_u8s(text, c, &mut flags);
     let o = read_offsets(text, f.rest, &mut offsets);
-    let told = cases::read_told(text, o.rest);
+    let told = text::read_answer(text, o.rest);
     let rest = told.rest;
     if !rest.good {
         return tally::unread(t);
@@ -174,9 +174,9 @@ fn replay_lists(
 fn replay_planes(text: &[u8], c: Cursor, s: Ccso, t: Tally) -> Tally {
     let mut luma = [0u16; 65536];
     let mut target = [0u16; 65536];
-    let l = cases::read_u16s(text, c, &mut luma);
+    let l = text::read_u16s(text, c, &mut luma);
     let lent = l.rest;
-    let p = cases::read_u16s(text, lent, &mut target);
+    let p = text::read_u16s(text, lent, &mut target);
     let lit = l.length;
     let samples = p.length;
     replay_lists(

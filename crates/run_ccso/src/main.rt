@@ -3,8 +3,8 @@
 // one picture of the stream
 mod case;
 
-use cases::Cursor;
 use tally::Tally;
+use text::Cursor;
 
 // The buffer: the longest line that a stream may have.
 fn room() -> [u8; 1048576] {
@@ -13,7 +13,7 @@ fn room() -> [u8; 1048576] {
 
 // A line of either kind: 1 has settings of the Rust, 2 others. Both are replayed alike.
 fn replay(text: &[u8], c: Cursor, t: Tally) -> Tally {
-    let kind = cases::read_unsigned(text, c, 2);
+    let kind = text::read_unsigned(text, c, 2);
     let rest = kind.rest;
     let number = kind.value;
     match number {

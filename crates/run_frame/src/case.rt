@@ -1,17 +1,17 @@
 // One frame of the stream: its lists are read in the line's order, the entry is called, and all is held against the line.
 use crate::held;
 use crate::read;
-use cases::Cursor;
-use cases::Told;
 use frame::frame::deblock_frame;
 use rules::settings::Frame;
 use tally::Tally;
+use text::Answered;
+use text::Cursor;
 
 // Whether every list is the line's.
 fn same(
     text: &[u8],
     lent: Cursor,
-    told: Told,
+    told: Answered,
     y: &[u16],
     u: &[u16],
     v: &[u16],
@@ -35,7 +35,7 @@ fn same(
 fn compare(
     text: &[u8],
     lent: Cursor,
-    told: Told,
+    told: Answered,
     f: Frame,
     steps: &[u32],
     sbq: &[u16],
@@ -111,7 +111,7 @@ fn compare(
 }
 
 // One line more; of one that is read, the answer and the lists were held against the stream's.
-fn counted(before: Tally, told: Told, same: bool) -> Tally {
+fn counted(before: Tally, told: Answered, same: bool) -> Tally {
     let rest = told.rest;
     if !rest.good {
         return tally::unread(before);
@@ -149,11 +149,11 @@ fn with_starts(
     let mut chromatiles = [0u16; 2048];
     let mut keep = [0u8; 16384];
     let mut chromakeep = [0u8; 16384];
-    let l = cases::read_u16s(text, at, &mut tiles);
-    let m = cases::read_u16s(text, l.rest, &mut chromatiles);
-    let k = cases::read_u8s(text, m.rest, &mut keep);
-    let n = cases::read_u8s(text, k.rest, &mut chromakeep);
-    let told = cases::read_counted(text, n.rest);
+    let l = text::read_u16s(text, at, &mut tiles);
+    let m = text::read_u16s(text, l.rest, &mut chromatiles);
+    let k = text::read_u8s(text, m.rest, &mut keep);
+    let n = text::read_u8s(text, k.rest, &mut chromakeep);
+    let told = text::read_counted(text, n.rest);
     let starts = l.length;
     let chromastarts = m.length;
     let marks = k.length;
@@ -359,7 +359,7 @@ fn with_leaves(text: &[u8], at: Cursor, f: Frame, steps: &[u32], sbq: &[u16], t:
 pub fn replay(text: &[u8], c: Cursor, steps: &[u32], t: Tally) -> Tally {
     let asked = read::settings(text, c);
     let mut sbq = [0u16; 4096];
-    let l = cases::read_u16s(text, asked.rest, &mut sbq);
+    let l = text::read_u16s(text, asked.rest, &mut sbq);
     let n = l.length;
     with_leaves(text, l.rest, asked.f, steps, &sbq[..n], t)
 }

@@ -1,6 +1,6 @@
 // Lists after the call, held against the line's: the new ones where they are printed, else the lent ones.
-use cases::Cursor;
-use cases::Told;
+use text::Answered;
+use text::Cursor;
 
 // Whether the lists so far are the line's, where the next ones stand, and whether their lengths stand before them, as those of lent lists do.
 pub struct Matched {
@@ -14,7 +14,7 @@ pub fn both(a: bool, b: bool) -> bool {
 }
 
 // The planes are new only in an accepted case.
-pub fn planes_from(told: Told, lent: Cursor) -> Matched {
+pub fn planes_from(told: Answered, lent: Cursor) -> Matched {
     let new = told.rest;
     if told.number == 0 {
         return Matched {
@@ -31,7 +31,7 @@ pub fn planes_from(told: Told, lent: Cursor) -> Matched {
 }
 
 // The grids follow the planes, but where 7 or 8 refused the new ones stand after the answer.
-pub fn grids_from(told: Told, m: Matched) -> Matched {
+pub fn grids_from(told: Answered, m: Matched) -> Matched {
     let new = told.rest;
     let number = told.number;
     match number {
@@ -45,7 +45,7 @@ pub fn grids_from(told: Told, m: Matched) -> Matched {
 }
 
 // Where the line is to end: after the new grids where there are any, else after the answer.
-fn last(told: Told, rest: Cursor) -> Cursor {
+fn last(told: Answered, rest: Cursor) -> Cursor {
     let number = told.number;
     match number {
         0 | 7 | 8 => rest,
@@ -54,8 +54,8 @@ fn last(told: Told, rest: Cursor) -> Cursor {
 }
 
 // Whether all lists are the line's, and the line ends where it should.
-pub fn whole(told: Told, m: Matched) -> bool {
-    both(m.same, cases::ended(last(told, m.rest)))
+pub fn whole(told: Answered, m: Matched) -> bool {
+    both(m.same, text::ended(last(told, m.rest)))
 }
 
 // Where a list's entries start.
@@ -64,12 +64,12 @@ fn entries(text: &[u8], m: Matched) -> Cursor {
     if !m.counted {
         return c;
     }
-    let n = cases::read_unsigned(text, c, 4294967295);
+    let n = text::read_unsigned(text, c, 4294967295);
     n.rest
 }
 
 fn u8s(text: &[u8], m: Matched, list: &[u8]) -> Matched {
-    let h = cases::hold_u8s(text, entries(text, m), list);
+    let h = text::hold_u8s(text, entries(text, m), list);
     let rest = h.rest;
     Matched {
         same: both(m.same, h.same),
@@ -79,7 +79,7 @@ fn u8s(text: &[u8], m: Matched, list: &[u8]) -> Matched {
 }
 
 fn u16s(text: &[u8], m: Matched, list: &[u16]) -> Matched {
-    let h = cases::hold_u16s(text, entries(text, m), list);
+    let h = text::hold_u16s(text, entries(text, m), list);
     let rest = h.rest;
     Matched {
         same: both(m.same, h.same),

@@ -1,10 +1,10 @@
 // The numbers and lists of a line, in the stream's order.
 ghost use Prim.Native.Nat.{_≤_};
 ghost use lib.ListN.{length};
-ghost use Rattle.cases.specs.Lists.{Fills};
-use cases::Cursor;
-use cases::Listed;
+ghost use Rattle.text.specs.Lists.{Fills};
 use rules::settings::Frame;
+use text::Cursor;
+use text::Listed;
 
 // The settings and what follows them.
 pub struct Asked {
@@ -43,13 +43,13 @@ struct Picture {
 }
 
 fn picture_of(text: &[u8], c: Cursor) -> Picture {
-    let width = cases::read_unsigned(text, c, 1099511627775);
-    let height = cases::read_unsigned(text, width.rest, 1099511627775);
-    let ssx = cases::read_unsigned(text, height.rest, 1099511627775);
-    let ssy = cases::read_unsigned(text, ssx.rest, 1099511627775);
-    let has = cases::read_unsigned(text, ssy.rest, 1);
-    let deblock = cases::read_unsigned(text, has.rest, 1);
-    let depth = cases::read_unsigned(text, deblock.rest, 4294967295);
+    let width = text::read_unsigned(text, c, 1099511627775);
+    let height = text::read_unsigned(text, width.rest, 1099511627775);
+    let ssx = text::read_unsigned(text, height.rest, 1099511627775);
+    let ssy = text::read_unsigned(text, ssx.rest, 1099511627775);
+    let has = text::read_unsigned(text, ssy.rest, 1);
+    let deblock = text::read_unsigned(text, has.rest, 1);
+    let depth = text::read_unsigned(text, deblock.rest, 4294967295);
     let rest = depth.rest;
     Picture {
         width: width.value,
@@ -66,14 +66,14 @@ fn picture_of(text: &[u8], c: Cursor) -> Picture {
 // The settings after the kind.
 pub fn settings(text: &[u8], c: Cursor) -> Asked {
     let p = picture_of(text, c);
-    let deltay = cases::read_signed(text, p.rest);
-    let deltauv = cases::read_signed(text, deltay.rest);
-    let lumastride = cases::read_unsigned(text, deltauv.rest, 1099511627775);
-    let chromastride = cases::read_unsigned(text, lumastride.rest, 1099511627775);
-    let capw = cases::read_unsigned(text, chromastride.rest, 1099511627775);
-    let caph = cases::read_unsigned(text, capw.rest, 1099511627775);
-    let ccapw = cases::read_unsigned(text, caph.rest, 1099511627775);
-    let ccaph = cases::read_unsigned(text, ccapw.rest, 1099511627775);
+    let deltay = text::read_signed(text, p.rest);
+    let deltauv = text::read_signed(text, deltay.rest);
+    let lumastride = text::read_unsigned(text, deltauv.rest, 1099511627775);
+    let chromastride = text::read_unsigned(text, lumastride.rest, 1099511627775);
+    let capw = text::read_unsigned(text, chromastride.rest, 1099511627775);
+    let caph = text::read_unsigned(text, capw.rest, 1099511627775);
+    let ccapw = text::read_unsigned(text, caph.rest, 1099511627775);
+    let ccaph = text::read_unsigned(text, ccapw.rest, 1099511627775);
     let rest = ccaph.rest;
     Asked {
         f: Frame {
@@ -108,7 +108,7 @@ fn leaves(text: &[u8], c: Cursor, to: &mut [u16]) -> Listed
     ensures { λ r. ⌜ Fills (r .length) (now (to .entry)) (now (to .exit)) ⌝ }
 {
     let mut wide = [0u32; 32768];
-    let l = cases::read_u32s(text, c, &mut wide);
+    let l = text::read_u32s(text, c, &mut wide);
     let n = l.length;
     let mut i = 0;
     while i < n {
@@ -139,9 +139,9 @@ pub fn three_leaves(text: &[u8], at: Cursor, a: &mut [u16], b: &mut [u16], c: &m
 pub fn planes(text: &[u8], at: Cursor, a: &mut [u16], b: &mut [u16], c: &mut [u16]) -> Three
     ensures { λ r. ⌜ Fills (r .a) (now (a .entry)) (now (a .exit)) × Fills (r .b) (now (b .entry)) (now (b .exit)) × Fills (r .c) (now (c .entry)) (now (c .exit)) ⌝ }
 {
-    let x = cases::read_u16s(text, at, a);
-    let y = cases::read_u16s(text, x.rest, b);
-    let z = cases::read_u16s(text, y.rest, c);
+    let x = text::read_u16s(text, at, a);
+    let y = text::read_u16s(text, x.rest, b);
+    let z = text::read_u16s(text, y.rest, c);
     let rest = z.rest;
     Three {
         a: x.length,
@@ -167,11 +167,11 @@ pub fn grid(
         × Fills (r .sqh) (now (sqh .entry)) (now (sqh .exit))
         × Fills (r .qindex) (now (qindex .entry)) (now (qindex .exit)) ⌝ }
 {
-    let v = cases::read_u8s(text, c, vedge);
-    let h = cases::read_u8s(text, v.rest, hedge);
-    let w = cases::read_u8s(text, h.rest, sqw);
-    let t = cases::read_u8s(text, w.rest, sqh);
-    let q = cases::read_u16s(text, t.rest, qindex);
+    let v = text::read_u8s(text, c, vedge);
+    let h = text::read_u8s(text, v.rest, hedge);
+    let w = text::read_u8s(text, h.rest, sqw);
+    let t = text::read_u8s(text, w.rest, sqh);
+    let q = text::read_u16s(text, t.rest, qindex);
     let rest = q.rest;
     Five {
         vedge: v.length,

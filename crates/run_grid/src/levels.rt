@@ -1,10 +1,10 @@
 // One qindex grid: what the entry is asked, and what the stream says that it answers.
 ghost use Prim.Native.Nat.{_≤_};
 ghost use lib.ListN.{length};
-use cases::Cursor;
 use qindex::qindex_grid::build_qindex_grid;
 use rules::settings::QindexGrid;
 use tally::Tally;
+use text::Cursor;
 
 // The settings, where the lists start, how long they are, the answer, and what follows it.
 struct Case {
@@ -20,16 +20,16 @@ struct Case {
 fn read(text: &[u8], c: Cursor, sbq: &mut [u16], qindex: &mut [u16]) -> Case
     ensures { λ r. ⌜ (r .entries ≤ length (now (sbq .entry))) × (r .cells ≤ length (now (qindex .entry))) ⌝ }
 {
-    let cols = cases::read_unsigned(text, c, 4294967295);
-    let rows = cases::read_unsigned(text, cols.rest, 4294967295);
-    let ssx = cases::read_unsigned(text, rows.rest, 4294967295);
-    let ssy = cases::read_unsigned(text, ssx.rest, 4294967295);
-    let sbcols = cases::read_unsigned(text, ssy.rest, 4294967295);
-    let entries = cases::read_u16s(text, sbcols.rest, sbq);
+    let cols = text::read_unsigned(text, c, 4294967295);
+    let rows = text::read_unsigned(text, cols.rest, 4294967295);
+    let ssx = text::read_unsigned(text, rows.rest, 4294967295);
+    let ssy = text::read_unsigned(text, ssx.rest, 4294967295);
+    let sbcols = text::read_unsigned(text, ssy.rest, 4294967295);
+    let entries = text::read_u16s(text, sbcols.rest, sbq);
     let lent = entries.rest;
-    let cells = cases::read_u16s(text, lent, qindex);
-    let number = cases::read_unsigned(text, cells.rest, 9);
-    let place = cases::read_unsigned(text, number.rest, 4294967295);
+    let cells = text::read_u16s(text, lent, qindex);
+    let number = text::read_unsigned(text, cells.rest, 9);
+    let place = text::read_unsigned(text, number.rest, 4294967295);
     let rest = place.rest;
     Case {
         s: QindexGrid {
@@ -51,12 +51,12 @@ fn read(text: &[u8], c: Cursor, sbq: &mut [u16], qindex: &mut [u16]) -> Case
 // Whether the list is the stream's: the new one of an accepted case, the lent one of a refused case.
 fn held(text: &[u8], c: Case, qindex: &[u16]) -> bool {
     if c.number == 0 {
-        let new = cases::hold_u16s(text, c.rest, qindex);
-        return new.same && cases::ended(new.rest);
+        let new = text::hold_u16s(text, c.rest, qindex);
+        return new.same && text::ended(new.rest);
     }
-    let n = cases::read_unsigned(text, c.lent, 4294967295);
-    let old = cases::hold_u16s(text, n.rest, qindex);
-    old.same && cases::ended(c.rest)
+    let n = text::read_unsigned(text, c.lent, 4294967295);
+    let old = text::hold_u16s(text, n.rest, qindex);
+    old.same && text::ended(c.rest)
 }
 
 // The entry's answer and its list, held against the stream's.

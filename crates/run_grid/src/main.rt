@@ -7,8 +7,8 @@ mod levels;
 // keep marks over a rectangle
 mod kept;
 
-use cases::Cursor;
 use tally::Tally;
+use text::Cursor;
 
 // The buffer: the longest line that a stream may have.
 fn room() -> [u8; 1048576] {
@@ -17,7 +17,7 @@ fn room() -> [u8; 1048576] {
 
 // A line: 1 is a TU grid, 2 a qindex grid, 3 keep marks over a rectangle.
 fn replay(text: &[u8], c: Cursor, t: Tally) -> Tally {
-    let kind = cases::read_unsigned(text, c, 3);
+    let kind = text::read_unsigned(text, c, 3);
     let rest = kind.rest;
     let number = kind.value;
     match number {

@@ -1,12 +1,12 @@
 // One TU grid: what the entry is asked, and what the stream says that it answers.
 ghost use Prim.Native.Nat.{_≤_};
 ghost use lib.ListN.{length};
-use cases::Cursor;
-use cases::Listed;
-use cases::Told;
 use grid::tx_grid::build_tx_grid;
 use rules::settings::TuGrid;
 use tally::Tally;
+use text::Answered;
+use text::Cursor;
+use text::Listed;
 
 // The settings and what follows them.
 struct Asked {
@@ -15,12 +15,12 @@ struct Asked {
 }
 
 fn settings(text: &[u8], c: Cursor) -> Asked {
-    let cols = cases::read_unsigned(text, c, 4294967295);
-    let rows = cases::read_unsigned(text, cols.rest, 4294967295);
-    let ssx = cases::read_unsigned(text, rows.rest, 4294967295);
-    let ssy = cases::read_unsigned(text, ssx.rest, 4294967295);
-    let capw = cases::read_unsigned(text, ssy.rest, 4294967295);
-    let caph = cases::read_unsigned(text, capw.rest, 4294967295);
+    let cols = text::read_unsigned(text, c, 4294967295);
+    let rows = text::read_unsigned(text, cols.rest, 4294967295);
+    let ssx = text::read_unsigned(text, rows.rest, 4294967295);
+    let ssy = text::read_unsigned(text, ssx.rest, 4294967295);
+    let capw = text::read_unsigned(text, ssy.rest, 4294967295);
+    let caph = text::read_unsigned(text, capw.rest, 4294967295);
     let rest = caph.rest;
     Asked {
         s: TuGrid {
@@ -46,7 +46,7 @@ fn read_leaves(text: &[u8], c: Cursor, to: &mut [u16]) -> Listed
     ensures { λ r. ⌜ r .length ≤ length (now (to .exit)) ⌝ }
 {
     let mut wide = [0u32; 16384];
-    let l = cases::read_u32s(text, c, &mut wide);
+    let l = text::read_u32s(text, c, &mut wide);
     for i in 0..16384 {
         to[i] = narrow(wide[i]);
     }
@@ -58,7 +58,7 @@ fn entries(text: &[u8], c: Cursor, counted: bool) -> Cursor {
     if !counted {
         return c;
     }
-    let n = cases::read_unsigned(text, c, 4294967295);
+    let n = text::read_unsigned(text, c, 4294967295);
     n.rest
 }
 
@@ -79,11 +79,11 @@ fn held(
     sqh: &[u8],
     keep: &[u8],
 ) -> Matched {
-    let v = cases::hold_u8s(text, entries(text, c, counted), vedge);
-    let h = cases::hold_u8s(text, entries(text, v.rest, counted), hedge);
-    let w = cases::hold_u8s(text, entries(text, h.rest, counted), sqw);
-    let t = cases::hold_u8s(text, entries(text, w.rest, counted), sqh);
-    let k = cases::hold_u8s(text, entries(text, t.rest, counted), keep);
+    let v = text::hold_u8s(text, entries(text, c, counted), vedge);
+    let h = text::hold_u8s(text, entries(text, v.rest, counted), hedge);
+    let w = text::hold_u8s(text, entries(text, h.rest, counted), sqw);
+    let t = text::hold_u8s(text, entries(text, w.rest, counted), sqh);
+    let k = text::hold_u8s(text, entries(text, t.rest, counted), keep);
     let rest = k.rest;
     Matched {
         same: v.same && h.same && w.same && t.same && k.same,
@@ -95,7 +95,7 @@ fn held(
 fn compare(
     text: &[u8],
     lent: Cursor,
-    told: Told,
+    told: Answered,
     s: TuGrid,
     leaves: &[u16],
     skips: &[u16],
@@ -112,10 +112,10 @@ fn compare(
     }
     if number == 0 {
         let new = held(text, told.rest, false, vedge, hedge, sqw, sqh, keep);
-        return new.same && cases::ended(new.rest);
+        return new.same && text::ended(new.rest);
     }
     let old = held(text, lent, true, vedge, hedge, sqw, sqh, keep);
-    old.same && cases::ended(told.rest)
+    old.same && text::ended(told.rest)
 }
 
 // The keep marks and the answer.
@@ -133,8 +133,8 @@ fn with_keep(
     t: Tally,
 ) -> Tally {
     let mut keep = [0u8; 16384];
-    let k = cases::read_u8s(text, at, &mut keep);
-    let told = cases::read_told(text, k.rest);
+    let k = text::read_u8s(text, at, &mut keep);
+    let told = text::read_answer(text, k.rest);
     let rest = told.rest;
     if !rest.good {
         return tally::unread(t);
@@ -169,8 +169,8 @@ fn replay_lists(
     let mut hedge = [0u8; 16384];
     let mut sqw = [0u8; 16384];
     let mut sqh = [0u8; 16384];
-    let marks = cases::read_two(text, lent, &mut vedge, &mut hedge);
-    let indices = cases::read_two(text, marks.rest, &mut sqw, &mut sqh);
+    let marks = text::read_two(text, lent, &mut vedge, &mut hedge);
+    let indices = text::read_two(text, marks.rest, &mut sqw, &mut sqh);
     let v = marks.a;
     let h = marks.b;
     let w = indices.a;

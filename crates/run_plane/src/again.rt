@@ -1,9 +1,9 @@
 // One record that is run again: what the entry is asked, and what the stream says that it answers.
-use cases::Cursor;
-use cases::Told;
 use replay::replay_plane;
 use rules::settings::Replay;
 use tally::Tally;
+use text::Answered;
+use text::Cursor;
 
 // The settings and what follows them.
 struct Asked {
@@ -12,10 +12,10 @@ struct Asked {
 }
 
 fn settings(text: &[u8], c: Cursor) -> Asked {
-    let cols = cases::read_unsigned(text, c, 1099511627775);
-    let rows = cases::read_unsigned(text, cols.rest, 1099511627775);
-    let stride = cases::read_unsigned(text, rows.rest, 1099511627775);
-    let depth = cases::read_unsigned(text, stride.rest, 4294967295);
+    let cols = text::read_unsigned(text, c, 1099511627775);
+    let rows = text::read_unsigned(text, cols.rest, 1099511627775);
+    let stride = text::read_unsigned(text, rows.rest, 1099511627775);
+    let depth = text::read_unsigned(text, stride.rest, 4294967295);
     let rest = depth.rest;
     Asked {
         s: Replay {
@@ -32,7 +32,7 @@ fn settings(text: &[u8], c: Cursor) -> Asked {
 fn compare(
     text: &[u8],
     lent: Cursor,
-    told: Told,
+    told: Answered,
     s: Replay,
     record: &[u8],
     keep: &[u8],
@@ -48,11 +48,11 @@ pub fn replay(text: &[u8], c: Cursor, t: Tally) -> Tally {
     let mut keep = [0u8; 16384];
     let mut plane = [0u16; 131072];
     let asked = settings(text, c);
-    let r = cases::read_u8s(text, asked.rest, &mut record);
-    let k = cases::read_u8s(text, r.rest, &mut keep);
+    let r = text::read_u8s(text, asked.rest, &mut record);
+    let k = text::read_u8s(text, r.rest, &mut keep);
     let lent = k.rest;
-    let p = cases::read_u16s(text, lent, &mut plane);
-    let told = cases::read_counted(text, p.rest);
+    let p = text::read_u16s(text, lent, &mut plane);
+    let told = text::read_counted(text, p.rest);
     let rest = told.rest;
     if !rest.good {
         return tally::unread(t);

@@ -1,6 +1,4 @@
 // One plane, recorded or not: what the entry is asked, and what the stream says that it answers.
-use cases::Cursor;
-use cases::Told;
 use plain::deblock_plane_plain;
 use plane::deblock_plane;
 use recorded::record_plane;
@@ -9,6 +7,8 @@ use rules::refusals::RecordAnswer;
 use rules::refusals::Recorded;
 use rules::settings::Plane;
 use tally::Tally;
+use text::Answered;
+use text::Cursor;
 
 // The settings and what follows them.
 struct Asked {
@@ -18,17 +18,17 @@ struct Asked {
 
 // Sizes are read past 32 bits: the stream has refused ones of four times a u32.
 fn settings(text: &[u8], c: Cursor) -> Asked {
-    let cols = cases::read_unsigned(text, c, 1099511627775);
-    let rows = cases::read_unsigned(text, cols.rest, 1099511627775);
-    let stride = cases::read_unsigned(text, rows.rest, 1099511627775);
-    let width = cases::read_unsigned(text, stride.rest, 1099511627775);
-    let height = cases::read_unsigned(text, width.rest, 1099511627775);
-    let sbw = cases::read_unsigned(text, height.rest, 4294967295);
-    let sbh = cases::read_unsigned(text, sbw.rest, 4294967295);
-    let chroma = cases::read_unsigned(text, sbh.rest, 1);
-    let depth = cases::read_unsigned(text, chroma.rest, 4294967295);
-    let deltaq = cases::read_signed(text, depth.rest);
-    let deltaside = cases::read_signed(text, deltaq.rest);
+    let cols = text::read_unsigned(text, c, 1099511627775);
+    let rows = text::read_unsigned(text, cols.rest, 1099511627775);
+    let stride = text::read_unsigned(text, rows.rest, 1099511627775);
+    let width = text::read_unsigned(text, stride.rest, 1099511627775);
+    let height = text::read_unsigned(text, width.rest, 1099511627775);
+    let sbw = text::read_unsigned(text, height.rest, 4294967295);
+    let sbh = text::read_unsigned(text, sbw.rest, 4294967295);
+    let chroma = text::read_unsigned(text, sbh.rest, 1);
+    let depth = text::read_unsigned(text, chroma.rest, 4294967295);
+    let deltaq = text::read_signed(text, depth.rest);
+    let deltaside = text::read_signed(text, deltaq.rest);
     let rest = deltaside.rest;
     Asked {
         s: Plane {
@@ -49,37 +49,37 @@ fn settings(text: &[u8], c: Cursor) -> Asked {
 }
 
 // Whether a plane's answer and both counts are the stream's.
-pub fn same(a: PlaneAnswer, told: Told) -> bool {
+pub fn same(a: PlaneAnswer, told: Answered) -> bool {
     tally::same_counted(a, told.number, told.place, told.stored, told.changed)
 }
 
 // Whether the plane is the stream's: the new one of an accepted case, the lent one of a refused case.
-pub fn held(text: &[u8], lent: Cursor, told: Told, plane: &[u16]) -> bool {
+pub fn held(text: &[u8], lent: Cursor, told: Answered, plane: &[u16]) -> bool {
     if told.number == 0 {
-        let new = cases::hold_u16s(text, told.rest, plane);
-        return new.same && cases::ended(new.rest);
+        let new = text::hold_u16s(text, told.rest, plane);
+        return new.same && text::ended(new.rest);
     }
-    let n = cases::read_unsigned(text, lent, 4294967295);
-    let old = cases::hold_u16s(text, n.rest, plane);
-    old.same && cases::ended(told.rest)
+    let n = text::read_unsigned(text, lent, 4294967295);
+    let old = text::hold_u16s(text, n.rest, plane);
+    old.same && text::ended(told.rest)
 }
 
 // Whether plane and buffer are the stream's.
-fn held_both(text: &[u8], lent: Cursor, told: Told, plane: &[u16], buffer: &[u8]) -> bool {
+fn held_both(text: &[u8], lent: Cursor, told: Answered, plane: &[u16], buffer: &[u8]) -> bool {
     if told.number == 0 {
-        let new = cases::hold_u16s(text, told.rest, plane);
-        let noted = cases::hold_u8s(text, new.rest, buffer);
-        return new.same && noted.same && cases::ended(noted.rest);
+        let new = text::hold_u16s(text, told.rest, plane);
+        let noted = text::hold_u8s(text, new.rest, buffer);
+        return new.same && noted.same && text::ended(noted.rest);
     }
-    let n = cases::read_unsigned(text, lent, 4294967295);
-    let old = cases::hold_u16s(text, n.rest, plane);
-    let m = cases::read_unsigned(text, old.rest, 4294967295);
-    let kept = cases::hold_u8s(text, m.rest, buffer);
-    old.same && kept.same && cases::ended(told.rest)
+    let n = text::read_unsigned(text, lent, 4294967295);
+    let old = text::hold_u16s(text, n.rest, plane);
+    let m = text::read_unsigned(text, old.rest, 4294967295);
+    let kept = text::hold_u8s(text, m.rest, buffer);
+    old.same && kept.same && text::ended(told.rest)
 }
 
 // Whether a recorded plane's record is the stream's: its length, or the refusal.
-fn same_length(record: Recorded, told: Told) -> bool {
+fn same_length(record: Recorded, told: Answered) -> bool {
     match record {
         Recorded::Bytes(n) => told.number == 0 && n == told.place,
         Recorded::Refused(r) => tally::refused(r, told.number, told.place),
@@ -87,7 +87,7 @@ fn same_length(record: Recorded, told: Told) -> bool {
 }
 
 // Whether a recorded plane's answer and both counts are the stream's.
-fn same_record(a: RecordAnswer, told: Told) -> bool {
+fn same_record(a: RecordAnswer, told: Answered) -> bool {
     let r = a.record;
     a.stored == told.stored && a.changed == told.changed && same_length(r, told)
 }
@@ -96,7 +96,7 @@ fn same_record(a: RecordAnswer, told: Told) -> bool {
 fn compare_recorded(
     text: &[u8],
     lent: Cursor,
-    told: Told,
+    told: Answered,
     s: Plane,
     vedge: &[u8],
     hedge: &[u8],
@@ -129,7 +129,7 @@ fn compare_recorded(
 fn compare(
     text: &[u8],
     lent: Cursor,
-    told: Told,
+    told: Answered,
     s: Plane,
     vedge: &[u8],
     hedge: &[u8],
@@ -167,9 +167,9 @@ fn replay_recorded(
 ) -> Tally {
     let mut plane = [0u16; 131072];
     let mut buffer = [0u8; 65536];
-    let p = cases::read_u16s(text, lent, &mut plane);
-    let b = cases::read_u8s(text, p.rest, &mut buffer);
-    let told = cases::read_counted(text, b.rest);
+    let p = text::read_u16s(text, lent, &mut plane);
+    let b = text::read_u8s(text, p.rest, &mut buffer);
+    let told = text::read_counted(text, b.rest);
     let rest = told.rest;
     if !rest.good {
         return tally::unread(t);
@@ -212,9 +212,9 @@ fn replay_plane(
 ) -> Tally {
     let mut plane = [0u16; 131072];
     let mut again = [0u16; 131072];
-    let p = cases::read_u16s(text, lent, &mut plane);
-    let a = cases::read_u16s(text, lent, &mut again);
-    let told = cases::read_counted(text, p.rest);
+    let p = text::read_u16s(text, lent, &mut plane);
+    let a = text::read_u16s(text, lent, &mut again);
+    let told = text::read_counted(text, p.rest);
     let rest = told.rest;
     if !rest.good {
         return tally::unread(t);
@@ -256,9 +256,9 @@ fn replay_grid(
     let mut qindex = [0u16; 16384];
     let mut tiles = [0u16; 2048];
     let mut keep = [0u8; 16384];
-    let q = cases::read_u16s(text, c, &mut qindex);
-    let l = cases::read_u16s(text, q.rest, &mut tiles);
-    let k = cases::read_u8s(text, l.rest, &mut keep);
+    let q = text::read_u16s(text, c, &mut qindex);
+    let l = text::read_u16s(text, q.rest, &mut tiles);
+    let k = text::read_u8s(text, l.rest, &mut keep);
     let cells = q.length;
     let starts = l.length;
     let marks = k.length;
@@ -279,8 +279,8 @@ pub fn replay(text: &[u8], c: Cursor, steps: &[u32], recorded: bool, t: Tally) -
     let mut sqw = [0u8; 16384];
     let mut sqh = [0u8; 16384];
     let asked = settings(text, c);
-    let marks = cases::read_two(text, asked.rest, &mut vedge, &mut hedge);
-    let indices = cases::read_two(text, marks.rest, &mut sqw, &mut sqh);
+    let marks = text::read_two(text, asked.rest, &mut vedge, &mut hedge);
+    let indices = text::read_two(text, marks.rest, &mut sqw, &mut sqh);
     let v = marks.a;
     let h = marks.b;
     let w = indices.a;

@@ -1,12 +1,12 @@
 // One call on filled rows: what the caller does before it, what it is asked, and what the stream says that it answers and leaves.
 use crate::samples;
-use cases::Cursor;
-use cases::Told;
 use rows::deblock_rows;
 use rules::refusals::PlaneAnswer;
 use rules::rows::RowState;
 use rules::rows::RowsAnswer;
 use rules::settings::Plane;
+use text::Answered;
+use text::Cursor;
 
 // What the caller does before a call: from a place up to another the picture's samples come, and beyond stands rubbish.
 struct Filling {
@@ -28,7 +28,7 @@ pub struct Call {
     filling: Filling,
     state: RowState,
     filled: usize,
-    pub told: Told,
+    pub told: Answered,
     done: usize,
     finalrows: usize,
     next: RowState,
@@ -36,10 +36,10 @@ pub struct Call {
 }
 
 fn read_filling(text: &[u8], c: Cursor) -> Filling {
-    let from = cases::read_unsigned(text, c, 4294967295);
-    let to = cases::read_unsigned(text, from.rest, 4294967295);
-    let first = cases::read_unsigned(text, to.rest, 65535);
-    let step = cases::read_unsigned(text, first.rest, 65535);
+    let from = text::read_unsigned(text, c, 4294967295);
+    let to = text::read_unsigned(text, from.rest, 4294967295);
+    let first = text::read_unsigned(text, to.rest, 65535);
+    let step = text::read_unsigned(text, first.rest, 65535);
     let rest = step.rest;
     Filling {
         from: from.value,
@@ -51,8 +51,8 @@ fn read_filling(text: &[u8], c: Cursor) -> Filling {
 }
 
 fn read_state(text: &[u8], c: Cursor) -> Stood {
-    let held = cases::read_unsigned(text, c, 1099511627775);
-    let spent = cases::read_unsigned(text, held.rest, 1);
+    let held = text::read_unsigned(text, c, 1099511627775);
+    let spent = text::read_unsigned(text, held.rest, 1);
     let rest = spent.rest;
     Stood {
         state: RowState {
@@ -67,10 +67,10 @@ fn read_state(text: &[u8], c: Cursor) -> Stood {
 pub fn read(text: &[u8], c: Cursor) -> Call {
     let f = read_filling(text, c);
     let before = read_state(text, f.rest);
-    let filled = cases::read_unsigned(text, before.rest, 1099511627775);
-    let told = cases::read_counted(text, filled.rest);
-    let done = cases::read_unsigned(text, told.rest, 4294967295);
-    let finalrows = cases::read_unsigned(text, done.rest, 4294967295);
+    let filled = text::read_unsigned(text, before.rest, 1099511627775);
+    let told = text::read_counted(text, filled.rest);
+    let done = text::read_unsigned(text, told.rest, 4294967295);
+    let finalrows = text::read_unsigned(text, done.rest, 4294967295);
     let after = read_state(text, finalrows.rest);
     let state = before.state;
     let next = after.state;

@@ -1,8 +1,8 @@
 // One plane whose rows are filled call by call: its settings, its grid, the picture, the plane that the whole run leaves, and its calls.
 use crate::call;
-use cases::Cursor;
 use rules::settings::Plane;
 use tally::Tally;
+use text::Cursor;
 
 // The settings and what follows them.
 struct Asked {
@@ -19,17 +19,17 @@ struct Outcome {
 
 // Sizes are read past 32 bits: the stream has refused ones of four times a u32.
 fn settings(text: &[u8], c: Cursor) -> Asked {
-    let cols = cases::read_unsigned(text, c, 1099511627775);
-    let rows = cases::read_unsigned(text, cols.rest, 1099511627775);
-    let stride = cases::read_unsigned(text, rows.rest, 1099511627775);
-    let width = cases::read_unsigned(text, stride.rest, 1099511627775);
-    let height = cases::read_unsigned(text, width.rest, 1099511627775);
-    let sbw = cases::read_unsigned(text, height.rest, 4294967295);
-    let sbh = cases::read_unsigned(text, sbw.rest, 4294967295);
-    let chroma = cases::read_unsigned(text, sbh.rest, 1);
-    let depth = cases::read_unsigned(text, chroma.rest, 4294967295);
-    let deltaq = cases::read_signed(text, depth.rest);
-    let deltaside = cases::read_signed(text, deltaq.rest);
+    let cols = text::read_unsigned(text, c, 1099511627775);
+    let rows = text::read_unsigned(text, cols.rest, 1099511627775);
+    let stride = text::read_unsigned(text, rows.rest, 1099511627775);
+    let width = text::read_unsigned(text, stride.rest, 1099511627775);
+    let height = text::read_unsigned(text, width.rest, 1099511627775);
+    let sbw = text::read_unsigned(text, height.rest, 4294967295);
+    let sbh = text::read_unsigned(text, sbw.rest, 4294967295);
+    let chroma = text::read_unsigned(text, sbh.rest, 1);
+    let depth = text::read_unsigned(text, chroma.rest, 4294967295);
+    let deltaq = text::read_signed(text, depth.rest);
+    let deltaside = text::read_signed(text, deltaq.rest);
     let rest = deltaside.rest;
     Asked {
         s: Plane {
@@ -72,7 +72,7 @@ fn run_calls(
     plane: &mut [u16],
     found: &mut [u16],
 ) -> Outcome {
-    let calls = cases::read_unsigned(text, c, 8192);
+    let calls = text::read_unsigned(text, c, 8192);
     let rest = calls.rest;
     let mut out = Outcome {
         number: 0,
@@ -129,10 +129,10 @@ fn replay_calls(
     let mut due = [0u16; 131072];
     let mut plane = [0u16; 131072];
     let mut found = [0u16; 131072];
-    let p = cases::read_u16s(text, c, &mut picture);
-    let d = cases::read_u16s(text, p.rest, &mut due);
-    let a = cases::read_u16s(text, c, &mut plane);
-    let b = cases::read_u16s(text, c, &mut found);
+    let p = text::read_u16s(text, c, &mut picture);
+    let d = text::read_u16s(text, p.rest, &mut due);
+    let a = text::read_u16s(text, c, &mut plane);
+    let b = text::read_u16s(text, c, &mut found);
     let samples = p.length;
     let whole = d.length;
     let lent = a.length;
@@ -158,7 +158,7 @@ fn replay_calls(
     if !rest.good {
         return tally::unread(t);
     }
-    tally::case(t, out.number, out.same && cases::ended(rest))
+    tally::case(t, out.number, out.same && text::ended(rest))
 }
 
 // The grid's last three lists: the qindex, the tile starts and the keep marks.
@@ -176,9 +176,9 @@ fn replay_grid(
     let mut qindex = [0u16; 16384];
     let mut tiles = [0u16; 2048];
     let mut keep = [0u8; 16384];
-    let q = cases::read_u16s(text, c, &mut qindex);
-    let l = cases::read_u16s(text, q.rest, &mut tiles);
-    let k = cases::read_u8s(text, l.rest, &mut keep);
+    let q = text::read_u16s(text, c, &mut qindex);
+    let l = text::read_u16s(text, q.rest, &mut tiles);
+    let k = text::read_u8s(text, l.rest, &mut keep);
     let cells = q.length;
     let starts = l.length;
     let marks = k.length;
@@ -205,8 +205,8 @@ pub fn replay(text: &[u8], c: Cursor, steps: &[u32], t: Tally) -> Tally {
     let mut sqw = [0u8; 16384];
     let mut sqh = [0u8; 16384];
     let asked = settings(text, c);
-    let marks = cases::read_two(text, asked.rest, &mut vedge, &mut hedge);
-    let indices = cases::read_two(text, marks.rest, &mut sqw, &mut sqh);
+    let marks = text::read_two(text, asked.rest, &mut vedge, &mut hedge);
+    let indices = text::read_two(text, marks.rest, &mut sqw, &mut sqh);
     let v = marks.a;
     let h = marks.b;
     let w = indices.a;

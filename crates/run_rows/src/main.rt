@@ -11,8 +11,8 @@ mod samples;
 
 ghost use mathlib.Core.Path.{_≡_};
 ghost use lib.ListN.{length};
-use cases::Cursor;
 use tally::Tally;
+use text::Cursor;
 
 // What is counted so far, and the length of the step table that stands.
 struct Run {
@@ -31,10 +31,10 @@ fn replay(text: &[u8], c: Cursor, steps: &mut [u32], before: Run) -> Run
 {
     let t = before.tally;
     let n = before.steps;
-    let kind = cases::read_unsigned(text, c, 2);
+    let kind = text::read_unsigned(text, c, 2);
     let rest = kind.rest;
     if kind.value == 1 {
-        let table = cases::set_steps(text, rest, steps);
+        let table = text::set_steps(text, rest, steps);
         return Run {
             tally: tally::no_case(t, table.whole),
             steps: table.length,

@@ -1,11 +1,11 @@
 // One case: what the entry is asked, and what the stream says that it answers and leaves.
-use cases::Cursor;
-use cases::Told;
 use lone::filter_lone;
 use rules::refusals::LoneAnswer;
 use rules::refusals::Width;
 use rules::settings::Lone;
 use tally::Tally;
+use text::Answered;
+use text::Cursor;
 ghost use mathlib.Core.Path.{_≡_};
 ghost use lib.ListN.{length};
 
@@ -14,7 +14,7 @@ pub struct Case {
     pub s: Lone,
     pub length: usize,
     pub lent: Cursor,
-    pub told: Told,
+    pub told: Answered,
 }
 
 // A coordinate, and what follows it.
@@ -30,7 +30,7 @@ struct Settings {
 }
 
 fn read_coordinate(text: &[u8], c: Cursor) -> Coordinate {
-    let n = cases::read_unsigned(text, c, 65535);
+    let n = text::read_unsigned(text, c, 65535);
     let rest = n.rest;
     Coordinate {
         value: n.value as u16,
@@ -39,14 +39,14 @@ fn read_coordinate(text: &[u8], c: Cursor) -> Coordinate {
 }
 
 fn read_settings(text: &[u8], c: Cursor) -> Settings {
-    let columns = cases::read_unsigned(text, c, 4294967295);
-    let rows = cases::read_unsigned(text, columns.rest, 4294967295);
-    let stride = cases::read_unsigned(text, rows.rest, 4294967295);
-    let depth = cases::read_unsigned(text, stride.rest, 4294967295);
-    let q = cases::read_unsigned(text, depth.rest, 4294967295);
-    let side = cases::read_unsigned(text, q.rest, 4294967295);
-    let pair = cases::read_unsigned(text, side.rest, 4294967295);
-    let dir = cases::read_unsigned(text, pair.rest, 4294967295);
+    let columns = text::read_unsigned(text, c, 4294967295);
+    let rows = text::read_unsigned(text, columns.rest, 4294967295);
+    let stride = text::read_unsigned(text, rows.rest, 4294967295);
+    let depth = text::read_unsigned(text, stride.rest, 4294967295);
+    let q = text::read_unsigned(text, depth.rest, 4294967295);
+    let side = text::read_unsigned(text, q.rest, 4294967295);
+    let pair = text::read_unsigned(text, side.rest, 4294967295);
+    let dir = text::read_unsigned(text, pair.rest, 4294967295);
     let x = read_coordinate(text, dir.rest);
     let y = read_coordinate(text, x.rest);
     let rest = y.rest;
@@ -73,11 +73,11 @@ pub fn read(text: &[u8], c: Cursor, plane: &mut [u16]) -> Case
 {
     let settings = read_settings(text, c);
     let s = settings.s;
-    let count = cases::read_unsigned(text, settings.rest, 4294967295);
+    let count = text::read_unsigned(text, settings.rest, 4294967295);
     let lent = count.rest;
-    let list = cases::read_u16s(text, settings.rest, plane);
+    let list = text::read_u16s(text, settings.rest, plane);
     let length = list.length;
-    let told = cases::read_counted(text, list.rest);
+    let told = text::read_counted(text, list.rest);
     Case {
         s,
         length,
@@ -87,7 +87,7 @@ pub fn read(text: &[u8], c: Cursor, plane: &mut [u16]) -> Case
 }
 
 // Whether the width or the refusal is the stream's.
-fn same_width(width: Width, told: Told) -> bool {
+fn same_width(width: Width, told: Answered) -> bool {
     match width {
         Width::Samples(w) => told.number == 0 && w == told.place,
         Width::Refused(r) => tally::refused(r, told.number, told.place),
@@ -95,17 +95,17 @@ fn same_width(width: Width, told: Told) -> bool {
 }
 
 // Whether the answer and both counts are the stream's.
-fn same(a: LoneAnswer, told: Told) -> bool {
+fn same(a: LoneAnswer, told: Answered) -> bool {
     let w = a.width;
     a.stored == told.stored && a.changed == told.changed && same_width(w, told)
 }
 
 // Whether the plane is the stream's, the one after the answer or where refused the one that was lent, and the line ends where it should.
-fn same_plane(text: &[u8], lent: Cursor, told: Told, plane: &[u16]) -> bool {
+fn same_plane(text: &[u8], lent: Cursor, told: Answered, plane: &[u16]) -> bool {
     let stands = if told.number == 0 { told.rest } else { lent };
-    let h = cases::hold_u16s(text, stands, plane);
+    let h = text::hold_u16s(text, stands, plane);
     let last = if told.number == 0 { h.rest } else { told.rest };
-    h.same && cases::ended(last)
+    h.same && text::ended(last)
 }
 
 // The entry's answer and plane, held against the stream's; the plane is the case's, with nothing beyond it.

@@ -3,8 +3,8 @@
 // one case of the stream
 mod case;
 
-use cases::Cursor;
 use tally::Tally;
+use text::Cursor;
 ghost use mathlib.Core.Path.{_≡_};
 ghost use lib.ListN.{length};
 
@@ -22,7 +22,7 @@ fn samples() -> [u16; 524288] {
 fn replay(text: &[u8], c: Cursor, plane: &mut [u16], t: Tally) -> Tally
     ensures { λ r. ⌜ length (now (plane .exit)) ≡ length (now (plane .entry)) ⌝ }
 {
-    let kind = cases::read_unsigned(text, c, 1);
+    let kind = text::read_unsigned(text, c, 1);
     let rest = kind.rest;
     if kind.value != 1 {
         return tally::unread(t);

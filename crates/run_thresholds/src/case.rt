@@ -1,7 +1,7 @@
 // One case: what the entry is asked, and what the stream says that it answers.
-use cases::Cursor;
 use rules::refusals::Thresholds;
 use tally::Tally;
+use text::Cursor;
 use thresholds::combine::combine_thresholds;
 
 // The entry's numbers, the refusal's number or 0, and the answer's two numbers.
@@ -24,7 +24,7 @@ struct Qindex {
 }
 
 fn read_qindex(text: &[u8], c: Cursor) -> Qindex {
-    let n = cases::read_unsigned(text, c, 65535);
+    let n = text::read_unsigned(text, c, 65535);
     let rest = n.rest;
     Qindex {
         value: n.value as u16,
@@ -36,12 +36,12 @@ fn read_qindex(text: &[u8], c: Cursor) -> Qindex {
 pub fn read(text: &[u8], c: Cursor) -> Case {
     let curr = read_qindex(text, c);
     let prev = read_qindex(text, curr.rest);
-    let deltaq = cases::read_signed(text, prev.rest);
-    let deltaside = cases::read_signed(text, deltaq.rest);
-    let depth = cases::read_unsigned(text, deltaside.rest, 4294967295);
-    let number = cases::read_unsigned(text, depth.rest, 9);
-    let a = cases::read_unsigned(text, number.rest, 4294967295);
-    let b = cases::read_unsigned(text, a.rest, 4294967295);
+    let deltaq = text::read_signed(text, prev.rest);
+    let deltaside = text::read_signed(text, deltaq.rest);
+    let depth = text::read_unsigned(text, deltaside.rest, 4294967295);
+    let number = text::read_unsigned(text, depth.rest, 9);
+    let a = text::read_unsigned(text, number.rest, 4294967295);
+    let b = text::read_unsigned(text, a.rest, 4294967295);
     let end = b.rest;
     Case {
         curr: curr.value,
@@ -52,7 +52,7 @@ pub fn read(text: &[u8], c: Cursor) -> Case {
         number: number.value,
         a: a.value,
         b: b.value,
-        good: cases::ended(end),
+        good: text::ended(end),
     }
 }
 

@@ -5,8 +5,8 @@ mod case;
 
 ghost use mathlib.Core.Path.{_≡_};
 ghost use lib.ListN.{length};
-use cases::Cursor;
 use tally::Tally;
+use text::Cursor;
 
 // What is counted so far, and the length of the step table that stands.
 struct Run {
@@ -25,7 +25,7 @@ fn replay(text: &[u8], c: Cursor, steps: &mut [u32], before: Run) -> Run
 {
     let t = before.tally;
     let n = before.steps;
-    let kind = cases::read_unsigned(text, c, 3);
+    let kind = text::read_unsigned(text, c, 3);
     let rest = kind.rest;
     if !rest.good {
         return Run {
@@ -34,7 +34,7 @@ fn replay(text: &[u8], c: Cursor, steps: &mut [u32], before: Run) -> Run
         };
     }
     if kind.value == 1 {
-        let table = cases::set_steps(text, rest, steps);
+        let table = text::set_steps(text, rest, steps);
         return Run {
             tally: tally::no_case(t, table.whole),
             steps: table.length,

@@ -22,11 +22,11 @@ use Rattle.rules.specs.Lengths.{mostBefore, mostAfter, reachBefore, reachAfter}
 use Rattle.rules.specs.Width.{blank, pOf, qOf}
 use Rattle.rules.specs.Taps.{move, before, after}
 use Rattle.rules.specs.Ramp.{Near, rampBefore, rampAfter}
-use Rattle.rules.specs.Segment.{placed, placeOf, pAt, qAt, windowOf, chosenOf, storesOf, fourStores, differenceOf, widthAt, openStores, segmentOf}
+use Rattle.rules.specs.Segment.{placed, edgePlace, pAt, qAt, windowOf, chosenOf, storesOf, fourStores, differenceOf, widthAt, openStores, segmentOf}
 use Rattle.lengths.proofs.Lengths.{PairFacts, pair-facts}
 use Rattle.width.proofs.Most.{width-most}
 use Rattle.taps.proofs.Ramp.{ramp-before, ramp-after}
-use Rattle.segment.specs.Fit.{Room, Spread, Fit, InPlane}
+use Rattle.segment.specs.Fit.{Room, Spread, EdgeFits, InPlane}
 use Rattle.segment.specs.Promises.{pPlace, qPlace, narrowAt, differenceAt, Demand3, Outside}
 use Rattle.segment.proofs.Places.{before-in, after-in, line-in}
 use Rattle.segment.proofs.Edges.{fit-of}
@@ -38,7 +38,7 @@ pub chosen-most : (g : Place) (ls : List Line) → g .pair < 8 → chosenOf g ls
 unfolding chosenOf
 chosen-most g ls h = width-most ls (mostBefore (g .pair)) (g .q) (g .side) (pair-facts (g .pair) h .after-is)
 
-module _ (top : ℕ) (kept : ℕ → Bool) (g : Place) (l : List ℕ) (fit : Fit g (length l)) where
+module _ (top : ℕ) (kept : ℕ → Bool) (g : Place) (l : List ℕ) (fit : EdgeFits g (length l)) where
   abbrev wide : ℕ
   wide = chosenOf g (windowOf g l)
 
@@ -129,15 +129,15 @@ placed-same : (t : Bool) (stride : ℕ) (e : Edge) → (placed t stride e .pair 
 placed-same true stride e = (refl, refl)
 placed-same false stride e = (refl, refl)
 
-pub place-same : (stride : ℕ) (e : Edge) → (placeOf stride e .pair ≡ e .pair) × (placeOf stride e .q ≡ e .q)
-unfolding placeOf
+pub place-same : (stride : ℕ) (e : Edge) → (edgePlace stride e .pair ≡ e .pair) × (edgePlace stride e .q ≡ e .q)
+unfolding edgePlace
 place-same stride e = placed-same (eqb (e .dir) 0) stride e
 
 module _ (top stride : ℕ) (kept : ℕ → Bool) (e : Edge) (l : List ℕ) where
   pub demand-3 : {columns rows : ℕ} → InPlane stride columns rows e (length l) → Demand3 top stride kept e l (segmentOf top stride kept e l)
-  unfolding widthAt segmentOf placeOf
+  unfolding widthAt segmentOf edgePlace
   demand-3 h =
-      let g = placeOf stride e in
+      let g = edgePlace stride e in
       let f = fit-of h refl in
       let p = place-same stride e .0 in
       let q = place-same stride e .1 in
@@ -148,9 +148,9 @@ module _ (top stride : ℕ) (kept : ℕ → Bool) (e : Edge) (l : List ℕ) wher
 
   -- every place outside of the widths
   pub edge-kept : (i : ℕ) → Outside stride e l i → getD (segmentOf top stride kept e l) i 0 ≡ getD l i 0
-  unfolding widthAt segmentOf storesOf placeOf
+  unfolding widthAt segmentOf storesOf edgePlace
   edge-kept i o =
-      let g = placeOf stride e in
+      let g = edgePlace stride e in
       let p = place-same stride e .0 in
       puts-other (outside kept (storesOf top g (windowOf g l))) l i (outside-each kept (λ st. st .0 ≡ i → ⊥) (storesOf top g (windowOf g l))
       (all-stores top (g .at) (g .step) (g .line) (min (chosenOf g (windowOf g l)) (mostBefore (g .pair))) (chosenOf g (windowOf g l)) (g .q) (windowOf g l) (λ st. st .0 ≡ i → ⊥)
@@ -159,13 +159,13 @@ module _ (top stride : ℕ) (kept : ℕ → Bool) (e : Edge) (l : List ℕ) wher
   -- and every one in a kept cell
   pub edge-holds : (i : ℕ) → kept i ≡ true → getD (segmentOf top stride kept e l) i 0 ≡ getD l i 0
   unfolding segmentOf
-  edge-holds i h = outside-kept kept (storesOf top (placeOf stride e) (windowOf (placeOf stride e) l)) l i h
+  edge-holds i h = outside-kept kept (storesOf top (edgePlace stride e) (windowOf (edgePlace stride e) l)) l i h
 
   pub edge-most : (i : ℕ) → getD l i 0 ≤ top → getD (segmentOf top stride kept e l) i 0 ≤ top
   unfolding segmentOf
   edge-most i b =
       puts-most top i (openStores top stride kept e l) l
-      (outside-each kept (λ st. st .1 ≤ top) (storesOf top (placeOf stride e) (windowOf (placeOf stride e) l)) (stores-most top (placeOf stride e) (windowOf (placeOf stride e) l))) b
+      (outside-each kept (λ st. st .1 ≤ top) (storesOf top (edgePlace stride e) (windowOf (edgePlace stride e) l)) (stores-most top (edgePlace stride e) (windowOf (edgePlace stride e) l))) b
 
   pub edge-length : length (segmentOf top stride kept e l) ≡ length l
   unfolding segmentOf

@@ -22,13 +22,13 @@ use Rattle.rules.specs.declared.counts.Counts.{Counts}
 use Rattle.rules.specs.Lengths.{mostBefore, mostAfter, reachBefore, reachAfter}
 use Rattle.rules.specs.Width.{blank}
 use Rattle.rules.specs.Taps.{mostOf, before, after}
-use Rattle.rules.specs.Segment.{placed, placeOf, hasRoom, pAt, qAt, differenceOf, windowOf, chosenOf, storesOf, fourStores, lineStores, noneKept, widthAt, segmentOf}
+use Rattle.rules.specs.Segment.{placed, edgePlace, hasRoom, pAt, qAt, differenceOf, windowOf, chosenOf, storesOf, fourStores, lineStores, noneKept, widthAt, segmentOf}
 use Rattle.rules.specs.Counts.{storedAt, changedAt}
 use Rattle.lengths.proofs.Lengths.{PairFacts, pair-facts}
 use Rattle.width.specs.Tests.{offOf}
 use Rattle.width.proofs.Most.{width-most}
 use Rattle.segment.specs.declared.outcome.Outcome.{Outcome}
-use Rattle.segment.specs.Fit.{Room, Spread, Fit, Filtered, Chosen, InPlane, EdgeFiltered}
+use Rattle.segment.specs.Fit.{Room, Spread, EdgeFits, Filtered, Chosen, InPlane, EdgeFiltered}
 use Rattle.segment.specs.Sides.{differenceIn, lineTaps, fourTaps, Lanes, none, Tapped}
 use Rattle.segment.proofs.Window.{window-p, window-q}
 use Rattle.segment.proofs.Cells.{Along, along-of, spread-of}
@@ -48,7 +48,7 @@ spread-less r hn hw = record {
   across = λ j k i m hj hk hi hm. r .across j k i m hj (omega arith) hi (omega arith);
 }
 
-module _ (e : Place) {size : ℕ} (fit : Fit e size) where
+module _ (e : Place) {size : ℕ} (fit : EdgeFits e size) where
   pub read-room : {b a : ℕ} → b ≡ reachBefore (e .pair) → a ≡ reachAfter (e .pair) → (3 ≤ b) × (3 ≤ a) × (Room (e .at) (e .step) (e .line) b a size)
   read-room p q =
       let f = pair-facts (e .pair) (fit .pair-is) in
@@ -60,7 +60,7 @@ module _ (e : Place) {size : ℕ} (fit : Fit e size) where
   choice-fits h lit = let f = pair-facts (e .pair) (fit .pair-is) .after in (omega arith, fit .q-most, fit .side-most, lit)
 
 -- ---- the widths of an edge that filters
-module _ (e : Place) (l : List ℕ) {size : ℕ} (fit : Fit e size) {n w k : ℕ} (hw : w ≡ chosenOf e (windowOf e l)) (some : w ≡ 0 → ⊥) (hn : n ≡ mostBefore (e .pair)) (hk : k ≡ min w n) where
+module _ (e : Place) (l : List ℕ) {size : ℕ} (fit : EdgeFits e size) {n w k : ℕ} (hw : w ≡ chosenOf e (windowOf e l)) (some : w ≡ 0 → ⊥) (hn : n ≡ mostBefore (e .pair)) (hk : k ≡ min w n) where
   pub after-most : w ≤ mostAfter (e .pair)
   unfolding chosenOf
   after-most = rw hw (width-most (windowOf e l) (mostBefore (e .pair)) (e .q) (e .side) (pair-facts (e .pair) (fit .pair-is) .after-is))
@@ -133,7 +133,7 @@ filtered-none top kept e l {w} hw hz =
 pub chosen-alone : (e : Place) (l : List ℕ) {w : ℕ} → w ≡ chosenOf e (windowOf e l) → Chosen e l record { width = w; stored = 0; changed = 0 } l
 chosen-alone e l h = record { width = h; plane = refl }
 
-pub filtered-some : (top : ℕ) (e : Place) (l m : List ℕ) {r : Counts} {size n w k lim : ℕ} → Fit e size → w ≡ chosenOf e (windowOf e l) → (w ≡ 0 → ⊥) → n ≡ mostBefore (e .pair) → k ≡ min w n
+pub filtered-some : (top : ℕ) (e : Place) (l m : List ℕ) {r : Counts} {size n w k lim : ℕ} → EdgeFits e size → w ≡ chosenOf e (windowOf e l) → (w ≡ 0 → ⊥) → n ≡ mostBefore (e .pair) → k ≡ min w n
     → Tapped (fourTaps top (e .at) (e .step) (e .line) k w lim l) l none r m → lim ≡ e .q * mostOf w → Filtered top noneKept e l record { width = w; stored = r .stored; changed = r .changed } m
 unfolding storesOf
 filtered-some top e l m {r} {size} {n} {w} {k} {lim} fit hw some hn hk hm hl =
@@ -168,7 +168,7 @@ room-of false stride columns rows size e hc hs f r =
     record { low = omega arith; high = omega arith; some = omega arith; most-before = b .reach-8; most-after = a .reach-8 }
 
 fit-at : (t : Bool) (stride columns rows size : ℕ) (e : Edge) → e .pair < 8 → e .q ≤ 2048 → e .side ≤ 839 → columns ≤ stride → rows * stride ≤ size
-    → Along t columns rows (e .x) (e .y) (reachBefore (e .pair)) (reachAfter (e .pair)) → Fit (placed t stride e) size
+    → Along t columns rows (e .x) (e .y) (reachBefore (e .pair)) (reachAfter (e .pair)) → EdgeFits (placed t stride e) size
 fit-at true stride columns rows size e hp hq hs hc hz r = record { pair-is = hp; q-most = hq; side-most = hs; room = room-of true stride columns rows size e hc hz (pair-facts (e .pair) hp) r; spread = spread-of true stride columns rows e hc r }
 fit-at false stride columns rows size e hp hq hs hc hz r = record { pair-is = hp; q-most = hq; side-most = hs; room = room-of false stride columns rows size e hc hz (pair-facts (e .pair) hp) r; spread = spread-of false stride columns rows e hc r }
 
@@ -176,8 +176,8 @@ pub along-in : {stride columns rows size : ℕ} {e : Edge} → InPlane stride co
 unfolding hasRoom
 along-in {stride} {columns} {rows} {size} {e} h = along-of (eqb (e .dir) 0) columns rows (e .x) (e .y) (reachBefore (e .pair)) (reachAfter (e .pair)) (h .room)
 
-pub fit-of : {stride columns rows size : ℕ} {e : Edge} {g : Place} → InPlane stride columns rows e size → g ≡ placeOf stride e → Fit g size
-unfolding placeOf
+pub fit-of : {stride columns rows size : ℕ} {e : Edge} {g : Place} → InPlane stride columns rows e size → g ≡ edgePlace stride e → EdgeFits g size
+unfolding edgePlace
 fit-of {stride} {columns} {rows} {size} {e} h q =
     rw q (fit-at (eqb (e .dir) 0) stride columns rows size e (h .pair-is) (h .q-most) (h .side-most) (h .row) (h .plane) (along-in h))
 
@@ -191,15 +191,15 @@ at-below {stride} {columns} {rows} {size} {e} h =
     omega (arith, at-of (eqb (e .dir) 0) stride e)
 
 -- ---- where an edge stands
-pub place-vertical : (stride : ℕ) (e : Edge) → e .dir ≡ 0 → placed true stride e ≡ placeOf stride e
-unfolding placeOf
+pub place-vertical : (stride : ℕ) (e : Edge) → e .dir ≡ 0 → placed true stride e ≡ edgePlace stride e
+unfolding edgePlace
 place-vertical stride e h = rw (eq-eqb _ _ h)
 
-pub place-horizontal : (stride : ℕ) (e : Edge) → (e .dir ≡ 0 → ⊥) → placed false stride e ≡ placeOf stride e
-unfolding placeOf
+pub place-horizontal : (stride : ℕ) (e : Edge) → (e .dir ≡ 0 → ⊥) → placed false stride e ≡ edgePlace stride e
+unfolding edgePlace
 place-horizontal stride e h = rw (ne-eqb _ _ h)
 
-pub edge-filtered : (top stride : ℕ) (kept : ℕ → Bool) (e : Edge) {g : Place} {l : List ℕ} {r : Outcome} {m : List ℕ} → g ≡ placeOf stride e → Filtered top kept g l r m → EdgeFiltered top stride kept e l r m
+pub edge-filtered : (top stride : ℕ) (kept : ℕ → Bool) (e : Edge) {g : Place} {l : List ℕ} {r : Outcome} {m : List ℕ} → g ≡ edgePlace stride e → Filtered top kept g l r m → EdgeFiltered top stride kept e l r m
 unfolding widthAt segmentOf storedAt changedAt
 edge-filtered top stride kept e {g} {l} q f = record {
   width = f .width ∙ ap (λ (p : Place). chosenOf p (windowOf p l)) q;

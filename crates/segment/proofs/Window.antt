@@ -12,7 +12,7 @@ use Rattle.rules.specs.Lengths.{reachBefore, reachAfter}
 use Rattle.rules.specs.Width.{blank, pOf, qOf}
 use Rattle.rules.specs.Segment.{pAt, qAt, zeros, zeroLines, lineOf, linesOf, windowOf}
 use Rattle.lengths.proofs.Lengths.{PairFacts}
-use Rattle.segment.specs.Fit.{Within}
+use Rattle.segment.specs.Fit.{AlikeInReach}
 
 -- ---- what was read
 module _ (e : Place) (l : List ℕ) (f : PairFacts (e .pair)) where
@@ -45,7 +45,7 @@ line-agree l m at step b a hp hq =
     (filled-same zeros (λ k. getD l (pAt at step k) 0) (λ k. getD m (pAt at step k) 0) b hp)
     (filled-same zeros (λ k. getD l (qAt at step k) 0) (λ k. getD m (qAt at step k) 0) a hq)
 
-pub window-agree : (e : Place) (l m : List ℕ) → Within e l m → windowOf e l ≡ windowOf e m
+pub window-agree : (e : Place) (l m : List ℕ) → AlikeInReach e l m → windowOf e l ≡ windowOf e m
 unfolding windowOf linesOf
 window-agree e l m h =
     filled-same zeroLines (λ j. lineOf l (e .at + j * e .line) (e .step) (reachBefore (e .pair)) (reachAfter (e .pair)))

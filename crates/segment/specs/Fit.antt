@@ -30,7 +30,7 @@ pub record Spread (at step line b a : ℕ) : Type 0 where
   pub across : (j k i m : ℕ) → j < 4 → k < b → i < 4 → m < a → pAt (at + j * line) step k ≡ qAt (at + i * line) step m → ⊥
 
 -- an edge by offsets, of accepted numbers, that has room in a plane of so many samples
-pub record Fit (e : Place) (size : ℕ) : Type 0 where
+pub record EdgeFits (e : Place) (size : ℕ) : Type 0 where
   pub pair-is : e .pair < 8
   pub q-most : e .q ≤ 2048
   pub side-most : e .side ≤ 839
@@ -66,6 +66,6 @@ pub record EdgeFiltered (top stride : ℕ) (kept : ℕ → Bool) (e : Edge) (l :
   pub changed : r .changed ≡ changedAt top stride kept e l
 
 -- two planes are equal within an edge's reach on its four lines
-pub record Within (e : Place) (l m : List ℕ) : Type 0 where
+pub record AlikeInReach (e : Place) (l m : List ℕ) : Type 0 where
   pub before : (j k : ℕ) → j < 4 → k < reachBefore (e .pair) → getD l (pAt (e .at + j * e .line) (e .step) k) 0 ≡ getD m (pAt (e .at + j * e .line) (e .step) k) 0
   pub after : (j k : ℕ) → j < 4 → k < reachAfter (e .pair) → getD l (qAt (e .at + j * e .line) (e .step) k) 0 ≡ getD m (qAt (e .at + j * e .line) (e .step) k) 0

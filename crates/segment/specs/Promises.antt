@@ -11,7 +11,7 @@ use Rattle.rules.specs.declared.edge.Place.{Place}
 use Rattle.rules.specs.Lengths.{mostBefore}
 use Rattle.rules.specs.Width.{blank}
 use Rattle.rules.specs.Ramp.{Near, rampBefore, rampAfter}
-use Rattle.rules.specs.Segment.{placeOf, pAt, qAt, windowOf, differenceOf, widthAt}
+use Rattle.rules.specs.Segment.{edgePlace, pAt, qAt, windowOf, differenceOf, widthAt}
 
 -- where p_k and q_k of line j stand
 abbrev pub pPlace : Place → ℕ → ℕ → ℕ
@@ -25,16 +25,16 @@ abbrev pub narrowAt : ℕ → Edge → List ℕ → ℕ
 narrowAt stride e l = min (widthAt stride e l) (mostBefore (e .pair))
 
 abbrev pub differenceAt : ℕ → Edge → List ℕ → ℕ → ℤ
-differenceAt stride e l j = differenceOf (getD (windowOf (placeOf stride e) l) j blank) (e .q) (widthAt stride e l)
+differenceAt stride e l j = differenceOf (getD (windowOf (edgePlace stride e) l) j blank) (e .q) (widthAt stride e l)
 
 -- demand 3: every sample within the widths lies near the ramp; ticket 7: "demand 3 holds for stored samples outside kept cells"
 pub record Demand3 (top stride : ℕ) (kept : ℕ → Bool) (e : Edge) (l m : List ℕ) : Type 0 where
-  pub before : (j k : ℕ) → j < 4 → k < narrowAt stride e l → kept (pPlace (placeOf stride e) j k) ≡ false
-      → Near (getD m (pPlace (placeOf stride e) j k) 0) (rampBefore top (getD l (pPlace (placeOf stride e) j k) 0) (differenceAt stride e l j) (narrowAt stride e l) k) (differenceAt stride e l j) (narrowAt stride e l) k
-  pub after : (j k : ℕ) → j < 4 → k < widthAt stride e l → kept (qPlace (placeOf stride e) j k) ≡ false
-      → Near (getD m (qPlace (placeOf stride e) j k) 0) (rampAfter top (getD l (qPlace (placeOf stride e) j k) 0) (differenceAt stride e l j) (widthAt stride e l) k) (differenceAt stride e l j) (widthAt stride e l) k
+  pub before : (j k : ℕ) → j < 4 → k < narrowAt stride e l → kept (pPlace (edgePlace stride e) j k) ≡ false
+      → Near (getD m (pPlace (edgePlace stride e) j k) 0) (rampBefore top (getD l (pPlace (edgePlace stride e) j k) 0) (differenceAt stride e l j) (narrowAt stride e l) k) (differenceAt stride e l j) (narrowAt stride e l) k
+  pub after : (j k : ℕ) → j < 4 → k < widthAt stride e l → kept (qPlace (edgePlace stride e) j k) ≡ false
+      → Near (getD m (qPlace (edgePlace stride e) j k) 0) (rampAfter top (getD l (qPlace (edgePlace stride e) j k) 0) (differenceAt stride e l j) (widthAt stride e l) k) (differenceAt stride e l j) (widthAt stride e l) k
 
 -- a place that is no sample within the widths
 pub record Outside (stride : ℕ) (e : Edge) (l : List ℕ) (i : ℕ) : Type 0 where
-  pub before : (j k : ℕ) → j < 4 → k < narrowAt stride e l → pPlace (placeOf stride e) j k ≡ i → ⊥
-  pub after : (j k : ℕ) → j < 4 → k < widthAt stride e l → qPlace (placeOf stride e) j k ≡ i → ⊥
+  pub before : (j k : ℕ) → j < 4 → k < narrowAt stride e l → pPlace (edgePlace stride e) j k ≡ i → ⊥
+  pub after : (j k : ℕ) → j < 4 → k < widthAt stride e l → qPlace (edgePlace stride e) j k ≡ i → ⊥

@@ -19,12 +19,12 @@ ghost use Prim.Native.Nat.{_+_, _*_, _<_};
 ghost use lib.ListN.{length};
 ghost use Rattle.rules.specs.Segment.{placed, windowOf, chosenOf, noneKept};
 ghost use Rattle.width.specs.Tests.{offOf};
-ghost use Rattle.segment.specs.Fit.{Fit, Filtered, Chosen, InPlane, EdgeFiltered};
+ghost use Rattle.segment.specs.Fit.{EdgeFits, Filtered, Chosen, InPlane, EdgeFiltered};
 
 // How many samples after an edge are to be filtered, by its window and thresholds that are not 0. What else the choice takes is looked up
 // first, so that the compiler reads each sample only where a test wants it.
 fn chosen_width(plane: &[u16], e: Place) -> usize
-    requires { ⌜ Fit e (length (now plane)) × (offOf (e .q) (e .side) ≡ false) ⌝ }
+    requires { ⌜ EdgeFits e (length (now plane)) × (offOf (e .q) (e .side) ≡ false) ⌝ }
     ensures { λ r. ⌜ r ≡ chosenOf e (windowOf e (now (plane .entry))) ⌝ }
 {
     let n = most_before(e.pair);
@@ -43,7 +43,7 @@ fn chosen_width(plane: &[u16], e: Place) -> usize
 // Filters an edge that is given by offsets and has no threshold of 0, and answers what it came to; or, where it is not to store, its width alone.
 // Both go through one call of the width choice: with two in the library the compiler passes its lines through memory.
 pub fn filter_segment(plane: &mut [u16], e: Place, top: u16, stores: bool) -> Outcome
-    requires { ⌜ Fit e (length (now plane)) × (offOf (e .q) (e .side) ≡ false) ⌝ }
+    requires { ⌜ EdgeFits e (length (now plane)) × (offOf (e .q) (e .side) ≡ false) ⌝ }
     ensures { λ r. ⌜ (stores ≡ true → Filtered top noneKept e (now (plane .entry)) r (now (plane .exit))) × (stores ≡ false → Chosen e (now (plane .entry)) r (now (plane .exit))) ⌝ }
 {
     let w = chosen_width(plane, e);

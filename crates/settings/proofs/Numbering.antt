@@ -9,9 +9,9 @@ use borrow.Author.Tests.{lt-ltb, le-ltb}
 use lib.ListN.{length, set}
 use lib.Dec.{ltb}
 use Rattle.laws.specs.Choose.{pick, pick-yes, pick-no, is-lt, not-lt, is-eq, not-eq}
-use Rattle.words.specs.declared.spell.Word.{Word}
-use Rattle.words.specs.Places.{seek, newlineAt, remarkAt, inkAt}
-use Rattle.words.specs.Words.{wordAt, wordsIn}
+use Rattle.text.specs.declared.spell.Word.{Word}
+use Rattle.text.specs.Places.{seek, newlineAt, remarkAt, inkAt}
+use Rattle.text.specs.Words.{wordAt, wordsIn}
 use Rattle.settings.specs.Names.{kindOf}
 use Rattle.settings.specs.Text.{lineEnd}
 use Rattle.settings.specs.Numbered.{kindTo, kindAt, numbered, linesOf, numbersTo, numbersAt, holding, lineWith}

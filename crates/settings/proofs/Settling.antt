@@ -13,10 +13,10 @@ use mir.Val.{SFits, toZ, ofZ}
 use mir.Facts.{toZ-ofZ}
 use Rattle.laws.specs.Choose.{pick, both}
 use Rattle.laws.specs.Whole.{over, under}
-use Rattle.words.specs.declared.spell.Word.{Word}
-use Rattle.words.specs.Places.{seek, inkAt}
-use Rattle.words.specs.Words.{wordAt}
-use Rattle.cases.specs.declared.number.Cursor.{Cursor}
+use Rattle.text.specs.declared.spell.Word.{Word}
+use Rattle.text.specs.Places.{seek, inkAt}
+use Rattle.text.specs.Words.{wordAt}
+use Rattle.text.specs.declared.number.Cursor.{Cursor}
 use Rattle.settings.specs.declared.names.Rule.{Rule}
 use Rattle.settings.specs.declared.values.Taken.{Taken}
 use Rattle.settings.specs.Names.{kindOf}

@@ -6,12 +6,12 @@ use lib.IntN.{pos}
 use lib.ListN.{getD}
 use Rattle.laws.specs.Choose.{pick, both, either, all}
 use Rattle.laws.specs.Loops.{each}
-use Rattle.words.specs.Places.{seek, newlineAt, remark, remarkAt, blankOf, inkAt}
-use Rattle.words.specs.Words as Words
-use Rattle.cases.specs.Digits as Digits
-use Rattle.cases.specs.Numbers as Numbers
-use Rattle.cases.specs.Numbers.{nothing, past, ends, closed, signedAt, numberAt}
-use Rattle.cases.specs.Typed.{unsignedOf, fromZero, signedOf}
+use Rattle.text.specs.Places.{seek, newlineAt, remark, remarkAt, blankOf, inkAt}
+use Rattle.text.specs.Words as Words
+use Rattle.text.specs.Digits as Digits
+use Rattle.text.specs.Numbers as Numbers
+use Rattle.text.specs.Numbers.{nothing, past, ends, closed, signedAt, numberAt}
+use Rattle.text.specs.Typed.{unsignedOf, fromZero, signedOf}
 use Rattle.settings.specs.Names.{kindOf}
 use Rattle.settings.specs.Rules.{leafRoom, ruleOf, firstPlaces}
 use Rattle.settings.specs.Values.{readSigned, readUpTo, skipped, goesOn, taken, takenTo}

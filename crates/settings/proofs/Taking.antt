@@ -13,13 +13,13 @@ use mir.Syntax.{w8, w32}
 use mir.Val.{SFits, toZ, ofZ}
 use mir.Facts.{toZ-ofZ}
 use Rattle.laws.specs.Choose.{pick}
-use Rattle.words.specs.Places.{seek, inkAt}
-use Rattle.cases.specs.declared.number.Cursor.{Cursor}
-use Rattle.cases.specs.declared.number.Number.{Number}
-use Rattle.cases.specs.declared.typed.Signed.{Signed}
-use Rattle.cases.specs.declared.typed.Unsigned.{Unsigned}
-use Rattle.cases.specs.Numbers.{numberAt}
-use Rattle.cases.specs.Typed.{signedOf, unsignedOf}
+use Rattle.text.specs.Places.{seek, inkAt}
+use Rattle.text.specs.declared.number.Cursor.{Cursor}
+use Rattle.text.specs.declared.number.Number.{Number}
+use Rattle.text.specs.declared.typed.Signed.{Signed}
+use Rattle.text.specs.declared.typed.Unsigned.{Unsigned}
+use Rattle.text.specs.Numbers.{numberAt}
+use Rattle.text.specs.Typed.{signedOf, unsignedOf}
 use Rattle.settings.specs.Values.{Read, Put, readSigned, readUpTo, readOffset, offsetOf, offsetRest, skipped, goesOn, taken, takenTo}
 
 -- a line that is not in the text, and one that is

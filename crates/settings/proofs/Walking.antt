@@ -8,7 +8,7 @@ use borrow.Author.Tests.{lt-ltb, le-ltb}
 use lib.ListN.{length}
 use lib.Dec.{eqb, ltb}
 use Rattle.laws.specs.Choose.{pick, pick-yes, pick-no, is-eq, not-eq}
-use Rattle.words.specs.Places.{seek, newlineAt, remarkAt}
+use Rattle.text.specs.Places.{seek, newlineAt, remarkAt}
 use Rattle.settings.specs.Lines.{State, lineOf}
 use Rattle.settings.specs.Text.{Parsed, missingOf, ended, lineEnd, saidAt, walk, parseOf}
 

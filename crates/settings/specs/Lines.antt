@@ -7,10 +7,10 @@ use lib.ListN.{length, getD, set}
 use lib.IntN.{ℤ, pos, negsuc}
 use lib.Dec.{eqb, leb, ltb}
 use Rattle.laws.specs.Choose.{pick, both, all}
-use Rattle.words.specs.declared.spell.Word.{Word}
-use Rattle.words.specs.Places.{seek, inkAt}
-use Rattle.words.specs.Words.{wordAt}
-use Rattle.cases.specs.declared.number.Cursor.{Cursor}
+use Rattle.text.specs.declared.spell.Word.{Word}
+use Rattle.text.specs.Places.{seek, inkAt}
+use Rattle.text.specs.Words.{wordAt}
+use Rattle.text.specs.declared.number.Cursor.{Cursor}
 use Rattle.settings.specs.declared.names.Rule.{Rule}
 use Rattle.settings.specs.declared.values.Taken.{Taken}
 use Rattle.settings.specs.Names.{kindOf}

@@ -2,7 +2,7 @@
 use Prim.Native.Nat.{ℕ}
 use lib.Dec.{eqb}
 use Rattle.laws.specs.Choose.{pick}
-use Rattle.words.specs.Words.{spelled}
+use Rattle.text.specs.Words.{spelled}
 
 -- the number of a name, 0 for any other word
 unfoldable pub kindOf : ℕ → ℕ

@@ -4,8 +4,8 @@ use mathlib.Core.List.{List}
 use lib.ListN.{length, set}
 use lib.Dec.{eqb, ltb}
 use Rattle.laws.specs.Choose.{pick}
-use Rattle.words.specs.Places.{seek, remarkAt, inkAt}
-use Rattle.words.specs.Words.{wordAt, wordsIn}
+use Rattle.text.specs.Places.{seek, remarkAt, inkAt}
+use Rattle.text.specs.Words.{wordAt, wordsIn}
 use Rattle.settings.specs.Names.{kindOf}
 use Rattle.settings.specs.Text.{lineEnd}
 

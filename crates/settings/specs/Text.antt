@@ -5,8 +5,8 @@ use mathlib.Core.Bool.{Bool, not}
 use lib.ListN.{length, getD}
 use lib.Dec.{eqb, ltb}
 use Rattle.laws.specs.Choose.{pick, both}
-use Rattle.words.specs.Places.{seek, newlineAt, remarkAt}
-use Rattle.settings.specs.declared.text.Fault.{Fault}
+use Rattle.text.specs.Places.{seek, newlineAt, remarkAt}
+use Rattle.settings.specs.declared.file.Fault.{Fault}
 use Rattle.settings.specs.Lines.{State, Said, lineOf}
 
 -- the lists and places, and the line with the kind that was expected there and the place where it starts

@@ -6,11 +6,11 @@ use lib.ListN.{length, set}
 use lib.IntN.{ℤ, pos, negsuc, negℤ}
 use lib.Dec.{leb, ltb}
 use Rattle.laws.specs.Choose.{pick, both}
-use Rattle.words.specs.Places.{seek, inkAt}
-use Rattle.cases.specs.declared.number.Cursor.{Cursor}
-use Rattle.cases.specs.declared.number.Number.{Number}
-use Rattle.cases.specs.Numbers.{numberAt}
-use Rattle.cases.specs.Typed.{failed, unsignedOf, signedOf}
+use Rattle.text.specs.Places.{seek, inkAt}
+use Rattle.text.specs.declared.number.Cursor.{Cursor}
+use Rattle.text.specs.declared.number.Number.{Number}
+use Rattle.text.specs.Numbers.{numberAt}
+use Rattle.text.specs.Typed.{failed, unsignedOf, signedOf}
 use Rattle.settings.specs.declared.values.Taken.{Taken}
 
 -- a number, and what is left of the line

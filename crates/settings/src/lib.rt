@@ -7,7 +7,7 @@ pub mod names;
 mod values;
 
 // One line, and the whole text.
-pub mod text;
+pub mod file;
 
 // Which line has a setting.
 pub mod lines;

@@ -4,11 +4,11 @@ ghost use Prim.Native.Nat.{_≤_};
 ghost use lib.ListN.{length};
 ghost use Rattle.settings.specs.Numbered.{kindTo, linesOf, numbersTo, lineWith};
 use crate::names::kind;
-use words::count::count;
-use words::place::content_end;
-use words::place::line_end;
-use words::place::spaces;
-use words::spell::read_word;
+use text::count::count;
+use text::place::content_end;
+use text::place::line_end;
+use text::place::spaces;
+use text::spell::read_word;
 
 // The kind of a line that says something up to a place, 0 for none.
 fn kind_of(text: &[u8], from: usize, stop: usize) -> usize

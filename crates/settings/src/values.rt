@@ -5,10 +5,10 @@ ghost use lib.Dec.{leb};
 ghost use lib.ListN.{length};
 ghost use Rattle.laws.specs.Choose.{pick};
 ghost use Rattle.settings.specs.Values.{readSigned, readUpTo, readOffset, belowOf, aboveOf, offsetOf, offsetRest, skipped, goesOn, takenTo};
-use cases::Cursor;
-use cases::Number;
 use laws::least;
-use words::place::spaces;
+use text::Cursor;
+use text::Number;
+use text::place::spaces;
 
 // The place after the last number, and what is left of the line.
 pub struct Taken {
@@ -52,7 +52,7 @@ pub fn signed(text: &[u8], c: Cursor, list: &mut [i32], from: usize, end: usize)
     let mut at = from;
     let mut rest = skip(text, c);
     while at < stop && more(rest) {
-        let n = cases::read_signed(text, rest);
+        let n = text::read_signed(text, rest);
         let v = n.value;
         list[at] = v;
         rest = skip(text, n.rest);
@@ -71,7 +71,7 @@ pub fn shorts(text: &[u8], c: Cursor, list: &mut [u16], from: usize, end: usize)
     let mut at = from;
     let mut rest = skip(text, c);
     while at < stop && more(rest) {
-        let n = cases::read_unsigned(text, rest, 65535);
+        let n = text::read_unsigned(text, rest, 65535);
         let v = n.value;
         list[at] = v as u16;
         rest = skip(text, n.rest);
@@ -90,7 +90,7 @@ pub fn steps(text: &[u8], c: Cursor, list: &mut [u32], from: usize, end: usize) 
     let mut at = from;
     let mut rest = skip(text, c);
     while at < stop && more(rest) {
-        let n = cases::read_unsigned(text, rest, 4294967295);
+        let n = text::read_unsigned(text, rest, 4294967295);
         let v = n.value;
         list[at] = v as u32;
         rest = skip(text, n.rest);
@@ -109,7 +109,7 @@ pub fn flags(text: &[u8], c: Cursor, list: &mut [u8], from: usize, end: usize) -
     let mut at = from;
     let mut rest = skip(text, c);
     while at < stop && more(rest) {
-        let n = cases::read_unsigned(text, rest, 1);
+        let n = text::read_unsigned(text, rest, 1);
         let v = n.value;
         list[at] = v as u8;
         rest = skip(text, n.rest);
@@ -184,7 +184,7 @@ pub fn offsets(text: &[u8], c: Cursor, list: &mut [i8], from: usize, end: usize)
     let mut at = from;
     let mut rest = skip(text, c);
     while at < stop && more(rest) {
-        let n = cases::next_number(text, rest);
+        let n = text::next_number(text, rest);
         let v = offset(n.negative, n.size);
         list[at] = v;
         rest = skip(text, after_offset(n));

@@ -4,8 +4,8 @@ use mathlib.Core.List.{List}
 use Prim.Native.Nat.{ℕ, _/_}
 use Rattle.y4m.specs.declared.header.Header.{Header}
 use Rattle.pictures.specs.declared.planes.Shape.{Shape}
-use Rattle.asked.specs.declared.kept.Cells.{Cells}
-use Rattle.asked.specs.Kept.{keptAsked}
+use Rattle.by_settings.specs.declared.kept.Cells.{Cells}
+use Rattle.by_settings.specs.Kept.{keptAsked}
 
 -- a plane's cells of 4x4 samples, its size rounded up to 8
 abbrev pub cellsOf : Shape → ℕ → ℕ → Cells

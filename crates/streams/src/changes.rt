@@ -1,7 +1,7 @@
 // A frame as it was, its planes one after the other in one list, and how many of its samples changed.
 ghost use Prim.Native.Nat.{_≤_};
 ghost use lib.ListN.{length};
-ghost use Rattle.pictures.specs.Shapes.{Fit};
+ghost use Rattle.pictures.specs.Shapes.{ShapeFits};
 ghost use Rattle.streams.specs.Shaped.{Shaped};
 use crate::job::Job;
 use laws::least;
@@ -21,7 +21,7 @@ pub fn large_room() -> [u16; 50331648] {
 
 // Where a plane without its padding ends in a list of n samples that has it from a place on.
 fn end_of(from: usize, s: Shape, n: usize) -> usize
-    requires { ⌜ Fit s × (from ≤ n) ⌝ }
+    requires { ⌜ ShapeFits s × (from ≤ n) ⌝ }
     ensures { λ r. ⌜ r ≤ n ⌝ }
 {
     from + least(planes::area(s.width, s.height), n - from)
@@ -29,7 +29,7 @@ fn end_of(from: usize, s: Shape, n: usize) -> usize
 
 // A plane as it is, without its padding.
 fn keep_plane(plane: &[u16], was: &mut [u16], s: Shape)
-    requires { ⌜ Fit s ⌝ }
+    requires { ⌜ ShapeFits s ⌝ }
 {
     planes::copy(plane, was);
     planes::pack(was, s);
@@ -48,7 +48,7 @@ pub fn keep(y: &[u16], u: &[u16], v: &[u16], was: &mut [u16], j: Job)
 
 // How many samples of a plane are not as they were.
 fn changed_in(plane: &[u16], was: &[u16], s: Shape) -> usize
-    requires { ⌜ Fit s ⌝ }
+    requires { ⌜ ShapeFits s ⌝ }
 {
     planes::differing(plane, was, planes::area(s.width, s.height))
 }

@@ -3,8 +3,8 @@ ghost use mathlib.Core.Path.{_≡_};
 ghost use Prim.Native.Nat.{_≤_};
 ghost use lib.ListN.{length};
 ghost use Rattle.streams.specs.Kept.{cellsOf, Marked};
-use asked::kept::Cells;
-use asked::kept::keep_asked;
+use by_settings::kept::Cells;
+use by_settings::kept::keep_asked;
 use pictures::planes::Shape;
 use y4m::header::Header;
 

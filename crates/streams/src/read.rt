@@ -1,7 +1,7 @@
 // A frame of the file: its line, and its planes.
 ghost use Prim.Native.Nat.{_≤_};
 ghost use lib.ListN.{length};
-ghost use Rattle.pictures.specs.Shapes.{Fit};
+ghost use Rattle.pictures.specs.Shapes.{ShapeFits};
 ghost use Rattle.streams.specs.Shaped.{Shaped};
 use crate::job::Job;
 use crate::say;
@@ -54,7 +54,7 @@ struct Sum {
 
 // One more plane, where those before are whole.
 fn read_more(fd: i32, plane: &mut [u16], s: Shape, wide: bool, before: Sum) -> Sum
-    requires { ⌜ Fit s ⌝ }
+    requires { ⌜ ShapeFits s ⌝ }
 {
     let n = planes::row_bytes(s.width, wide);
     let needs = wrapping_add_usize(before.needs, planes::area(n, s.height));

@@ -2,7 +2,7 @@
 ghost use Prim.Native.Nat.{_≤_};
 ghost use lib.ListN.{length};
 use crate::say::words;
-use words::place::line_end;
+use text::place::line_end;
 
 // The place after the line that begins at a place of a table.
 fn after_line(table: &[u8], at: usize) -> usize

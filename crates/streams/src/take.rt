@@ -4,11 +4,11 @@ ghost use lib.ListN.{length};
 use crate::say::at_line;
 use crate::say::words;
 use crate::table::entry;
-use settings::text::Fault;
-use settings::text::parse;
-use words::place::line_end;
-use words::place::spaces;
-use words::place::word_end;
+use settings::file::Fault;
+use settings::file::parse;
+use text::place::line_end;
+use text::place::spaces;
+use text::place::word_end;
 
 // A setting by its name.
 pub fn setting(kind: usize) {

@@ -7,7 +7,7 @@ use lib.Dec.{eqb, ltb}
 use borrow.Author.Needs.{needs}
 use borrow.Author.Tests.{not-true, not-false}
 use Rattle.laws.specs.Choose.{pick-yes, pick-no, both-bad, both-ok, is-lt, not-lt, is-eq, not-eq}
-use Rattle.rules.specs.Refusals.{numberOf, placeOf}
+use Rattle.rules.specs.Refusals.{numberOf, placeRefused}
 use Rattle.rules.specs.declared.refusals.Refusal.{Refusal}
 use Rattle.rules.specs.declared.refusals.PlaneAnswer.{PlaneAnswer}
 use Rattle.tally.specs.declared.Tally.{Tally}
@@ -62,7 +62,7 @@ pub refusal-other : (r : Refusal) (m n k : ℕ) → m ≡ numberOf r → (m ≡ 
 unfolding isRefusal
 refusal-other r m n k e h = both-bad _ _ (not-eq (numberOf r) n (λ f. h (e ∙ f)))
 
-pub refusal-placed : (r : Refusal) (m n p k : ℕ) → m ≡ numberOf r → m ≡ n → p ≡ placeOf r → eqb p k ≡ isRefusal r n k
+pub refusal-placed : (r : Refusal) (m n p k : ℕ) → m ≡ numberOf r → m ≡ n → p ≡ placeRefused r → eqb p k ≡ isRefusal r n k
 unfolding isRefusal
 refusal-placed r m n p k e f g = both-ok _ _ _ (is-eq (numberOf r) n (sym e ∙ f)) (ap (λ (x : ℕ). eqb x k) g)
 

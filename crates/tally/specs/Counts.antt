@@ -5,7 +5,7 @@ use mathlib.Core.Bool.{Bool}
 use lib.ListN.{getD, set}
 use lib.Dec.{eqb, ltb}
 use Rattle.laws.specs.Choose.{pick, both}
-use Rattle.rules.specs.Refusals.{numberOf, placeOf}
+use Rattle.rules.specs.Refusals.{numberOf, placeRefused}
 use Rattle.rules.specs.declared.refusals.Refusal.{Refusal}
 use Rattle.rules.specs.declared.refusals.Answer.{Answer}
 use Rattle.rules.specs.declared.refusals.Answer.the-variants.{Accepted, Refused}
@@ -48,7 +48,7 @@ widthMore t w = pick (ltb w 9) (counts (t .numbers) (bumped (t .widths) w) (t .d
 
 -- a refusal has this number and this place
 unfoldable pub isRefusal : Refusal → ℕ → ℕ → Bool
-isRefusal r n k = both (eqb (numberOf r) n) (eqb (placeOf r) k)
+isRefusal r n k = both (eqb (numberOf r) n) (eqb (placeRefused r) k)
 
 -- an answer is what the stream says: accepted where the number is 0
 unfoldable pub isAnswer : Answer → ℕ → ℕ → Bool

@@ -19,8 +19,8 @@ use Rattle.rules.specs.declared.refusals.Found.the-variants.{At, Nothing}
 use Rattle.rules.specs.Numbers.{depthOk, deltaOk}
 use Rattle.rules.specs.Refusals.{orElse, unless, first, foundUnless}
 use Rattle.rules.specs.Thresholds.{stepGood, badStep, stepsCheck, deltasCheck, thresholdsCheck, answerThresholds, qThreshold, sideThreshold, thresholdsOf}
-use Rattle.scan.proofs.First.{at-not-nothing, nothing-all, unless-nothing}
-use Rattle.scan.proofs.Checks.{found-bad-by, else-parts, unless-true, found-nothing}
+use Rattle.checks.proofs.First.{at-not-nothing, nothing-all, unless-nothing}
+use Rattle.checks.proofs.Checks.{found-bad-by, else-parts, unless-true, found-nothing}
 
 -- refusal 4, by the place found
 pub steps-bad : (steps : List ℕ) (f : Found) {k : ℕ} → f ≡ badStep steps → f ≡ At k → Refused (Steps k) ≡ stepsCheck steps

@@ -14,8 +14,8 @@ use Rattle.rules.specs.declared.refusals.Thresholds.the-variants.{Both}
 use Rattle.rules.specs.Numbers.{depthOk, highestOf, offsetOf, shiftOf, inRangeZ, deltaOk}
 use Rattle.rules.specs.Refusals.{orElse, unless, found, sooner, first, foundUnless}
 use Rattle.rules.specs.Thresholds.{indexOf, stepOf, quantOf, lowered, sideOf, bothOf, qThreshold, sideThreshold, stepGood, badStep, stepsCheck, deltasCheck, thresholdsCheck, answerThresholds, thresholdsOf}
-use Rattle.scan.specs.Exactly.{Exactly}
-use Rattle.scan.proofs.Exactly.{exactly}
+use Rattle.checks.specs.Exactly.{Exactly}
+use Rattle.checks.proofs.Exactly.{exactly}
 use Rattle.thresholds.specs.Exactly.{tests, answered}
 
 answered-is : (a : Answer) (q side : ℕ) → answered (answerThresholds a q side) ≡ a

@@ -10,7 +10,7 @@ use Rattle.laws.specs.Whole.{Is, over, under, same, self, count, plus, differ, 
 use Rattle.laws.specs.declared.whole.Gap.{Gap}
 use Rattle.rules.specs.Numbers.{deltaOk}
 use Rattle.rules.specs.Thresholds.{indexOf}
-use Rattle.scan.proofs.Ranges.{range-below, range-above, range-over, range-parts}
+use Rattle.checks.proofs.Ranges.{range-below, range-above, range-over, range-parts}
 use Rattle.thresholds.specs.Index.{whole, IndexIs}
 
 -- a gap stands for up - down

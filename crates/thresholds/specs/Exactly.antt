@@ -10,7 +10,7 @@ use Rattle.rules.specs.declared.refusals.Thresholds.{Thresholds}
 use Rattle.rules.specs.declared.refusals.Thresholds.the-variants.{Both, Refused as «NoThresholds»}
 use Rattle.rules.specs.Numbers.{depthOk, deltaOk}
 use Rattle.rules.specs.Thresholds.{badStep}
-use Rattle.scan.specs.Exactly.{ask, seek, Check, check}
+use Rattle.checks.specs.Exactly.{ask, seek, Check, check}
 
 abbrev pub tests : ℕ → List ℕ → ℤ → ℤ → List Check
 tests depth steps deltaq deltaside =

@@ -15,8 +15,8 @@ use Rattle.rules.specs.declared.refusals.Found.the-variants.{Nothing}
 use Rattle.rules.specs.Numbers.{subsamplingOk}
 use Rattle.rules.specs.Refusals.{foundUnless}
 use Rattle.rules.specs.TuGrid.{cellsOk, capOk, leafGoodAt, badLeaf}
-use Rattle.scan.proofs.First.{nothing-all, unless-nothing}
-use Rattle.scan.proofs.Ranges.{in-range}
+use Rattle.checks.proofs.First.{nothing-all, unless-nothing}
+use Rattle.checks.proofs.Ranges.{in-range}
 use Rattle.tiles.specs.Fit.{Cut, AllGood}
 use Rattle.tiles.proofs.Leaves.{leaf-good}
 

@@ -1,5 +1,5 @@
 // The tests that both entries share, and those of lengths and caps.
-use scan::in_range;
+use checks::in_range;
 ghost use mathlib.Core.Path.{_≡_};
 ghost use mathlib.Core.List.{[], _∷_};
 ghost use lib.Dec.{leb};

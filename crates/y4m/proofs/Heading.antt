@@ -9,13 +9,13 @@ use borrow.Author.Tests.{lt-ltb, le-ltb, le-leb, lt-leb, eq-eqb, ne-eqb}
 use lib.ListN.{getD}
 use lib.Dec.{eqb}
 use Rattle.laws.specs.Choose.{pick, both}
-use Rattle.cases.specs.Numbers.{numberAt}
-use Rattle.cases.specs.Typed.{unsignedOf}
-use Rattle.cases.specs.declared.typed.Unsigned.{Unsigned}
-use Rattle.words.specs.declared.spell.Word.{Word}
-use Rattle.words.specs.Words.{wordAt}
-use Rattle.words.specs.Places.{seek}
-use Rattle.words.proofs.Seeking.{seek-on, seek-here, seek-end}
+use Rattle.text.specs.Numbers.{numberAt}
+use Rattle.text.specs.Typed.{unsignedOf}
+use Rattle.text.specs.declared.typed.Unsigned.{Unsigned}
+use Rattle.text.specs.declared.spell.Word.{Word}
+use Rattle.text.specs.Words.{wordAt}
+use Rattle.text.specs.Places.{seek}
+use Rattle.text.proofs.Seeking.{seek-on, seek-here, seek-end}
 use Rattle.y4m.specs.declared.format.Layout.{Layout}
 use Rattle.y4m.specs.Formats.{layoutOf, formatAt}
 use Rattle.y4m.specs.Headers.{tagAt, sizeAt, opensAt, framesAt, headerOf}

@@ -4,7 +4,7 @@ use mathlib.Core.List.{List}
 use mathlib.Core.Bool.{Bool, true, false}
 use lib.Dec.{eqb, ltb}
 use Rattle.laws.specs.Choose.{pick}
-use Rattle.words.specs.Words.{wordAt, spelled}
+use Rattle.text.specs.Words.{wordAt, spelled}
 use Rattle.y4m.specs.declared.format.Layout.{Layout}
 
 abbrev pub form : ℕ → ℕ → Bool → ℕ → Layout

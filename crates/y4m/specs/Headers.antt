@@ -6,10 +6,10 @@ use mathlib.Core.Bool.{Bool, true}
 use lib.ListN.{getD}
 use lib.Dec.{eqb, ltb, leb}
 use Rattle.laws.specs.Choose.{pick, both}
-use Rattle.cases.specs.Numbers.{numberAt}
-use Rattle.cases.specs.Typed.{unsignedOf}
-use Rattle.words.specs.Places.{seek}
-use Rattle.words.specs.Words.{wordAt, spelled}
+use Rattle.text.specs.Numbers.{numberAt}
+use Rattle.text.specs.Typed.{unsignedOf}
+use Rattle.text.specs.Places.{seek}
+use Rattle.text.specs.Words.{wordAt, spelled}
 use Rattle.y4m.specs.Formats.{formatAt}
 use Rattle.y4m.specs.declared.header.Header.{Header}
 

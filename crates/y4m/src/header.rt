@@ -2,13 +2,13 @@
 ghost use mathlib.Core.Path.{_≡_};
 ghost use Prim.Native.Nat.{_+_, _≤_, _<_};
 ghost use lib.ListN.{length};
-ghost use Rattle.words.specs.Places.{seek};
+ghost use Rattle.text.specs.Places.{seek};
 ghost use Rattle.y4m.specs.Formats.{formatAt};
 ghost use Rattle.y4m.specs.Headers.{tagAt, sizeAt, opensAt, framesAt, headerOf};
 use crate::format::Layout;
 use crate::format::named;
-use cases::Cursor;
-use words::spell::read_word;
+use text::Cursor;
+use text::spell::read_word;
 
 // What a header line says; a size of 0 is missing, bad or above 4096.
 pub struct Header {
@@ -56,7 +56,7 @@ fn size(text: &[u8], at: usize, end: usize) -> usize
     if text[at] < 48 {
         return 0;
     }
-    let n = cases::read_unsigned(
+    let n = text::read_unsigned(
         text,
         Cursor {
             at,

@@ -1,6 +1,6 @@
 -- `in_range` tests a signed number by its two counts. Assumes nothing.
 use Rattle.ccso.proofs.Ranged.{split-below, split-above}
-use Rattle.scan.proofs.Ranges.{range-below, range-above}
+use Rattle.checks.proofs.Ranges.{range-below, range-above}
 use native.Mathlib.Omega.{arith}
 use borrow.Author.Needs.{needs}
 use Rattle.ccso.proofs.check.in_range.Statement.{statement}

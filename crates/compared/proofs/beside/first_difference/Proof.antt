@@ -1,6 +1,6 @@
 -- `first_difference` meets its contract: the entries passed are equal in both records. Assumes nothing.
 use Rattle.compared.proofs.Apart.{apart, apart-more, apart-found, apart-end}
-use Rattle.scan.proofs.First.{first-none}
+use Rattle.checks.proofs.First.{first-none}
 use Rattle.rules.specs.Refusals.{first}
 use Rattle.rules.specs.declared.refusals.Found.the-variants.{Nothing}
 use native.Mathlib.Omega.{arith}

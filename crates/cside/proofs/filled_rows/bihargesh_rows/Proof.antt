@@ -1,5 +1,5 @@
 -- `bihargesh_rows` answers by the rules of a call on filled rows. Assumes nothing.
-use Rattle.rows_entry.proofs.Handed.{rows-told}
+use Rattle.rows_by_list.proofs.Handed.{rows-told}
 use borrow.Author.Needs.{needs}
 use Rattle.cside.proofs.filled_rows.bihargesh_rows.Statement.{statement}
 use Rattle.cside.proofs.filled_rows.bihargesh_rows.Tie as tie

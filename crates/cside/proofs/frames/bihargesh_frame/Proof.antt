@@ -1,5 +1,5 @@
 -- `bihargesh_frame` answers by a frame's rules. Assumes nothing.
-use Rattle.frame_entry.proofs.Given.{frame-told}
+use Rattle.frame_by_list.proofs.Given.{frame-told}
 use borrow.Author.Needs.{needs}
 use Rattle.cside.proofs.frames.bihargesh_frame.Statement.{statement}
 use Rattle.cside.proofs.frames.bihargesh_frame.Tie as tie

@@ -1,5 +1,5 @@
 -- `bihargesh_record_plane` answers by a recorded plane's rules. Assumes nothing.
-use Rattle.entries.proofs.Recorded.{record-told}
+use Rattle.by_list.proofs.Recorded.{record-told}
 use borrow.Author.Needs.{needs}
 use Rattle.cside.proofs.recorded_planes.bihargesh_record_plane.Statement.{statement}
 use Rattle.cside.proofs.recorded_planes.bihargesh_record_plane.Tie as tie

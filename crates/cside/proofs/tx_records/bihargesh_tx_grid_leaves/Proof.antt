@@ -42,20 +42,20 @@ use Rattle.rules.proofs.settings.TuGrid as S
 use Rattle.rules.proofs.settings.TuGrid.Laws as S′
 use Rattle.rules.proofs.refusals.Answer as N
 use Rattle.rules.proofs.refusals.Answer.Laws as N′
-use Rattle.entries.specs.Grids.{GridTold}
+use Rattle.by_list.specs.Grids.{GridTold}
 use Rattle.leaves.specs.declared.records.Leaf.{Leaf}
 use Rattle.leaves.specs.Records.{flat}
 use Rattle.leaves.proofs.records.Leaf as T
 use Rattle.leaves.proofs.tx_grid.build_tx_grid.Symbol as build-def
 use Rattle.leaves.proofs.tx_grid.build_tx_grid.Symbol.{name as #build}
 use Rattle.leaves.proofs.tx_grid.build_tx_grid.Met as build-thm
-use Rattle.entries.proofs.Records.{records-told}
-use Rattle.entries.proofs.tx_records.read.Symbol as read-def
-use Rattle.entries.proofs.tx_records.read.Symbol.{name as #read}
-use Rattle.entries.proofs.tx_records.read.Met as read-thm
-use Rattle.entries.proofs.tx_records.tell.Symbol as tell-def
-use Rattle.entries.proofs.tx_records.tell.Symbol.{name as #tell}
-use Rattle.entries.proofs.tx_records.tell.Met as tell-thm
+use Rattle.by_list.proofs.Records.{records-told}
+use Rattle.by_list.proofs.tx_records.read.Symbol as read-def
+use Rattle.by_list.proofs.tx_records.read.Symbol.{name as #read}
+use Rattle.by_list.proofs.tx_records.read.Met as read-thm
+use Rattle.by_list.proofs.tx_records.tell.Symbol as tell-def
+use Rattle.by_list.proofs.tx_records.tell.Symbol.{name as #tell}
+use Rattle.by_list.proofs.tx_records.tell.Met as tell-thm
 use Rattle.cside.proofs.Records.{Lane, Lanes, Alike, at-lane, val, token, Shr, Mut, Own7, Finals, Tok7, Read, Build, Tell, reads, builds, tells}
 use Rattle.cside.proofs.tx_records.bihargesh_tx_grid_leaves.Key.{name as #here}
 use Rattle.cside.proofs.tx_records.bihargesh_tx_grid_leaves as here

@@ -3,7 +3,7 @@ use mir.Syntax.{w32}
 use mir.Facts.{toZ-ofZ}
 use Rattle.rules.specs.Frame.{frameSettings}
 use Rattle.frame_checks.proofs.Accepted.{three-bad, three-ok}
-use Rattle.scan.proofs.Checks.{unless-bad, unless-good}
+use Rattle.checks.proofs.Checks.{unless-bad, unless-good}
 use Rattle.laws.specs.Choose.{told-yes-not, told-no-not}
 use borrow.Author.Needs.{needs}
 use Rattle.frame_checks.proofs.deltas.frame_settings.Statement.{statement}

@@ -1,6 +1,6 @@
 -- `frame_early` is the checks 1, 2, 3, then 4, 5, 9, then 6. Assumes nothing.
 use Rattle.rules.specs.Frame.{frameEarly}
-use Rattle.scan.proofs.Checks.{stop-by, go-on-by}
+use Rattle.checks.proofs.Checks.{stop-by, go-on-by}
 use Rattle.frame_checks.proofs.Accepted.{shape-sized, luma-keep, chroma-keep}
 use borrow.Author.Needs.{needs}
 use Rattle.frame_checks.proofs.early.frame_early.Statement.{statement}

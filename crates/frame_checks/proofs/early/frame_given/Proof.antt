@@ -1,6 +1,6 @@
 -- `frame_given` leaves at the first check that refuses: steps, deltas and caps, tile starts, leaves. Assumes nothing.
 use Rattle.rules.specs.Frame.{frameGiven, frameLeaves}
-use Rattle.scan.proofs.Checks.{stop-by, go-on-by}
+use Rattle.checks.proofs.Checks.{stop-by, go-on-by}
 use borrow.Author.Needs.{needs}
 use Rattle.frame_checks.proofs.early.frame_given.Statement.{statement}
 use Rattle.frame_checks.proofs.early.frame_given.Tie as tie

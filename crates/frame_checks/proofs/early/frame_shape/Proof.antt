@@ -1,7 +1,7 @@
 -- `frame_shape` leaves at the first check that refuses: depth, sizes, lengths. Assumes nothing.
 use mathlib.Core.Path.{sym, _∙_}
 use Rattle.rules.specs.Frame.{frameShape}
-use Rattle.scan.proofs.Checks.{stop, stop-by, go-on, go-on-by, unless-bad, unless-good}
+use Rattle.checks.proofs.Checks.{stop, stop-by, go-on, go-on-by, unless-bad, unless-good}
 use Rattle.laws.specs.Choose.{told-yes-not, told-no-not}
 use borrow.Author.Needs.{needs}
 use Rattle.frame_checks.proofs.early.frame_shape.Statement.{statement}

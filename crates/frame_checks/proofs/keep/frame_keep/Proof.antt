@@ -1,7 +1,7 @@
 -- `frame_keep` is luma's marks, then chroma's. Assumes nothing.
 use Rattle.rules.specs.Refusals.{onlyIf}
 use Rattle.rules.specs.Frame.{frameKeep}
-use Rattle.scan.proofs.Checks.{stop-by, go-on-by}
+use Rattle.checks.proofs.Checks.{stop-by, go-on-by}
 use borrow.Author.Needs.{needs}
 use Rattle.frame_checks.proofs.keep.frame_keep.Statement.{statement}
 use Rattle.frame_checks.proofs.keep.frame_keep.Tie as tie

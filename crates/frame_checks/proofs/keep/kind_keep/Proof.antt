@@ -2,8 +2,8 @@
 use mathlib.Core.Path.{refl, sym}
 use Rattle.rules.specs.declared.refusals.Refusal.the-variants.{Cell}
 use Rattle.laws.specs.Choose.{told-yes-not, told-no-not}
-use Rattle.scan.proofs.Checks.{found-bad-by, found-good-by, only-yes, only-no}
-use Rattle.cells.proofs.Accepted.{cells-fit}
+use Rattle.checks.proofs.Checks.{found-bad-by, found-good-by, only-yes, only-no}
+use Rattle.plane_checks.proofs.Accepted.{cells-fit}
 use borrow.Author.Needs.{needs}
 use Rattle.frame_checks.proofs.keep.kind_keep.Statement.{statement}
 use Rattle.frame_checks.proofs.keep.kind_keep.Tie as tie

@@ -1,8 +1,8 @@
 -- `list_leaves` turns a list's first bad leaf into a refusal. Assumes nothing.
 use mathlib.Core.Path.{refl}
-use Rattle.scan.proofs.Checks.{found-bad-by, found-good-by}
+use Rattle.checks.proofs.Checks.{found-bad-by, found-good-by}
 use Rattle.rules.specs.declared.refusals.Refusal.the-variants.{Leaf}
-use Rattle.scan.proofs.Checks.{checks}
+use Rattle.checks.proofs.Checks.{checks}
 use borrow.Author.Needs.{needs}
 use Rattle.frame_checks.proofs.leaves.list_leaves.Statement.{statement}
 use Rattle.frame_checks.proofs.leaves.list_leaves.Tie as tie

@@ -1,6 +1,6 @@
 -- `chroma_lengths` counts only where chroma is filtered. Assumes nothing.
 use Rattle.frame_checks.proofs.Accepted.{frame-sized, chroma-by}
-use Rattle.scan.proofs.Checks.{checks}
+use Rattle.checks.proofs.Checks.{checks}
 use borrow.Author.Needs.{needs}
 use Rattle.frame_checks.proofs.lengths.chroma_lengths.Statement.{statement}
 use Rattle.frame_checks.proofs.lengths.chroma_lengths.Tie as tie

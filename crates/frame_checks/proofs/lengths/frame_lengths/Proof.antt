@@ -1,7 +1,7 @@
 -- `frame_lengths` is luma's lists, chroma's, then those that are only read. Assumes nothing.
 use Rattle.rules.specs.Frame.{frameLengths}
 use Rattle.frame_checks.proofs.Accepted.{frame-sized, luma-sizes}
-use Rattle.scan.proofs.Checks.{stop, stop-by, go-on, go-on-by, unless-bad, unless-good}
+use Rattle.checks.proofs.Checks.{stop, stop-by, go-on, go-on-by, unless-bad, unless-good}
 use Rattle.laws.specs.Choose.{told-yes-not, told-no-not}
 use borrow.Author.Needs.{needs}
 use Rattle.frame_checks.proofs.lengths.frame_lengths.Statement.{statement}

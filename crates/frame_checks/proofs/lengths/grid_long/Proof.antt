@@ -1,5 +1,5 @@
 -- `grid_long` tests the six lists of a grid; its cells' number fits. Assumes nothing.
-use Rattle.cells.proofs.Accepted.{sizing}
+use Rattle.plane_checks.proofs.Accepted.{sizing}
 use Rattle.rules.specs.Frame.{gridLong}
 use Rattle.laws.specs.Choose.{tests}
 use borrow.Author.Needs.{needs}

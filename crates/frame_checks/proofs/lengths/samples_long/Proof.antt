@@ -1,5 +1,5 @@
 -- `samples_long` tests a plane's length; its product fits. Assumes nothing.
-use Rattle.cells.proofs.Accepted.{sizing}
+use Rattle.plane_checks.proofs.Accepted.{sizing}
 use borrow.Author.Needs.{needs}
 use Rattle.frame_checks.proofs.lengths.samples_long.Statement.{statement}
 use Rattle.frame_checks.proofs.lengths.samples_long.Tie as tie

@@ -1,7 +1,7 @@
 -- `frame_sizes` is luma's sizes, then chroma's stride where chroma is filtered. Assumes nothing.
 use Rattle.rules.specs.Frame.{frameSizes}
 use Rattle.frame_checks.proofs.Accepted.{sized-by}
-use Rattle.scan.proofs.Checks.{stop, go-on, unless-bad, unless-good, only-yes, only-no}
+use Rattle.checks.proofs.Checks.{stop, go-on, unless-bad, unless-good, only-yes, only-no}
 use Rattle.laws.specs.Choose.{told-yes-not, told-no-not}
 use borrow.Author.Needs.{needs}
 use Rattle.frame_checks.proofs.sizes.frame_sizes.Statement.{statement}

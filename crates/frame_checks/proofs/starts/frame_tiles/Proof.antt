@@ -1,7 +1,7 @@
 -- `frame_tiles` is luma's list, then chroma's. Assumes nothing.
 use Rattle.rules.specs.Refusals.{onlyIf}
 use Rattle.rules.specs.Frame.{frameTiles}
-use Rattle.scan.proofs.Checks.{stop-by, go-on-by}
+use Rattle.checks.proofs.Checks.{stop-by, go-on-by}
 use borrow.Author.Needs.{needs}
 use Rattle.frame_checks.proofs.starts.frame_tiles.Statement.{statement}
 use Rattle.frame_checks.proofs.starts.frame_tiles.Tie as tie

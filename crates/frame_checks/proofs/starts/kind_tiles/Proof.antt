@@ -1,6 +1,6 @@
 -- `kind_tiles` tests a list by its plane's columns, where that is filtered. Assumes nothing.
 use Rattle.laws.specs.Choose.{told-yes-not, told-no-not}
-use Rattle.scan.proofs.Checks.{only-yes, only-no}
+use Rattle.checks.proofs.Checks.{only-yes, only-no}
 use borrow.Author.Needs.{needs}
 use Rattle.frame_checks.proofs.starts.kind_tiles.Statement.{statement}
 use Rattle.frame_checks.proofs.starts.kind_tiles.Tie as tie

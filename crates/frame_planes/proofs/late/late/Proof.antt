@@ -1,6 +1,6 @@
 -- `late` is rules' frameLate: 7 of both grids, then 8 of the three planes. Assumes nothing.
 use mathlib.Core.Path.{sym, _∙_}
-use Rattle.scan.proofs.Checks.{stop-by, go-on-by}
+use Rattle.checks.proofs.Checks.{stop-by, go-on-by}
 use Rattle.frame_planes.proofs.Parts.{late-is}
 use borrow.Author.Needs.{needs}
 use Rattle.frame_planes.proofs.late.late.Statement.{statement}

@@ -2,7 +2,7 @@
 use mathlib.Core.Path.{refl, sym}
 use Rattle.rules.specs.declared.refusals.Refusal.the-variants.{Sample}
 use Rattle.laws.specs.Choose.{told-yes-not, told-no-not}
-use Rattle.scan.proofs.Checks.{found-bad-by, found-good-by, only-yes, only-no}
+use Rattle.checks.proofs.Checks.{found-bad-by, found-good-by, only-yes, only-no}
 use borrow.Author.Needs.{needs}
 use Rattle.frame_planes.proofs.late.over.Statement.{statement}
 use Rattle.frame_planes.proofs.late.over.Tie as tie

@@ -1,6 +1,6 @@
 -- `overs` is luma's refusal 8, else U's, else V's. Assumes nothing.
 use mathlib.Core.Path.{sym, _∙_}
-use Rattle.scan.proofs.Checks.{stop-by, go-on-by}
+use Rattle.checks.proofs.Checks.{stop-by, go-on-by}
 use Rattle.frame_planes.proofs.Parts.{samples-is}
 use borrow.Author.Needs.{needs}
 use Rattle.frame_planes.proofs.late.overs.Statement.{statement}

@@ -2,7 +2,7 @@
 use mathlib.Core.Path.{refl}
 use borrow.Author.Needs.{needs}
 use Rattle.rules.specs.declared.refusals.Refusal.the-variants.{Leaf}
-use Rattle.scan.proofs.Checks.{stop, go-on, found-bad-by, found-good-by}
+use Rattle.checks.proofs.Checks.{stop, go-on, found-bad-by, found-good-by}
 use Rattle.grid.proofs.tx_grid.leaves_ok.Statement.{statement}
 use Rattle.grid.proofs.tx_grid.leaves_ok.Tie as tie
 

@@ -2,7 +2,7 @@
 use borrow.Author.Needs.{needs}
 use Rattle.laws.specs.Choose.{told-yes-not, told-no-not}
 use Rattle.rules.specs.TuGrid.{txGridCheck}
-use Rattle.scan.proofs.Checks.{stop, go-on, unless-bad, unless-good}
+use Rattle.checks.proofs.Checks.{stop, go-on, unless-bad, unless-good}
 use Rattle.grid.proofs.Checked.{tx-cells, long-by}
 use Rattle.grid.proofs.tx_grid.tx_check.Statement.{statement}
 use Rattle.grid.proofs.tx_grid.tx_check.Tie as tie

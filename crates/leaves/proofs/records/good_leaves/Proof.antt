@@ -47,7 +47,7 @@ use denote.Triple.Clauses.{Lasts, ensured, lasts}
 use denote.Triple.Table.{entered, cited}
 use denote.Triple.Walked.{says, Stays, stay-dropped, walkOf, goes-dropped, Walks, ends-at, walked, walk-meets}
 use denote.Exit.{yes}
-use Rattle.scan.proofs.First.{first-none}
+use Rattle.checks.proofs.First.{first-none}
 use Rattle.tiles.proofs.leaf.leaf_good as leaf-good
 use Rattle.tiles.proofs.leaf.leaf_good.Symbol as leaf-good-def
 use Rattle.tiles.proofs.leaf.leaf_good.Symbol.{name as #tiles·leaf-good}

@@ -53,7 +53,7 @@ use Rattle.rules.specs.TuGrid.{Marks, marks, tileOf, paintOf, leavesOf}
 use Rattle.rules.proofs.settings.TuGrid as S
 use Rattle.rules.proofs.settings.TuGrid.Laws as S′
 use Rattle.tiles.specs.Fit.{Cut, Good, AllGood}
-use Rattle.grid.specs.Fit.{Fit}
+use Rattle.grid.specs.Fit.{GridFits}
 use Rattle.grid.proofs.Places.{fit-same}
 use Rattle.grid.proofs.paint.paint_leaf as paint-leaf
 use Rattle.grid.proofs.paint.paint_leaf.Symbol as paint-leaf-def
@@ -65,7 +65,7 @@ use Rattle.leaves.proofs.records.Leaf as T
 use Rattle.leaves.proofs.records.Leaf.Laws as T′
 use Rattle.leaves.proofs.Flat.{flat-each, Painted, paint-more, paint-end}
 use Rattle.leaves.proofs.While.{tests, small}
-use Rattle.leaves.proofs.Four.{Lane, Lanes, Calls4, Long, Rooms, Lents, relents, Kepts, toks, owns4, val, at-list, hands, takes, lends-four, comes-four}
+use Rattle.leaves.proofs.Four.{Lane, Lanes, Calls4, LanesLong, Rooms, Lents, relents, Kepts, toks, owns4, val, at-list, hands, takes, lends-four, comes-four}
 use Rattle.leaves.proofs.records.paint_leaves.Key.{name as #leaves·paint-leaves}
 use Rattle.leaves.proofs.records.paint_leaves as paint-leaves
 use Rattle.leaves.proofs.records.paint_leaves.Statement as stated
@@ -111,9 +111,9 @@ lentTy = tyRef erased mut (tyInt w8)
 abbrev silent : Fml
 silent = fsep ftrue (fsep ftrue (fsep ftrue (fsep ftrue (fsep ftrue (fsep ftrue ftrue)))))
 
-module _ {M : Type 1} (𝓤 : URA M) (H : Heap 𝓤) (A : Atoms 𝓤) (W : Given 𝓤 H A) (at-mem : Memory → SProp 𝓤) (run : Routine → Fun 𝓤) (L : Lanes) (room : Rooms L) (g₀ : Marks) (long₀ : Long L g₀)
+module _ {M : Type 1} (𝓤 : URA M) (H : Heap 𝓤) (A : Atoms 𝓤) (W : Given 𝓤 H A) (at-mem : Memory → SProp 𝓤) (run : Routine → Fun 𝓤) (L : Lanes) (room : Rooms L) (g₀ : Marks) (long₀ : LanesLong L g₀)
     (κ′ : Lft) (q′ : Share) (b′ o′ : ℕ) (γ′ : GName) (ls : List Leaf) (room′ : Room T.the-row (length ls)) (s : TuGrid) (is-s : Is S.the-row s (S′.lowered s ∷ [])) (skip : Bool)
-    (fit₀ : Fit s (length (g₀ .vedge)) (length (g₀ .hedge)) (length (g₀ .sqw)) (length (g₀ .sqh))) (cut : Cut s) (all-good : AllGood (flat ls)) where
+    (fit₀ : GridFits s (length (g₀ .vedge)) (length (g₀ .hedge)) (length (g₀ .sqw)) (length (g₀ .sqh))) (cut : Cut s) (all-good : AllGood (flat ls)) where
   abbrev x′ : RefT (List Leaf)
   x′ = record { ptr = (b′, o′); name = γ′; now = ls }
 
@@ -145,7 +145,7 @@ module _ {M : Type 1} (𝓤 : URA M) (H : Heap 𝓤) (A : Atoms 𝓤) (W : Given
   abbrev let-gone : Fml
   let-gone = fsep ftrue (fsep ftrue (fsep ftrue ftrue))
 
-  exits : (g : Marks) → Long L g → g ≡ leavesOf s skip (flat ls) g₀ → ent 𝓤 (⋆ 𝓤 H A (‵ (flft κ′ q′) ∷ ‵ (Lents L g) ∷ [])) (Post vunit)
+  exits : (g : Marks) → LanesLong L g → g ≡ leavesOf s skip (flat ls) g₀ → ent 𝓤 (⋆ 𝓤 H A (‵ (flft κ′ q′) ∷ ‵ (Lents L g) ∷ [])) (Post vunit)
   exits g l e =
       qed W (‵ (flft κ′ q′) ∷ ‵ (Lents L g) ∷ []) ∵
       suffices ! _ (ends-at 𝓤 H A paint-leaves.ended stayed (paint-leaves.clauses 𝓤 H A at-mem run) W ((κs, qs, tt, a, vals), tt) vunit tt (g .vedge, (g .hedge, (g .sqw, (g .sqh, (tt, (tt, (tt, tt)))))))
@@ -186,13 +186,13 @@ module _ {M : Type 1} (𝓤 : URA M) (H : Heap 𝓤) (A : Atoms 𝓤) (W : Given
   others d = owns (S.the-row ∷ Boolean ∷ u16 ∷ u16 ∷ u16 ∷ u16 ∷ []) (s, (skip, (d .row, (d .col, (d .w, (d .h, tt))))))
       (S′.lowered s ∷ [], (vbool skip ∷ [], (vint w16 (d .row) ∷ [], (vint w16 (d .col) ∷ [], (vint w16 (d .w) ∷ [], (vint w16 (d .h) ∷ [], tt))))))
 
-  goes : (K : Lanes) (g : Marks) (d : Leaf) → Is T.the-row d (T′.lowered d ∷ []) → Fit s (length (g .vedge)) (length (g .hedge)) (length (g .sqw)) (length (g .sqh)) → Good (d .row) (d .col) (d .w) (d .h)
+  goes : (K : Lanes) (g : Marks) (d : Leaf) → Is T.the-row d (T′.lowered d ∷ []) → GridFits s (length (g .vedge)) (length (g .hedge)) (length (g .sqw)) (length (g .sqh)) → Good (d .row) (d .col) (d .w) (d .h)
       → ent 𝓤 (sem 𝓤 H A (Lents K g)) (PaintLeaf 𝓤 H A at-mem run .pre (to-paint K g d))
   goes K g d is fit good =
       let f = LL.owed T.the-type T′.the-laws d _ is in
       qed W (‵ (Lents K g) ∷ []) ∵
       use0 W (raw (fact 𝓤 (Good (d .row) (d .col) (d .w) (d .h)))) (factI 𝓤 _ (emp 𝓤) good) $ use0 W (raw (fact 𝓤 (Cut s))) (factI 𝓤 _ (emp 𝓤) cut) $ join ! $
-      use0 W (raw (fact 𝓤 (Fit s (length (g .vedge)) (length (g .hedge)) (length (g .sqw)) (length (g .sqh))))) (factI 𝓤 _ (emp 𝓤) fit) $ join ! $
+      use0 W (raw (fact 𝓤 (GridFits s (length (g .vedge)) (length (g .hedge)) (length (g .sqw)) (length (g .sqh))))) (factI 𝓤 _ (emp 𝓤) fit) $ join ! $
       nothing ! $ owned ! u16 (Is u16) (uint-makes 𝓤 H A W w16) (d .h) _ (refl, f .1 .1 .1 .0 .1) $ fjoin ! $
       owned ! u16 (Is u16) (uint-makes 𝓤 H A W w16) (d .w) _ (refl, f .1 .1 .0 .1) $ fjoin ! $ owned ! u16 (Is u16) (uint-makes 𝓤 H A W w16) (d .col) _ (refl, f .1 .0 .1) $ fjoin ! $
       owned ! u16 (Is u16) (uint-makes 𝓤 H A W w16) (d .row) _ (refl, f .0 .1) $ fjoin ! $ owned ! Boolean (Is Boolean) (bool-makes 𝓤 H A W) skip _ refl $ fjoin ! $
@@ -202,7 +202,7 @@ module _ {M : Type 1} (𝓤 : URA M) (H : Heap 𝓤) (A : Atoms 𝓤) (W : Given
 
   -- ---- the loop
   abbrev State : Type 0
-  State = (i : ℕ) × (g : Marks) × (i ≤ length ls) × Long L g × Painted s skip ls g₀ i g
+  State = (i : ℕ) × (g : Marks) × (i ≤ length ls) × LanesLong L g × Painted s skip ls g₀ i g
 
   abbrev Nearer : State → State → Type 0
   Nearer u t = length ls - u .0 < length ls - t .0
@@ -210,7 +210,7 @@ module _ {M : Type 1} (𝓤 : URA M) (H : Heap 𝓤) (A : Atoms 𝓤) (W : Given
   Nearer-wf : WellFounded Nearer
   Nearer-wf = InvImage·wf (λ (t : State). length ls - t .0) (Nat·lt-wfRel .wf)
 
-  fit-at : (g : Marks) → Long L g → Fit s (length (g .vedge)) (length (g .hedge)) (length (g .sqw)) (length (g .sqh))
+  fit-at : (g : Marks) → LanesLong L g → GridFits s (length (g .vedge)) (length (g .hedge)) (length (g .sqw)) (length (g .sqh))
   fit-at g l = fit-same fit₀ (l .long-v ∙ sym (long₀ .long-v)) (l .long-h ∙ sym (long₀ .long-h)) (l .long-w ∙ sym (long₀ .long-w)) (l .long-t ∙ sym (long₀ .long-t))
 
   abbrev Envs : ℕ → ℕ → ℕ → ℕ → ℕ → ℕ → ℕ → ℕ → ℕ → ℕ → ℕ → ℕ → ℕ → ℕ → ℕ → ℕ → ℕ → ℕ → ℕ → ℕ → ℕ → ℕ → ℕ → Env 𝓤 H
@@ -305,7 +305,7 @@ module _ {M : Type 1} (𝓤 : URA M) (H : Heap 𝓤) (A : Atoms 𝓤) (W : Given
         split ! $ move ! (1 ∷ []) $ heard ! (marks (ws .0) (ws .1 .0) (ws .1 .1 .0) (ws .1 .1 .1 .0) ≡ paintOf s (tileOf s skip (leaf (t .0) .row) (leaf (t .0) .col) (leaf (t .0) .w) (leaf (t .0) .h)) (t .1)) (λ e.
         move ! (1 ∷ []) $ split ! $ move ! (1 ∷ []) $ feqL ! (λ is-unit.
         -- [the lists' tokens; what is last; what was kept; the leaves' token; the shared borrow; local k at 5 + 2 · (22 − k)]
-        move ! (0 ∷ 2 ∷ 1 ∷ []) $ use3 W (later (some (λ (l : Long L (marks (ws .0) (ws .1 .0) (ws .1 .1 .0) (ws .1 .1 .1 .0))). ‵ (Lents L (marks (ws .0) (ws .1 .0) (ws .1 .1 .0) (ws .1 .1 .1 .0))) ⊛ raw (emp 𝓤))))
+        move ! (0 ∷ 2 ∷ 1 ∷ []) $ use3 W (later (some (λ (l : LanesLong L (marks (ws .0) (ws .1 .0) (ws .1 .1 .0) (ws .1 .1 .1 .0))). ‵ (Lents L (marks (ws .0) (ws .1 .0) (ws .1 .1 .0) (ws .1 .1 .1 .0))) ⊛ raw (emp 𝓤))))
         (comes-four 𝓤 H A W L (emp 𝓤) silent n (t .1) (marks (ws .0) (ws .1 .0) (ws .1 .1 .0) (ws .1 .1 .1 .0)) room (t .3)) $ await ! tt $ pick ! (λ long. split ! $ move ! (1 ∷ []) $ let-go ! $ move ! (2 ∷ 1 ∷ 0 ∷ []) $
         -- [the shared borrow; the leaves' token; the lists; local k at 3 + 2 · (22 − k)]
         land ! (from ! (stop !)) (init ! 19 refl (subst (λ (y : Val). T (hasTy tyUnit y) × WT y) (sym (ap only is-unit)) (tt, tt))) $
@@ -428,7 +428,7 @@ module _ {M : Type 1} (𝓤 : URA M) (H : Heap 𝓤) (A : Atoms 𝓤) (W : Given
           ),
         ),
       ))
-      (λ κs qs bounds a g are. needs 𝓤 (Fit (a .1 .1 .1 .1 .1 .0) (length (a .0 .now)) (length (a .1 .0 .now)) (length (a .1 .1 .0 .now)) (length (a .1 .1 .1 .0 .now)) × Cut (a .1 .1 .1 .1 .1 .0) × AllGood (flat (a .1 .1 .1 .1 .0 .now))) _ (λ had.
+      (λ κs qs bounds a g are. needs 𝓤 (GridFits (a .1 .1 .1 .1 .1 .0) (length (a .0 .now)) (length (a .1 .0 .now)) (length (a .1 .1 .0 .now)) (length (a .1 .1 .1 .0 .now)) × Cut (a .1 .1 .1 .1 .1 .0) × AllGood (flat (a .1 .1 .1 .1 .0 .now))) _ (λ had.
       walk 𝓤 H A W mem run
       (record { lv = lane (κs .0) (qs .0) (a .0); lh = lane (κs .1 .0) (qs .1 .0) (a .1 .0); lw = lane (κs .1 .1 .0) (qs .1 .1 .0) (a .1 .1 .0); lt = lane (κs .1 .1 .1 .0) (qs .1 .1 .1 .0) (a .1 .1 .1 .0) })
       (record { room-v = are .0 .0 .1; room-h = are .1 .0 .0 .1; room-w = are .1 .1 .0 .0 .1; room-t = are .1 .1 .1 .0 .0 .1 })

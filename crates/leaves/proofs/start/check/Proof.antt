@@ -1,7 +1,7 @@
 -- `check` makes the checks 2, 3, 5 and 9 in this order, whatever the lists hold. Assumes nothing.
 use Rattle.leaves.specs.Records.{recordCheck}
 use Rattle.grid.proofs.Checked.{tx-cells, long-by}
-use Rattle.scan.proofs.Checks.{stop, go-on, unless-bad, unless-good}
+use Rattle.checks.proofs.Checks.{stop, go-on, unless-bad, unless-good}
 use Rattle.laws.specs.Choose.{told-yes-not, told-no-not}
 use borrow.Author.Needs.{needs}
 use Rattle.leaves.proofs.start.check.Statement.{statement}

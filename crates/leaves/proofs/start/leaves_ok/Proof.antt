@@ -1,7 +1,7 @@
 -- `leaves_ok` looks at the leaves, then at the skip leaves. Assumes nothing.
 use Rattle.leaves.proofs.Entry.{after-bad, after-good}
 use Rattle.leaves.specs.Records.{leavesCheck}
-use Rattle.scan.proofs.Checks.{stop, go-on, found-bad, found-good}
+use Rattle.checks.proofs.Checks.{stop, go-on, found-bad, found-good}
 use Rattle.rules.specs.declared.refusals.Refusal.the-variants.{Leaf}
 use mathlib.Core.Path.{refl}
 use Rattle.leaves.proofs.start.leaves_ok.Statement.{statement}

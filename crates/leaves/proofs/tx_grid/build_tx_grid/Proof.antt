@@ -49,7 +49,7 @@ use Rattle.rules.proofs.settings.TuGrid.Laws as S′
 use Rattle.rules.proofs.refusals.Answer as N
 use Rattle.rules.proofs.refusals.Answer.Laws as N′
 use Rattle.tiles.specs.Fit.{Cut, AllGood}
-use Rattle.grid.specs.Fit.{Fit}
+use Rattle.grid.specs.Fit.{GridFits}
 use Rattle.grid.specs.Stated.{Stated}
 use Rattle.grid.proofs.Places.{fit-same}
 use Rattle.grid.proofs.Checked.{tx-accepted}
@@ -58,7 +58,7 @@ use Rattle.leaves.specs.Records.{flat, goodOf, refusedOf, recordCheck, S
 use Rattle.leaves.proofs.records.Leaf as T
 use Rattle.leaves.proofs.Entry.{check-is, accepted-is, after-refused, all-accepted, after-accepted}
 use Rattle.leaves.proofs.While.{guards, holds, fails}
-use Rattle.leaves.proofs.Four.{Lane, Lanes, Long, Rooms, Lent, Lents, own-at, toks, owns4, val, at-list, hands, takes}
+use Rattle.leaves.proofs.Four.{Lane, Lanes, LanesLong, Rooms, Lent, Lents, own-at, toks, owns4, val, at-list, hands, takes}
 use Rattle.leaves.proofs.Asks.{at-leaves, Shared, GoodLeaves, PaintLeaves, Start, Refuses, asks, starts, refuses, paints}
 use Rattle.leaves.proofs.records.good_leaves.Symbol as good-leaves-def
 use Rattle.leaves.proofs.records.good_leaves.Symbol.{name as #good-leaves}
@@ -102,7 +102,7 @@ lentTy = tyRef erased mut (tyInt w8)
 
 -- the leaves, the skip leaves, the four lists and the keep marks, and the settings
 module _ {M : Type 1} (𝓤 : URA M) (H : Heap 𝓤) (A : Atoms 𝓤) (W : Given 𝓤 H A) (at-mem : Memory → SProp 𝓤) (run : Routine → Fun 𝓤) (R₁ R₂ : Lane) (ls skips : List Leaf) (long₁ : length ls ≡ R₁ .m) (long₂ : length skips ≡ R₂ .m)
-    (room₁ : R₁ .m < 2 ^ 64) (room₂ : R₂ .m < 2 ^ 64) (L : Lanes) (room : Rooms L) (g₀ : Marks) (long₀ : Long L g₀) (B : Lane) (roomy : Room u8 (B .m)) (k₀ : List ℕ) (long₃ : length k₀ ≡ B .m) (s : TuGrid) (is-s : Is S.the-row s (S′.lowered s ∷ [])) where
+    (room₁ : R₁ .m < 2 ^ 64) (room₂ : R₂ .m < 2 ^ 64) (L : Lanes) (room : Rooms L) (g₀ : Marks) (long₀ : LanesLong L g₀) (B : Lane) (roomy : Room u8 (B .m)) (k₀ : List ℕ) (long₃ : length k₀ ≡ B .m) (s : TuGrid) (is-s : Is S.the-row s (S′.lowered s ∷ [])) where
   abbrev Arg : Type 0
   Arg = RefT (List Leaf) × (RefT (List Leaf) × (RefT (List ℕ) × (RefT (List ℕ) × (RefT (List ℕ) × (RefT (List ℕ) × (RefT (List ℕ) × (TuGrid × Unit {0})))))))
 
@@ -137,7 +137,7 @@ module _ {M : Type 1} (𝓤 : URA M) (H : Heap 𝓤) (A : Atoms 𝓤) (W : Given
   abbrev last : List ℕ → Fml
   last k = fsep (own-at B k) (fsep ftrue ftrue)
 
-  exits : (a : Answer) (w : Val) → Is N.the-row a (w ∷ []) → (g : Marks) → Long L g → (k : List ℕ) → length k ≡ B .m → Stated s (flat ls) (flat skips) g₀ k₀ a g k
+  exits : (a : Answer) (w : Val) → Is N.the-row a (w ∷ []) → (g : Marks) → LanesLong L g → (k : List ℕ) → length k ≡ B .m → Stated s (flat ls) (flat skips) g₀ k₀ a g k
       → ent 𝓤 (⋆ 𝓤 H A (tok₁ ∷ tok₂ ∷ ‵ (Lents L g) ∷ ‵ (Lent B k) ∷ [])) (Post w)
   exits a w is g l k lk e =
       qed W (tok₁ ∷ tok₂ ∷ ‵ (Lents L g) ∷ ‵ (Lent B k) ∷ []) ∵
@@ -162,9 +162,9 @@ module _ {M : Type 1} (𝓤 : URA M) (H : Heap 𝓤) (A : Atoms 𝓤) (W : Given
   Begun a g k = Started s (R₁ .m) (goodOf false ls) (R₂ .m) (goodOf true skips) g₀ k₀ a g k
 
   abbrev FitAt : Marks → Type 0
-  FitAt g = Fit s (length (g .vedge)) (length (g .hedge)) (length (g .sqw)) (length (g .sqh))
+  FitAt g = GridFits s (length (g .vedge)) (length (g .hedge)) (length (g .sqw)) (length (g .sqh))
 
-  had : txGridCheck s (flat ls) (flat skips) g₀ k₀ ≡ Accepted → (g : Marks) → Long L g → FitAt g × Cut s × AllGood (flat ls) × AllGood (flat skips)
+  had : txGridCheck s (flat ls) (flat skips) g₀ k₀ ≡ Accepted → (g : Marks) → LanesLong L g → FitAt g × Cut s × AllGood (flat ls) × AllGood (flat skips)
   had e g l =
       let p = tx-accepted s (flat ls) (flat skips) g₀ k₀ e in
       (fit-same (p .0) (l .long-v ∙ sym (long₀ .long-v)) (l .long-h ∙ sym (long₀ .long-h)) (l .long-w ∙ sym (long₀ .long-w)) (l .long-t ∙ sym (long₀ .long-t)), p .1, p .2, p .3)
@@ -399,7 +399,7 @@ module _ {M : Type 1} (𝓤 : URA M) (H : Heap 𝓤) (A : Atoms 𝓤) (W : Given
     En = Envs l₀ l₁ l₂ l₃ l₄ l₅ l₆ l₇ l₈ l₉ l₁₀ l₁₁ l₁₂ l₁₃ l₁₄ l₁₅ l₁₆ l₁₇ l₁₈ l₁₉ l₂₀ l₂₁ l₂₂ l₂₃ l₂₄ l₂₅ l₂₆ l₂₇ l₂₈ l₂₉ l₃₀ l₃₁ l₃₂ l₃₃ l₃₄ l₃₅ l₃₆ l₃₇ l₃₈ l₃₉ l₄₀ l₄₁
 
     -- the end: local k stands at 6 + 2 · (41 − k) here and below
-    ends : (a : Answer) (w : Val) → Is N.the-row a (w ∷ []) → (g : Marks) → Long L g → (k : List ℕ) → length k ≡ B .m → Stated s (flat ls) (flat skips) g₀ k₀ a g k
+    ends : (a : Answer) (w : Val) → Is N.the-row a (w ∷ []) → (g : Marks) → LanesLong L g → (k : List ℕ) → length k ≡ B .m → Stated s (flat ls) (flat skips) g₀ k₀ a g k
         → Sq W (‵ (Shared R₂ skips) ∷ tok₂ ∷ ‵ (Lents L g) ∷ ‵ (Shared R₁ ls) ∷ tok₁ ∷ ‵ (Lent B k) ∷ Cells8 l₀ l₁ l₂ l₃ l₄ l₅ l₆ l₇ l₈ l₉ l₁₀ l₁₁ l₁₂ l₁₃ l₁₄ l₁₅ l₁₆ l₁₇ l₁₈ l₁₉ l₂₀ l₂₁ l₂₂ l₂₃ l₂₄ l₂₅ l₂₆ l₂₇ l₂₈ l₂₉ l₃₀ l₃₁ l₃₂ l₃₃ l₃₄ l₃₅ l₃₆ l₃₇ l₃₈ l₃₉ l₄₀ l₄₁ a w) (runs C Λ En mirs.t-36 (atRet En Post))
     ends a w is g l k lk e =
         assigns ! (of-opd ! (load ! (from ! (stop !)) (look ! 66 refl))) (from ! (stop !)) (init ! 88 refl (typed a w is)) $ returns ! (look ! 88 refl) $
@@ -418,7 +418,7 @@ module _ {M : Type 1} (𝓤 : URA M) (H : Heap 𝓤) (A : Atoms 𝓤) (W : Given
         keep ! (4 ∷ 1 ∷ 2 ∷ 5 ∷ []) $ by ! (exits a w is g l k lk e)
 
     skip-leaves : (a : Answer) (w : Val) → Is N.the-row a (w ∷ []) → (acc : a ≡ Accepted) (g1 : Marks) (k : List ℕ) → length k ≡ B .m → Begun a g1 k
-        → (g : Marks) → Long L g → g ≡ leavesOf s false (flat ls) g1
+        → (g : Marks) → LanesLong L g → g ≡ leavesOf s false (flat ls) g1
         → Sq W (‵ (Shared R₁ ls) ∷ tok₁ ∷ ‵ (Lents L g) ∷ ‵ (Lent B k) ∷ ‵ (Shared R₂ skips) ∷ tok₂ ∷ Cells7 l₀ l₁ l₂ l₃ l₄ l₅ l₆ l₇ l₈ l₉ l₁₀ l₁₁ l₁₂ l₁₃ l₁₄ l₁₅ l₁₆ l₁₇ l₁₈ l₁₉ l₂₀ l₂₁ l₂₂ l₂₃ l₂₄ l₂₅ l₂₆ l₂₇ l₂₈ l₂₉ l₃₀ l₃₁ l₃₂ l₃₃ l₃₄ l₃₅ l₃₆ l₃₇ l₃₈ l₃₉ l₄₀ l₄₁ a w) (runs C Λ En mirs.t-27 (atRet En Post))
     skip-leaves a w is acc g1 k lk e g l h =
         let p = had (all-accepted s _ _ _ _ ls skips g₀ g1 k₀ k check-at a acc e) g l in
@@ -434,7 +434,7 @@ module _ {M : Type 1} (𝓤 : URA M) (H : Heap 𝓤) (A : Atoms 𝓤) (W : Given
         (λ c. (and-then ! (load ! (from ! (stop !)) (look ! 18 refl)) (and-then ! (load ! (from ! (stop !)) (look ! 14 refl)) (and-then ! (load ! (from ! (stop !)) (look ! 10 refl)) (and-then ! (load ! (from ! (stop !)) (look ! 6 refl)) (and-then ! (load ! (from ! (stop !)) (look ! 84 refl)) (and-then ! (load ! (from ! (stop !)) (look ! 72 refl)) (and-then ! (true-lit !) (no-more !)))))))))
         (λ g' l' f. land ! (from ! (stop !)) (store ! 38 refl (tt, tt)) $ ends a w is g' l' k lk (after-accepted s _ _ _ _ ls skips g₀ g1 k₀ k check-at a acc e g h f))
 
-    leaves : (a : Answer) (w : Val) → Is N.the-row a (w ∷ []) → (g : Marks) → Long L g → (k : List ℕ) → length k ≡ B .m → Begun a g k → a ≡ Accepted
+    leaves : (a : Answer) (w : Val) → Is N.the-row a (w ∷ []) → (g : Marks) → LanesLong L g → (k : List ℕ) → length k ≡ B .m → Begun a g k → a ≡ Accepted
         → Sq W (‵ (Lents L g) ∷ ‵ (Lent B k) ∷ ‵ (Shared R₁ ls) ∷ tok₁ ∷ ‵ (Shared R₂ skips) ∷ tok₂ ∷ Cells6 l₀ l₁ l₂ l₃ l₄ l₅ l₆ l₇ l₈ l₉ l₁₀ l₁₁ l₁₂ l₁₃ l₁₄ l₁₅ l₁₆ l₁₇ l₁₈ l₁₉ l₂₀ l₂₁ l₂₂ l₂₃ l₂₄ l₂₅ l₂₆ l₂₇ l₂₈ l₂₉ l₃₀ l₃₁ l₃₂ l₃₃ l₃₄ l₃₅ l₃₆ l₃₇ l₃₈ l₃₉ l₄₀ l₄₁ a w) (runs C Λ En mirs.t-18 (atRet En Post))
     leaves a w is g l k lk e acc =
         let p = had (all-accepted s _ _ _ _ ls skips g₀ g k₀ k check-at a acc e) g l in
@@ -450,7 +450,7 @@ module _ {M : Type 1} (𝓤 : URA M) (H : Heap 𝓤) (A : Atoms 𝓤) (W : Given
         (λ c. (and-then ! (load ! (from ! (stop !)) (look ! 34 refl)) (and-then ! (load ! (from ! (stop !)) (look ! 30 refl)) (and-then ! (load ! (from ! (stop !)) (look ! 26 refl)) (and-then ! (load ! (from ! (stop !)) (look ! 22 refl)) (and-then ! (load ! (from ! (stop !)) (look ! 86 refl)) (and-then ! (load ! (from ! (stop !)) (look ! 72 refl)) (and-then ! (false-lit !) (no-more !)))))))))
         (λ g' l' h. land ! (from ! (stop !)) (init ! 38 refl (tt, tt)) $ skip-leaves a w is acc g k lk e g' l' h)
 
-    refusing : (a : Answer) (w : Val) → Is N.the-row a (w ∷ []) → (g : Marks) → Long L g → (k : List ℕ) → length k ≡ B .m → Begun a g k
+    refusing : (a : Answer) (w : Val) → Is N.the-row a (w ∷ []) → (g : Marks) → LanesLong L g → (k : List ℕ) → length k ≡ B .m → Begun a g k
         → Sq W (‵ (Lents L g) ∷ ‵ (Lent B k) ∷ ‵ (Shared R₁ ls) ∷ tok₁ ∷ ‵ (Shared R₂ skips) ∷ tok₂ ∷ Cells4 l₀ l₁ l₂ l₃ l₄ l₅ l₆ l₇ l₈ l₉ l₁₀ l₁₁ l₁₂ l₁₃ l₁₄ l₁₅ l₁₆ l₁₇ l₁₈ l₁₉ l₂₀ l₂₁ l₂₂ l₂₃ l₂₄ l₂₅ l₂₆ l₂₇ l₂₈ l₂₉ l₃₀ l₃₁ l₃₂ l₃₃ l₃₄ l₃₅ l₃₆ l₃₇ l₃₈ l₃₉ l₄₀ l₄₁ w) (runs C Λ En mirs.t-16 (atRet En Post))
     refusing a w is g l k lk e =
         refuses 𝓤 H A at-mem run W 𝓣 refuse a w is (and-then ! (load ! (from ! (stop !)) (look ! 67 refl)) (no-more !)) (

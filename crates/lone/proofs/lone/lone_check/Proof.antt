@@ -1,7 +1,7 @@
 use Rattle.laws.specs.Choose.{told-yes-not, told-no-not}
 -- Each check in its order; what the later ones need is what the earlier ones tested.
 use native.Mathlib.Omega.{arith}
-use Rattle.scan.proofs.Checks.{checks}
+use Rattle.checks.proofs.Checks.{checks}
 use Rattle.rules.specs.Lone.{loneCheck}
 use Rattle.lone.proofs.Accepted.{product-most, in-plane, sure, pair-below, ranges-refused, room-refused, room-passed}
 use borrow.Author.Needs.{needs}

@@ -1,5 +1,5 @@
 -- What was found, as a check.
-use Rattle.scan.proofs.Checks.{checks}
+use Rattle.checks.proofs.Checks.{checks}
 use borrow.Author.Needs.{needs}
 use Rattle.lone.proofs.lone.over_check.Statement.{statement}
 use Rattle.lone.proofs.lone.over_check.Tie as tie

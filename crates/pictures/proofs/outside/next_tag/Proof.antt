@@ -1,6 +1,6 @@
 -- `next_tag` walks to the next such letter. Assumes nothing.
 use Rattle.pictures.proofs.Beyond.{finding}
-use Rattle.words.specs.Places.{seek}
+use Rattle.text.specs.Places.{seek}
 use Rattle.y4m.specs.Headers.{tagAt}
 use Prim.Native.Nat.{_-_, _≤_}
 use mathlib.Core.Path.{_≡_}

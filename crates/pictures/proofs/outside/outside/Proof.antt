@@ -1,7 +1,7 @@
 -- `outside` walks to the first leaf beyond. Assumes nothing.
 use Rattle.pictures.proofs.Beyond.{finding, is-outside, outside-is}
-use Rattle.words.proofs.Seeking.{seek-here}
-use Rattle.words.specs.Places.{seek}
+use Rattle.text.proofs.Seeking.{seek-here}
+use Rattle.text.specs.Places.{seek}
 use Rattle.pictures.specs.Outside.{beyondAt}
 use Prim.Native.Nat.{_-_, _/_, _≤_}
 use mathlib.Core.Path.{_≡_}

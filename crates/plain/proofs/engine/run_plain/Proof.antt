@@ -3,7 +3,7 @@ use mir.Syntax.{w32}
 use mir.Facts.{toZ-ofZ}
 use borrow.Author.Needs.{needs}
 use Rattle.laws.specs.Lists.{front}
-use Rattle.cells.proofs.Accepted.{cells-fit}
+use Rattle.plane_checks.proofs.Accepted.{cells-fit}
 use Rattle.plane.proofs.Accepting.{lengths, of-table, field-vert, field-horz}
 use Rattle.plain.proofs.Plain.{plain-asked}
 use Rattle.plain.proofs.engine.run_plain.Statement.{statement}

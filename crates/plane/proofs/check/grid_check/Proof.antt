@@ -1,7 +1,7 @@
 -- `grid_check` meets its contract. Assumes nothing.
 use borrow.Author.Needs.{needs}
 use mathlib.Core.Path.{refl}
-use Rattle.scan.proofs.Checks.{stop, go-on, found-bad-by, found-good-by}
+use Rattle.checks.proofs.Checks.{stop, go-on, found-bad-by, found-good-by}
 use Rattle.plane.specs.Checked.{gridCheck}
 use Rattle.plane.proofs.Accepting.{readies}
 use Rattle.plane.proofs.check.grid_check.Statement.{statement}

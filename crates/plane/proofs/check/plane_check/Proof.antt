@@ -1,7 +1,7 @@
 -- `plane_check` meets its contract. Assumes nothing.
 use mathlib.Core.Path.{refl, sym, _∙_}
 use borrow.Author.Needs.{needs}
-use Rattle.scan.proofs.Checks.{stop-by, go-on-by, found-bad-by, found-good-by}
+use Rattle.checks.proofs.Checks.{stop-by, go-on-by, found-bad-by, found-good-by}
 use Rattle.plane.proofs.Accepting.{settled, plane-parts, checked-samples}
 use Rattle.plane.proofs.check.plane_check.Statement.{statement}
 use Rattle.plane.proofs.check.plane_check.Tie as tie

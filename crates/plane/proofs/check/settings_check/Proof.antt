@@ -4,9 +4,9 @@ use mir.Syntax.{w32}
 use mir.Facts.{toZ-ofZ}
 use borrow.Author.Needs.{needs}
 use Rattle.laws.specs.Choose.{told-yes-not, told-no-not}
-use Rattle.scan.proofs.Checks.{stop, stop-by, go-on, accepted-by, unless-bad, unless-good}
+use Rattle.checks.proofs.Checks.{stop, stop-by, go-on, accepted-by, unless-bad, unless-good}
 use Rattle.rules.specs.Rows.{settingsCheck}
-use Rattle.cells.proofs.Accepted.{sizes-by}
+use Rattle.plane_checks.proofs.Accepted.{sizes-by}
 use Rattle.plane.specs.Checked.{gridCheck}
 use Rattle.plane.proofs.Accepting.{sized-by}
 use Rattle.plane.proofs.check.settings_check.Statement.{statement}

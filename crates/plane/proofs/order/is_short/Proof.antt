@@ -2,7 +2,7 @@
 use native.Mathlib.Omega.{arith}
 use borrow.Author.Needs.{needs}
 use Rattle.laws.specs.Choose.{tests}
-use Rattle.cells.specs.Fit.{shortBy}
+use Rattle.cell_edges.specs.Cells.{shortBy}
 use Rattle.plane.proofs.Edges.{short-row}
 use Rattle.plane.proofs.order.is_short.Statement.{statement}
 use Rattle.plane.proofs.order.is_short.Tie as tie

@@ -5,7 +5,7 @@ use Prim.Native.Nat.{_-_, _≤_}
 use lib.ListN.{length}
 use mathlib.Core.Path.{_≡_, refl}
 use Rattle.laws.specs.Loops.{each}
-use Rattle.cells.specs.Fit.{oneWay}
+use Rattle.cell_edges.specs.Cells.{oneWay}
 use Rattle.plane.specs.Run.{inLine, Few, state, Ran}
 use Rattle.plane.proofs.Runs.{field-same, few-none, few-same, few-then, few-most, ran-none, ran-more}
 use Rattle.plane.proofs.Superblocks.{line-most, line-is}

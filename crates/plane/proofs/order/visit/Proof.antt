@@ -2,7 +2,7 @@
 use mathlib.Core.Path.{refl}
 use native.Mathlib.Omega.{arith}
 use borrow.Author.Needs.{needs}
-use Rattle.cells.proofs.Accepted.{rows-fit}
+use Rattle.plane_checks.proofs.Accepted.{rows-fit}
 use Rattle.plane.proofs.Runs.{visits, visit-none, visit-edge, few-none, few-edge, edge-stored, edge-changed}
 use Rattle.plane.proofs.Edges.{asked, in-plane, in-bytes}
 use Rattle.plane.proofs.order.visit.Statement.{statement}

@@ -4,7 +4,7 @@ use mir.Facts.{toZ-ofZ}
 use native.Mathlib.Omega.{arith}
 use borrow.Author.Needs.{needs}
 use Rattle.laws.specs.Lists.{front}
-use Rattle.cells.proofs.Accepted.{cells-fit}
+use Rattle.plane_checks.proofs.Accepted.{cells-fit}
 use Rattle.plane.proofs.Accepting.{lengths, field-vert, field-horz, ran-plane}
 use Rattle.plane.proofs.Marked.{noted-asked}
 use Rattle.plane.proofs.run.run_noted.Statement.{statement}

@@ -2,7 +2,7 @@
 use mathlib.Core.Path.{refl, sym, _∙_}
 use borrow.Author.Needs.{needs}
 use Rattle.rules.specs.QindexGrid.{qGridAfter}
-use Rattle.scan.proofs.Checks.{refused-by, accepted-by, settle-refused-by, settle-accepted-by}
+use Rattle.checks.proofs.Checks.{refused-by, accepted-by, settle-refused-by, settle-accepted-by}
 use Rattle.qindex.proofs.Checked.{q-accepted}
 use Rattle.qindex.proofs.qindex_grid.build_qindex_grid.Statement.{statement}
 use Rattle.qindex.proofs.qindex_grid.build_qindex_grid.Tie as tie

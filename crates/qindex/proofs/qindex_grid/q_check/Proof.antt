@@ -2,7 +2,7 @@
 use borrow.Author.Needs.{needs}
 use Rattle.laws.specs.Choose.{told-yes-not, told-no-not}
 use Rattle.rules.specs.QindexGrid.{qGridCheck}
-use Rattle.scan.proofs.Checks.{stop, go-on, unless-bad, unless-good}
+use Rattle.checks.proofs.Checks.{stop, go-on, unless-bad, unless-good}
 use Rattle.qindex.proofs.Checked.{q-cells}
 use Rattle.qindex.proofs.qindex_grid.q_check.Statement.{statement}
 use Rattle.qindex.proofs.qindex_grid.q_check.Tie as tie

@@ -2,7 +2,7 @@
 use borrow.Author.Needs.{needs}
 use Rattle.laws.specs.Choose.{told}
 use Rattle.rules.specs.Keep.{keepCheck}
-use Rattle.scan.proofs.Checks.{checks}
+use Rattle.checks.proofs.Checks.{checks}
 use Rattle.rectangle.proofs.Checked.{keep-cells}
 use Rattle.rectangle.proofs.entry.keep_check.Statement.{statement}
 use Rattle.rectangle.proofs.entry.keep_check.Tie as tie

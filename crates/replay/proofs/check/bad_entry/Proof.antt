@@ -1,5 +1,5 @@
 -- `bad_entry` meets its contract: no entry passed so far is out of range. Assumes nothing.
-use Rattle.scan.proofs.First.{first-none}
+use Rattle.checks.proofs.First.{first-none}
 use borrow.Author.Needs.{needs}
 use Rattle.replay.proofs.Entries.{goodAt, entry-more, entry-found, entry-end}
 use mathlib.Core.Path.{_≡_}

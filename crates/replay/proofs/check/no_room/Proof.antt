@@ -1,5 +1,5 @@
 -- `no_room` meets its contract: every entry passed so far has room. Assumes nothing.
-use Rattle.scan.proofs.First.{first-none}
+use Rattle.checks.proofs.First.{first-none}
 use Rattle.replay.proofs.Entries.{goodAt, entry-more, entry-found, entry-end}
 use mathlib.Core.Path.{_≡_}
 use Prim.Native.Nat.{_-_, _≤_}

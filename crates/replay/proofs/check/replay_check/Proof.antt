@@ -1,7 +1,7 @@
 -- `replay_check` meets its contract: each check in its order; what the later ones need is what the earlier ones tested. Assumes nothing.
 use borrow.Author.Needs.{needs}
 use Rattle.laws.specs.Choose.{told-yes-not, told-no-not}
-use Rattle.scan.proofs.Checks.{checks, stop, go-on, unless-bad, unless-good}
+use Rattle.checks.proofs.Checks.{checks, stop, go-on, unless-bad, unless-good}
 use Rattle.rules.specs.Replay.{replayCheck}
 use Rattle.replay.proofs.Checking.{record-refused, roomy-by, replay-passed}
 use Rattle.replay.proofs.Entries.{sized-of}

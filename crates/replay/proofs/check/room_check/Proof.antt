@@ -1,7 +1,7 @@
 -- `room_check` meets its contract: 6, 7, and then 8. Assumes nothing.
 use native.Mathlib.Omega.{arith}
 use borrow.Author.Needs.{needs}
-use Rattle.scan.proofs.Rows.{box-whole}
+use Rattle.checks.proofs.Rows.{box-whole}
 use Rattle.replay.proofs.Entries.{cells-most}
 use Rattle.replay.proofs.Checking.{keep-refused, room-refused, sample-refused, room-passed}
 use Rattle.replay.proofs.check.room_check.Statement.{statement}

@@ -1,7 +1,7 @@
 -- `sizes_ok` meets its contract: each test in its order. Assumes nothing.
 use mathlib.Core.Path.{sym}
 use native.Mathlib.Omega.{arith}
-use Rattle.scan.proofs.Ranges.{in-range}
+use Rattle.checks.proofs.Ranges.{in-range}
 use Rattle.laws.specs.Choose.{told-yes-not}
 use Rattle.rules.specs.Replay.{replaySizesOk}
 use Rattle.laws.specs.Choose.{tests}

@@ -1,6 +1,6 @@
 -- `after_offset` goes on after an offset alone. Assumes nothing.
 use Rattle.laws.specs.Choose.{tests}
-use Rattle.cases.specs.Typed.{failed}
+use Rattle.text.specs.Typed.{failed}
 use Rattle.settings.specs.Values.{offsetRest}
 use borrow.Author.Needs.{needs}
 use Rattle.settings.proofs.values.after_offset.Statement.{statement}

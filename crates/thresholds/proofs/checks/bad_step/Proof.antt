@@ -3,7 +3,7 @@ use mathlib.Core.Path.{_≡_}
 use Prim.Native.Nat.{_-_, _≤_}
 use lib.ListN.{length}
 use Rattle.laws.specs.Choose.{tests}
-use Rattle.scan.proofs.First.{firsts}
+use Rattle.checks.proofs.First.{firsts}
 use Rattle.rules.specs.declared.refusals.Found.the-variants.{Nothing}
 use Rattle.rules.specs.Refusals.{first, foundUnless}
 use Rattle.rules.specs.Thresholds.{stepGood, badStep}

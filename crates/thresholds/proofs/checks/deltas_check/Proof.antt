@@ -2,7 +2,7 @@
 use mathlib.Core.Path.{_≡_}
 use mir.Facts.{toZ-ofZ}
 use Rattle.rules.specs.Numbers.{deltaOk}
-use Rattle.scan.proofs.Checks.{checks}
+use Rattle.checks.proofs.Checks.{checks}
 use Rattle.rules.specs.Thresholds.{deltasCheck}
 use borrow.Author.Needs.{needs}
 use Rattle.thresholds.proofs.checks.deltas_check.Statement.{statement}

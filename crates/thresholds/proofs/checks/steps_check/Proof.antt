@@ -1,5 +1,5 @@
 -- `steps_check` is the checks in their order. Assumes nothing.
-use Rattle.scan.proofs.Checks.{checks}
+use Rattle.checks.proofs.Checks.{checks}
 use Rattle.rules.specs.Thresholds.{stepsCheck}
 use Rattle.thresholds.proofs.Accepted.{steps-bad}
 use borrow.Author.Needs.{needs}

@@ -1,7 +1,7 @@
 -- `thresholds_check` is the checks in their order. Assumes nothing.
 use mathlib.Core.Path.{_≡_}
 use mir.Facts.{toZ-ofZ}
-use Rattle.scan.proofs.Checks.{checks}
+use Rattle.checks.proofs.Checks.{checks}
 use Rattle.rules.specs.Thresholds.{thresholdsCheck, deltasCheck}
 use borrow.Author.Needs.{needs}
 use Rattle.thresholds.proofs.checks.thresholds_check.Statement.{statement}

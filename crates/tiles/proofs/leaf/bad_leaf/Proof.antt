@@ -5,7 +5,7 @@ use Rattle.laws.specs.Choose.{told-yes-not, told-no-not}
 use Rattle.rules.specs.declared.refusals.Found.the-variants.{Nothing}
 use Rattle.rules.specs.Refusals.{first, foundUnless}
 use Rattle.rules.specs.TuGrid.{leafGoodAt, badLeaf}
-use Rattle.scan.proofs.First.{firsts}
+use Rattle.checks.proofs.First.{firsts}
 use Rattle.tiles.proofs.leaf.bad_leaf.Statement.{statement}
 use Rattle.tiles.proofs.leaf.bad_leaf.Tie as tie
 

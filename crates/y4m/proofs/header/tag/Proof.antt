@@ -1,6 +1,6 @@
 -- `tag` walks to the first such letter. Assumes nothing.
 use Rattle.y4m.proofs.Heading.{tagging}
-use Rattle.words.specs.Places.{seek}
+use Rattle.text.specs.Places.{seek}
 use Rattle.y4m.specs.Headers.{tagAt}
 use Prim.Native.Nat.{_+_, _-_, _*_, _≤_, _<_}
 use mathlib.Core.Path.{_≡_}

@@ -1,0 +1,90 @@
+// The lists of the settings: qindex entries, luma's leaves, chroma's leaves, skip leaves, both planes' tile starts and the kept rectangles among the short numbers, and the steps.
+ghost use mathlib.Core.Path.{_≡_};
+ghost use Prim.Native.Nat.{_≤_, min, max};
+ghost use lib.ListN.{length};
+ghost use Rattle.by_settings.specs.Lists.{listsAsked, stepsAsked, ListsWithin};
+use laws::least;
+use laws::most;
+use settings::names::leaf_room;
+
+// Where the lists of short numbers begin and end.
+pub struct Lists {
+    pub entries: usize,
+    pub leaves: usize,
+    pub leavesend: usize,
+    pub chroma: usize,
+    pub chromaend: usize,
+    pub skips: usize,
+    pub skipsend: usize,
+    pub tiles: usize,
+    pub tilesend: usize,
+    pub chromatiles: usize,
+    pub chromatilesend: usize,
+    pub keeps: usize,
+    pub keepsend: usize,
+}
+
+// A place between two others.
+pub fn limit(place: usize, from: usize, end: usize) -> usize
+    ensures { λ r. ⌜ r ≡ max from (min place end) ⌝ }
+{
+    most(from, least(place, end))
+}
+
+// How many steps stand in the table: those given, or all of the published ones.
+pub fn steps_of(n: usize) -> usize
+    ensures { λ r. ⌜ (r ≡ stepsAsked n) × (r ≤ 352) ⌝ }
+{
+    if n == 0 { 352 } else { least(n, 352) }
+}
+
+// The lists of n short numbers by the places after their last ones. Chroma has luma's leaves where it has none of its own.
+pub fn lists_of(places: &[usize], n: usize) -> Lists
+    requires { ⌜ (24 ≤ length (now places)) × (22526 ≤ n) ⌝ }
+    ensures { λ r. ⌜ (r ≡ listsAsked n (now (places .entry))) × ListsWithin r n ⌝ }
+{
+    let room = leaf_room(n);
+    let chroma = 4096 + room;
+    let skips = chroma + room;
+    let l = limit(places[4], 4096, chroma);
+    let c = limit(places[5], chroma, skips);
+    let tiles = skips + room;
+    let chromatiles = tiles + 1023;
+    let keeps = chromatiles + 1023;
+    let s = limit(places[6], skips, tiles);
+    let t = limit(places[21], tiles, chromatiles);
+    let u = limit(places[22], chromatiles, keeps);
+    let k = limit(places[23], keeps, keeps + 16384);
+    if c == chroma {
+        return Lists {
+            entries: 4096,
+            leaves: 4096,
+            leavesend: l,
+            chroma: 4096,
+            chromaend: l,
+            skips,
+            skipsend: s,
+            tiles,
+            tilesend: t,
+            chromatiles,
+            chromatilesend: u,
+            keeps,
+            keepsend: k,
+        };
+    }
+    Lists {
+        entries: 4096,
+        leaves: 4096,
+        leavesend: l,
+        chroma,
+        chromaend: c,
+        skips,
+        skipsend: s,
+        tiles,
+        tilesend: t,
+        chromatiles,
+        chromatilesend: u,
+        keeps,
+        keepsend: k,
+    }
+}

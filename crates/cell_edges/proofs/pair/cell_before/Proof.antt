@@ -1,0 +1,22 @@
+-- `cell_before` meets its contract. Assumes nothing.
+use Rattle.cell_edges.proofs.Places.{places}
+use Rattle.cell_edges.proofs.pair.cell_before.Statement.{statement}
+use Rattle.cell_edges.proofs.pair.cell_before.Tie as tie
+
+cell-of-requires : tie.Need-cell-of-requires
+cell-of-requires c κs = search places
+
+sub-result : tie.Need-sub-result
+sub-result c = search places
+
+returns : tie.Need-returns
+returns c = search places
+
+sub-result-2 : tie.Need-sub-result-2
+sub-result-2 c = search places
+
+returns-2 : tie.Need-returns-2
+returns-2 c = search places
+
+pub cell-before-spec : {M : Type 1} → statement M
+cell-before-spec = tie.close (tie.spec cell-of-requires sub-result returns sub-result-2 returns-2)

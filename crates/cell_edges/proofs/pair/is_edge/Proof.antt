@@ -1,0 +1,24 @@
+-- `is_edge` meets its contract. Assumes nothing.
+use Rattle.cell_edges.proofs.Places.{places}
+use Rattle.cell_edges.proofs.pair.is_edge.Statement.{statement}
+use Rattle.cell_edges.proofs.pair.is_edge.Tie as tie
+
+by-dir-requires : tie.Need-by-dir-requires
+by-dir-requires c κs = search places
+
+returns : tie.Need-returns
+returns c = search places
+
+cell-of-requires : tie.Need-cell-of-requires
+cell-of-requires c κs = search places
+
+shared-slice-read-result : tie.Need-shared-slice-read-result
+shared-slice-read-result c = search places
+
+returns-2 : tie.Need-returns-2
+returns-2 c = search places
+
+pub is-edge-spec : {M : Type 1} → statement M
+is-edge-spec =
+    tie.close
+    (tie.spec by-dir-requires returns cell-of-requires shared-slice-read-result returns-2)

@@ -1,0 +1,19 @@
+-- `shortened_by` meets its contract. Assumes nothing.
+use Rattle.laws.specs.Choose.{tests}
+use Rattle.cell_edges.specs.Cells.{shortBy}
+use Rattle.cell_edges.proofs.pair.shortened_by.Statement.{statement}
+use Rattle.cell_edges.proofs.pair.shortened_by.Tie as tie
+
+returns : tie.Need-returns
+unfolding shortBy
+returns c = search tests
+
+rem-result : tie.Need-rem-result
+rem-result c = search tests
+
+returns-2 : tie.Need-returns-2
+unfolding shortBy
+returns-2 c = search tests
+
+pub shortened-by-spec : {M : Type 1} → statement M
+shortened-by-spec = tie.close (tie.spec returns rem-result returns-2)

@@ -1,0 +1,18 @@
+-- `eights` rounds up to 8. Assumes nothing.
+use Rattle.rules.specs.Frame.{upToEight}
+use borrow.Author.Needs.{needs}
+use Rattle.frame_checks.proofs.parts.up_to_eight.Statement.{statement}
+use Rattle.frame_checks.proofs.parts.up_to_eight.Tie as tie
+
+add-result : tie.Need-add-result
+add-result c = search needs
+
+mul-result : tie.Need-mul-result
+mul-result c = search needs
+
+returns : tie.Need-returns
+unfolding upToEight
+returns c = search needs
+
+pub eights-spec : {M : Type 1} → statement M
+eights-spec = tie.close (tie.spec add-result mul-result returns)

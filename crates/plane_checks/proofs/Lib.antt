@@ -1,0 +1,4 @@
+pub mod Accepted
+pub mod Marks
+pub mod Reach
+pub mod Tiles

@@ -1,0 +1,41 @@
+-- `lacks_ends` meets its contract. Assumes nothing.
+use Rattle.plane_checks.proofs.Reach.{ends}
+use Rattle.plane_checks.proofs.room.lacks_ends.Statement.{statement}
+use Rattle.plane_checks.proofs.room.lacks_ends.Tie as tie
+
+returns : tie.Need-returns
+returns c = search ends
+
+lacks-left-requires : tie.Need-lacks-left-requires
+lacks-left-requires c κs = search ends
+
+enum-known-f : tie.Need-enum-known-f
+enum-known-f c = search ends
+
+returns-2 : tie.Need-returns-2
+returns-2 c = search ends
+
+enum-told : tie.Need-enum-told
+enum-told c = search ends
+
+sub-lacks-left : tie.Need-sub-lacks-left
+sub-lacks-left c = search ends
+
+lacks-left-requires-2 : tie.Need-lacks-left-requires-2
+lacks-left-requires-2 c κs = search ends
+
+returns-3 : tie.Need-returns-3
+returns-3 c = search ends
+
+pub lacks-ends-spec : {M : Type 1} → statement M
+lacks-ends-spec =
+    tie.close
+    (tie.spec
+    returns
+    lacks-left-requires
+    enum-known-f
+    returns-2
+    enum-told
+    sub-lacks-left
+    lacks-left-requires-2
+    returns-3)

@@ -1,0 +1,33 @@
+-- `floor` meets its contract. Assumes nothing.
+use Rattle.laws.specs.Choose.{tests}
+use Rattle.plane_checks.proofs.starts.floor.Statement.{statement}
+use Rattle.plane_checks.proofs.starts.floor.Tie as tie
+
+returns : tie.Need-returns
+returns c = search tests
+
+sub-wide : tie.Need-sub-wide
+sub-wide c = search tests
+
+mul-wide : tie.Need-mul-wide
+mul-wide c = search tests
+
+shared-slice-read-wide : tie.Need-shared-slice-read-wide
+shared-slice-read-wide c = search tests
+
+wide-requires : tie.Need-wide-requires
+wide-requires c κs = search tests
+
+returns-2 : tie.Need-returns-2
+returns-2 c = search tests
+
+pub floor-spec : {M : Type 1} → statement M
+floor-spec =
+    tie.close
+    (tie.spec
+    returns
+    sub-wide
+    mul-wide
+    shared-slice-read-wide
+    wide-requires
+    returns-2)

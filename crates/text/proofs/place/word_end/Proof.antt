@@ -1,0 +1,53 @@
+-- `word_end` walks to the first place that its test names. Assumes nothing.
+use Rattle.text.proofs.Seeking.{seeking}
+use Rattle.text.specs.Places.{seek, blankAt}
+use Prim.Native.Nat.{_+_, _-_, _*_, _≤_, _<_}
+use mathlib.Core.Path.{_≡_}
+use lib.ListN.{length}
+use Rattle.text.proofs.place.word_end.Statement.{statement}
+use Rattle.text.proofs.place.word_end.Tie as tie
+
+abbrev Inv-loop : tie.InvT-loop
+Inv-loop text from end at₀ at = (from ≤ at) × (at ≤ end) × (seek (blankAt text) at (end - at) ≡ seek (blankAt text) from (end - from))
+
+abbrev μ-loop : tie.MeasureT-loop
+μ-loop text from end at₀ at = end - at
+
+loop-holds : tie.Need-loop-holds Inv-loop μ-loop
+loop-holds c = search seeking
+
+shared-slice-read-blank : tie.Need-shared-slice-read-blank Inv-loop μ-loop
+shared-slice-read-blank c = search seeking
+
+blank-requires : tie.Need-blank-requires Inv-loop μ-loop
+blank-requires c κs = search seeking
+
+returns : tie.Need-returns Inv-loop μ-loop
+returns c = search seeking
+
+add-at : tie.Need-add-at Inv-loop μ-loop
+add-at c = search seeking
+
+loop-less : tie.Need-loop-less Inv-loop μ-loop
+loop-less c = search seeking
+
+loop-again : tie.Need-loop-again Inv-loop μ-loop
+loop-again c = search seeking
+
+returns-2 : tie.Need-returns-2 Inv-loop μ-loop
+returns-2 c = search seeking
+
+pub word-end-spec : {M : Type 1} → statement M
+word-end-spec =
+    tie.close
+    (tie.spec
+    Inv-loop
+    μ-loop
+    loop-holds
+    shared-slice-read-blank
+    blank-requires
+    returns
+    add-at
+    loop-less
+    loop-again
+    returns-2)

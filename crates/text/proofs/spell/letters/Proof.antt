@@ -1,0 +1,57 @@
+-- `letters` reads a word's letters: what is left to read after each turn is what the whole run says. Assumes nothing.
+use Rattle.text.proofs.Spelling.{spelling}
+use Rattle.text.specs.Words.{readLetters}
+use Prim.Native.Nat.{_+_, _-_, _*_, _≤_, _<_}
+use mathlib.Core.Path.{_≡_}
+use lib.ListN.{length}
+use Rattle.text.proofs.spell.letters.Statement.{statement}
+use Rattle.text.proofs.spell.letters.Tie as tie
+
+abbrev Inv-loop : tie.InvT-loop
+Inv-loop text from end value₀ at₀ value at = (from ≤ at) × (at ≤ end) × (readLetters text value at (end - at) ≡ readLetters text 0 from (end - from))
+
+abbrev μ-loop : tie.MeasureT-loop
+μ-loop text from end value₀ at₀ value at = end - at
+
+loop-holds : tie.Need-loop-holds Inv-loop μ-loop
+loop-holds c = search spelling
+
+shared-slice-read-b : tie.Need-shared-slice-read-b Inv-loop μ-loop
+shared-slice-read-b c = search spelling
+
+goes-on-requires : tie.Need-goes-on-requires Inv-loop μ-loop
+goes-on-requires c κs = search spelling
+
+returns : tie.Need-returns Inv-loop μ-loop
+returns c = search spelling
+
+one-more-requires : tie.Need-one-more-requires Inv-loop μ-loop
+one-more-requires c κs = search spelling
+
+add-at : tie.Need-add-at Inv-loop μ-loop
+add-at c = search spelling
+
+loop-less : tie.Need-loop-less Inv-loop μ-loop
+loop-less c = search spelling
+
+loop-again : tie.Need-loop-again Inv-loop μ-loop
+loop-again c = search spelling
+
+returns-2 : tie.Need-returns-2 Inv-loop μ-loop
+returns-2 c = search spelling
+
+pub letters-spec : {M : Type 1} → statement M
+letters-spec =
+    tie.close
+    (tie.spec
+    Inv-loop
+    μ-loop
+    loop-holds
+    shared-slice-read-b
+    goes-on-requires
+    returns
+    one-more-requires
+    add-at
+    loop-less
+    loop-again
+    returns-2)

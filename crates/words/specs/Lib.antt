@@ -1,3 +1,0 @@
--- What `specs/` holds: places and words.
-pub mod Places
-pub mod Words
