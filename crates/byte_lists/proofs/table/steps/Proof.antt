@@ -6,7 +6,7 @@ use lib.ListN.{length}
 use Rattle.laws.specs.Loops.{filled}
 use Rattle.low_first.specs.Bytes.{numberIn}
 use Rattle.rules.specs.CSide.{stepsIn}
-use Rattle.low_first.proofs.Fills.{fills, whole-end}
+use Rattle.low_first.proofs.Fills.{fills as needs, whole-end}
 use Rattle.byte_lists.proofs.table.steps.Statement.{statement}
 use Rattle.byte_lists.proofs.table.steps.Tie as tie
 
@@ -17,28 +17,28 @@ abbrev μ-loop : tie.MeasureT-loop
 μ-loop bytes t₀ k₀ t k = 352 - k
 
 loop-holds : tie.Need-loop-holds Inv-loop μ-loop
-loop-holds c = search fills
+loop-holds c = search needs
 
 mul-four-at : tie.Need-mul-four-at Inv-loop μ-loop
-mul-four-at c = search fills
+mul-four-at c = search needs
 
 four-at-requires : tie.Need-four-at-requires Inv-loop μ-loop
-four-at-requires c κs = search fills
+four-at-requires c κs = search needs
 
 mul-t : tie.Need-mul-t Inv-loop μ-loop
-mul-t c = search fills
+mul-t c = search needs
 
 array-write-t : tie.Need-array-write-t Inv-loop μ-loop
-array-write-t c = search fills
+array-write-t c = search needs
 
 add-k : tie.Need-add-k Inv-loop μ-loop
-add-k c = search fills
+add-k c = search needs
 
 loop-less : tie.Need-loop-less Inv-loop μ-loop
-loop-less c = search fills
+loop-less c = search needs
 
 loop-again : tie.Need-loop-again Inv-loop μ-loop
-loop-again c = search fills
+loop-again c = search needs
 
 returns : tie.Need-returns Inv-loop μ-loop
 unfolding stepsIn

@@ -6,7 +6,7 @@ use lib.ListN.{length}
 use Rattle.laws.specs.Loops.{filled}
 use Rattle.low_first.specs.Bytes.{numberIn}
 use Rattle.rules.specs.CSide.{samplesIn}
-use Rattle.low_first.proofs.Fills.{fills, whole-end}
+use Rattle.low_first.proofs.Fills.{fills as needs, whole-end}
 use Rattle.byte_lists.proofs.window.samples.Statement.{statement}
 use Rattle.byte_lists.proofs.window.samples.Tie as tie
 
@@ -17,28 +17,28 @@ abbrev μ-loop : tie.MeasureT-loop
 μ-loop bytes l₀ k₀ l k = 72 - k
 
 loop-holds : tie.Need-loop-holds Inv-loop μ-loop
-loop-holds c = search fills
+loop-holds c = search needs
 
 mul-two-at : tie.Need-mul-two-at Inv-loop μ-loop
-mul-two-at c = search fills
+mul-two-at c = search needs
 
 two-at-requires : tie.Need-two-at-requires Inv-loop μ-loop
-two-at-requires c κs = search fills
+two-at-requires c κs = search needs
 
 mul-l : tie.Need-mul-l Inv-loop μ-loop
-mul-l c = search fills
+mul-l c = search needs
 
 array-write-l : tie.Need-array-write-l Inv-loop μ-loop
-array-write-l c = search fills
+array-write-l c = search needs
 
 add-k : tie.Need-add-k Inv-loop μ-loop
-add-k c = search fills
+add-k c = search needs
 
 loop-less : tie.Need-loop-less Inv-loop μ-loop
-loop-less c = search fills
+loop-less c = search needs
 
 loop-again : tie.Need-loop-again Inv-loop μ-loop
-loop-again c = search fills
+loop-again c = search needs
 
 returns : tie.Need-returns Inv-loop μ-loop
 unfolding samplesIn

@@ -4,7 +4,7 @@ use Prim.Native.Nat.{ℕ, _+_, _-_, _≤_}
 use Rattle.rules.specs.declared.refusals.Found.the-variants.{Nothing}
 use Rattle.rules.specs.Refusals.{first, foundUnless}
 use Rattle.rules.specs.Ccso.{offsetOk}
-use Rattle.ccso.proofs.Lengths.{offsets-first}
+use Rattle.ccso.proofs.Lengths.{offsets-first as needs}
 use Rattle.ccso.proofs.check.bad_offset.Statement.{statement}
 use Rattle.ccso.proofs.check.bad_offset.Tie as tie
 
@@ -16,31 +16,31 @@ abbrev μ-loop : tie.MeasureT-loop
 μ-loop offsets count k₀ k = count - k
 
 loop-holds : tie.Need-loop-holds Inv-loop μ-loop
-loop-holds c = search offsets-first
+loop-holds c = search needs
 
 shared-slice-copy-out-o : tie.Need-shared-slice-copy-out-o Inv-loop μ-loop
-shared-slice-copy-out-o c = search offsets-first
+shared-slice-copy-out-o c = search needs
 
 cast-in-range : tie.Need-cast-in-range Inv-loop μ-loop
-cast-in-range c = search offsets-first
+cast-in-range c = search needs
 
 in-range-requires : tie.Need-in-range-requires Inv-loop μ-loop
-in-range-requires c κs = search offsets-first
+in-range-requires c κs = search needs
 
 returns : tie.Need-returns Inv-loop μ-loop
-returns c = search offsets-first
+returns c = search needs
 
 add-k : tie.Need-add-k Inv-loop μ-loop
-add-k c = search offsets-first
+add-k c = search needs
 
 loop-less : tie.Need-loop-less Inv-loop μ-loop
-loop-less c = search offsets-first
+loop-less c = search needs
 
 loop-again : tie.Need-loop-again Inv-loop μ-loop
-loop-again c = search offsets-first
+loop-again c = search needs
 
 returns-2 : tie.Need-returns-2 Inv-loop μ-loop
-returns-2 c = search offsets-first
+returns-2 c = search needs
 
 pub bad-offset-spec : {M : Type 1} → statement M
 bad-offset-spec =

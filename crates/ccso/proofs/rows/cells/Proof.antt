@@ -4,7 +4,7 @@ use native.Mathlib.Omega.{arith}
 use mathlib.Core.Path.{_≡_}
 use Prim.Native.Nat.{_+_, _-_, _≤_}
 use lib.ListN.{length}
-use Rattle.laws.specs.Loops.{turns, loops}
+use Rattle.laws.specs.Loops.{turns, loops as needs}
 use Rattle.ccso.specs.Lists.{movedCell}
 use Rattle.ccso.proofs.rows.cells.Statement.{statement}
 use Rattle.ccso.proofs.rows.cells.Tie as tie
@@ -17,7 +17,7 @@ abbrev μ-loop : tie.MeasureT-loop
 μ-loop luma target₀ offsets s k r start count j₀ target j = count - j
 
 loop-holds : tie.Need-loop-holds Inv-loop μ-loop
-loop-holds c = search loops
+loop-holds c = search needs
 
 add-cell : tie.Need-add-cell Inv-loop μ-loop
 add-cell c = record { fits = omega (arith, (c .before .before .before .before .before .pre .1 .1 .1), width-most (c .before .before .before .before .before .pre .0 .ranges)) }
@@ -35,19 +35,19 @@ cell-requires c κs = (
 )
 
 add-j : tie.Need-add-j Inv-loop μ-loop
-add-j c = search loops
+add-j c = search needs
 
 loop-less : tie.Need-loop-less Inv-loop μ-loop
-loop-less c = search loops
+loop-less c = search needs
 
 loop-again : tie.Need-loop-again Inv-loop μ-loop
-loop-again c = search loops
+loop-again c = search needs
 
 same-length : tie.Need-same-length Inv-loop μ-loop
-same-length c = search loops
+same-length c = search needs
 
 returns : tie.Need-returns Inv-loop μ-loop
-returns c = search loops
+returns c = search needs
 
 pub cells-spec : {M : Type 1} → statement M
 cells-spec =

@@ -1,5 +1,5 @@
 -- `row_of` finds where the row's lists start; its products fit. Assumes nothing.
-use Rattle.ccso_sample.proofs.Places.{row-starts, line, height-most, width-most, product-fits, block-some, blocks-most, tap-row-is}
+use Rattle.ccso_sample.proofs.Places.{row-starts as needs, line, height-most, width-most, product-fits, block-some, blocks-most, tap-row-is}
 use Rattle.rules.specs.Numbers.{up}
 use native.Mathlib.Nat.{div-le-self}
 use native.Mathlib.Omega.{arith}
@@ -9,13 +9,13 @@ use Rattle.ccso.proofs.rows.row_of.Statement.{statement}
 use Rattle.ccso.proofs.rows.row_of.Tie as tie
 
 mul-at : tie.Need-mul-at
-mul-at c = search row-starts
+mul-at c = search needs
 
 limited-requires : tie.Need-limited-requires
-limited-requires c κs = search row-starts
+limited-requires c κs = search needs
 
 limited-requires-2 : tie.Need-limited-requires-2
-limited-requires-2 c κs = search row-starts
+limited-requires-2 c κs = search needs
 
 mul-t9 : tie.Need-mul-t9
 mul-t9 c = product-fits _ _ (omega (arith, (c .before .before .before .before .pre .1 .1), height-most (c .before .before .before .before .pre .0 .ranges))) (omega (arith, (c .before .before .before .before .pre .1 .0) .width, width-most (c .before .before .before .before .pre .0 .ranges)))

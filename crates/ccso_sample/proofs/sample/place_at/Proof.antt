@@ -1,27 +1,27 @@
 -- `place_at` reads centre and taps within luma. Assumes nothing.
-use Rattle.ccso_sample.proofs.Places.{reads, column, centre-below, tap0-below, tap1-below, bytes-fit, place-there, centre-is, tap0-is, tap1-is, place-is}
+use Rattle.ccso_sample.proofs.Places.{reads as needs, column, centre-below, tap0-below, tap1-below, bytes-fit, place-there, centre-is, tap0-is, tap1-is, place-is}
 use Rattle.ccso_sample.proofs.Offsets.{place-below}
 use Rattle.ccso_sample.proofs.Classes.{class-most}
 use Rattle.ccso_sample.proofs.sample.place_at.Statement.{statement}
 use Rattle.ccso_sample.proofs.sample.place_at.Tie as tie
 
 mul-at : tie.Need-mul-at
-mul-at c = search reads
+mul-at c = search needs
 
 add-centre : tie.Need-add-centre
-add-centre c = search reads
+add-centre c = search needs
 
 limited-requires : tie.Need-limited-requires
-limited-requires c κs = search reads
+limited-requires c κs = search needs
 
 add-tap0 : tie.Need-add-tap0
-add-tap0 c = search reads
+add-tap0 c = search needs
 
 limited-requires-2 : tie.Need-limited-requires-2
-limited-requires-2 c κs = search reads
+limited-requires-2 c κs = search needs
 
 add-tap1 : tie.Need-add-tap1
-add-tap1 c = search reads
+add-tap1 c = search needs
 
 mul-c : tie.Need-mul-c
 mul-c c =
@@ -56,7 +56,7 @@ shared-slice-read-classify c =
     (c .before .before .before .before .before .before .before .before .before .pre .1 .1 .1)
 
 classify-requires : tie.Need-classify-requires
-classify-requires c κs = search reads
+classify-requires c κs = search needs
 
 mul-classify-2 : tie.Need-mul-classify-2
 mul-classify-2 c = bytes-fit (c .before .before .before .before .before .before .before .before .before .before .pre .0 .ranges) _ (tap1-below (c .before .before .before .before .before .before .before .before .before .before .pre .0 .ranges) (c .before .before .before .before .before .before .before .before .before .before .pre .1 .0) _ (c .before .before .before .before .limited2 .ensures .0))
@@ -71,7 +71,7 @@ shared-slice-read-classify-2 c =
     (c .before .before .before .before .before .before .before .before .before .before .before .pre .1 .1 .1)
 
 classify-requires-2 : tie.Need-classify-requires-2
-classify-requires-2 c κs = search reads
+classify-requires-2 c κs = search needs
 
 offset-place-requires : tie.Need-offset-place-requires
 offset-place-requires c κs = (

@@ -4,7 +4,7 @@ use mathlib.Core.Bool.{false}
 use Prim.Native.Nat.{_≤_, _-_}
 use lib.ListN.{length}
 use Rattle.rules.specs.Plane.{startsTile}
-use Rattle.cell_edges.proofs.Columns.{starting}
+use Rattle.cell_edges.proofs.Columns.{starting as needs}
 use Rattle.cell_edges.proofs.starts.starts_tile.Statement.{statement}
 use Rattle.cell_edges.proofs.starts.starts_tile.Tie as tie
 
@@ -15,31 +15,31 @@ abbrev μ-loop : tie.MeasureT-loop
 μ-loop tiles c n k₀ k = n - k
 
 loop-holds : tie.Need-loop-holds Inv-loop μ-loop
-loop-holds c = search starting
+loop-holds c = search needs
 
 mul-wide : tie.Need-mul-wide Inv-loop μ-loop
-mul-wide c = search starting
+mul-wide c = search needs
 
 shared-slice-read-wide : tie.Need-shared-slice-read-wide Inv-loop μ-loop
-shared-slice-read-wide c = search starting
+shared-slice-read-wide c = search needs
 
 wide-requires : tie.Need-wide-requires Inv-loop μ-loop
-wide-requires c κs = search starting
+wide-requires c κs = search needs
 
 returns : tie.Need-returns Inv-loop μ-loop
-returns c = search starting
+returns c = search needs
 
 add-k : tie.Need-add-k Inv-loop μ-loop
-add-k c = search starting
+add-k c = search needs
 
 loop-less : tie.Need-loop-less Inv-loop μ-loop
-loop-less c = search starting
+loop-less c = search needs
 
 loop-again : tie.Need-loop-again Inv-loop μ-loop
-loop-again c = search starting
+loop-again c = search needs
 
 returns-2 : tie.Need-returns-2 Inv-loop μ-loop
-returns-2 c = search starting
+returns-2 c = search needs
 
 pub starts-tile-spec : {M : Type 1} → statement M
 starts-tile-spec =

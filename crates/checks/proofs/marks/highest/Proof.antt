@@ -2,7 +2,7 @@
 use Prim.Native.Nat.{_≤_, _-_}
 use mathlib.Core.Path.{_≡_}
 use Rattle.laws.specs.Largest.{largest}
-use Rattle.checks.proofs.Bytes.{bytes}
+use Rattle.checks.proofs.Bytes.{bytes as needs}
 use Rattle.checks.proofs.marks.highest.Statement.{statement}
 use Rattle.checks.proofs.marks.highest.Tie as tie
 
@@ -13,25 +13,25 @@ abbrev μ-loop : tie.MeasureT-loop
 μ-loop list count m₀ k₀ m k = count - k
 
 loop-holds : tie.Need-loop-holds Inv-loop μ-loop
-loop-holds c = search bytes
+loop-holds c = search needs
 
 shared-slice-read-larger : tie.Need-shared-slice-read-larger Inv-loop μ-loop
-shared-slice-read-larger c = search bytes
+shared-slice-read-larger c = search needs
 
 larger-requires : tie.Need-larger-requires Inv-loop μ-loop
-larger-requires c κs = search bytes
+larger-requires c κs = search needs
 
 add-k : tie.Need-add-k Inv-loop μ-loop
-add-k c = search bytes
+add-k c = search needs
 
 loop-less : tie.Need-loop-less Inv-loop μ-loop
-loop-less c = search bytes
+loop-less c = search needs
 
 loop-again : tie.Need-loop-again Inv-loop μ-loop
-loop-again c = search bytes
+loop-again c = search needs
 
 returns : tie.Need-returns Inv-loop μ-loop
-returns c = search bytes
+returns c = search needs
 
 pub highest-spec : {M : Type 1} → statement M
 highest-spec =

@@ -3,7 +3,7 @@ use mathlib.Core.Path.{_≡_}
 use Prim.Native.Nat.{_+_, _-_, _≤_}
 use Rattle.rules.specs.declared.refusals.Found.the-variants.{Nothing}
 use Rattle.rules.specs.Refusals.{first, overTop, overRow}
-use Rattle.checks.proofs.Rows.{rows}
+use Rattle.checks.proofs.Rows.{rows as needs}
 use Rattle.checks.proofs.over.exact.Statement.{statement}
 use Rattle.checks.proofs.over.exact.Tie as tie
 
@@ -14,34 +14,34 @@ abbrev μ-loop : tie.MeasureT-loop
 μ-loop plane start count top x₀ x = count - x
 
 loop-holds : tie.Need-loop-holds Inv-loop μ-loop
-loop-holds c = search rows
+loop-holds c = search needs
 
 add-at : tie.Need-add-at Inv-loop μ-loop
-add-at c = search rows
+add-at c = search needs
 
 mul-v : tie.Need-mul-v Inv-loop μ-loop
-mul-v c = search rows
+mul-v c = search needs
 
 shared-slice-read-v : tie.Need-shared-slice-read-v Inv-loop μ-loop
 unfolding overRow
-shared-slice-read-v c = search rows
+shared-slice-read-v c = search needs
 
 returns : tie.Need-returns Inv-loop μ-loop
 unfolding overRow
-returns c = search rows
+returns c = search needs
 
 add-x : tie.Need-add-x Inv-loop μ-loop
-add-x c = search rows
+add-x c = search needs
 
 loop-less : tie.Need-loop-less Inv-loop μ-loop
-loop-less c = search rows
+loop-less c = search needs
 
 loop-again : tie.Need-loop-again Inv-loop μ-loop
-loop-again c = search rows
+loop-again c = search needs
 
 returns-2 : tie.Need-returns-2 Inv-loop μ-loop
 unfolding overRow
-returns-2 c = search rows
+returns-2 c = search needs
 
 pub exact-spec : {M : Type 1} → statement M
 exact-spec =

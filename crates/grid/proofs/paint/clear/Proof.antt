@@ -4,7 +4,7 @@ use Prim.Native.Nat.{_-_, _≤_}
 use lib.ListN.{length, set}
 use Rattle.laws.specs.Loops.{turns}
 use Rattle.rules.specs.TuGrid.{clearOf}
-use Rattle.tiles.proofs.Turns.{loops}
+use Rattle.tiles.proofs.Turns.{loops as needs}
 use Rattle.grid.proofs.paint.clear.Statement.{statement}
 use Rattle.grid.proofs.paint.clear.Tie as tie
 
@@ -15,26 +15,26 @@ abbrev μ-loop : tie.MeasureT-loop
 μ-loop xs₀ n i₀ xs i = n - i
 
 loop-holds : tie.Need-loop-holds Inv-loop μ-loop
-loop-holds c = search loops
+loop-holds c = search needs
 
 slice-write-xs : tie.Need-slice-write-xs Inv-loop μ-loop
-slice-write-xs c = search loops
+slice-write-xs c = search needs
 
 add-i : tie.Need-add-i Inv-loop μ-loop
-add-i c = search loops
+add-i c = search needs
 
 loop-less : tie.Need-loop-less Inv-loop μ-loop
-loop-less c = search loops
+loop-less c = search needs
 
 loop-again : tie.Need-loop-again Inv-loop μ-loop
-loop-again c = search loops
+loop-again c = search needs
 
 same-length : tie.Need-same-length Inv-loop μ-loop
-same-length c = search loops
+same-length c = search needs
 
 returns : tie.Need-returns Inv-loop μ-loop
 unfolding clearOf
-returns c = search loops
+returns c = search needs
 
 pub clear-spec : {M : Type 1} → statement M
 clear-spec =

@@ -5,7 +5,7 @@ use lib.ListN.{length}
 use Rattle.laws.specs.Loops.{each}
 use Rattle.pictures.specs.Storing.{stored}
 use Rattle.pictures.specs.Defaults.{leafRow, leaves, tiled, tiledEnd}
-use Rattle.pictures.proofs.Leaves.{tiling, row-more}
+use Rattle.pictures.proofs.Leaves.{tiling as needs, row-more}
 use Rattle.pictures.proofs.defaults.tile.Statement.{statement}
 use Rattle.pictures.proofs.defaults.tile.Tie as tie
 
@@ -16,38 +16,38 @@ abbrev μ-loop : tie.MeasureT-loop
 μ-loop shorts₀ across down at₀ r₀ shorts at r = down - r
 
 loop-holds : tie.Need-loop-holds Inv-loop μ-loop
-loop-holds c = search tiling
+loop-holds c = search needs
 
 mul-leaf-row : tie.Need-mul-leaf-row Inv-loop μ-loop
-mul-leaf-row c = search tiling
+mul-leaf-row c = search needs
 
 cast-leaf-row : tie.Need-cast-leaf-row Inv-loop μ-loop
-cast-leaf-row c = search tiling
+cast-leaf-row c = search needs
 
 leaf-row-requires : tie.Need-leaf-row-requires Inv-loop μ-loop
-leaf-row-requires c κs = search tiling
+leaf-row-requires c κs = search needs
 
 mul-at : tie.Need-mul-at Inv-loop μ-loop
-mul-at c = search tiling
+mul-at c = search needs
 
 add-at : tie.Need-add-at Inv-loop μ-loop
-add-at c = search tiling
+add-at c = search needs
 
 add-r : tie.Need-add-r Inv-loop μ-loop
-add-r c = search tiling
+add-r c = search needs
 
 loop-less : tie.Need-loop-less Inv-loop μ-loop
-loop-less c = search tiling
+loop-less c = search needs
 
 loop-again : tie.Need-loop-again Inv-loop μ-loop
-loop-again c = (search tiling, search tiling, search tiling, search tiling, row-more _ _ _ _ _ (c .before .before .before .before .before .loop .inv .3) (c .before .before .before .before .before .loop .inv .4) (c .before .before .leaf-row .ensures))
+loop-again c = (search needs, search needs, search needs, search needs, row-more _ _ _ _ _ (c .before .before .before .before .before .loop .inv .3) (c .before .before .before .before .before .loop .inv .4) (c .before .before .leaf-row .ensures))
 
 same-length : tie.Need-same-length Inv-loop μ-loop
-same-length c = search tiling
+same-length c = search needs
 
 returns : tie.Need-returns Inv-loop μ-loop
 unfolding tiled leaves tiledEnd
-returns c = search tiling
+returns c = search needs
 
 pub tile-spec : {M : Type 1} → statement M
 tile-spec =

@@ -1,5 +1,5 @@
 -- `next_tag` walks to the next such letter. Assumes nothing.
-use Rattle.pictures.proofs.Beyond.{finding}
+use Rattle.pictures.proofs.Beyond.{finding as needs}
 use Rattle.text.specs.Places.{seek}
 use Rattle.y4m.specs.Headers.{tagAt}
 use Prim.Native.Nat.{_-_, _≤_}
@@ -14,25 +14,25 @@ abbrev μ-loop : tie.MeasureT-loop
 μ-loop text from last letter at₀ at = last - at
 
 loop-holds : tie.Need-loop-holds Inv-loop μ-loop
-loop-holds c = search finding
+loop-holds c = search needs
 
 is-tag-requires : tie.Need-is-tag-requires Inv-loop μ-loop
-is-tag-requires c κs = search finding
+is-tag-requires c κs = search needs
 
 returns : tie.Need-returns Inv-loop μ-loop
-returns c = search finding
+returns c = search needs
 
 add-at : tie.Need-add-at Inv-loop μ-loop
-add-at c = search finding
+add-at c = search needs
 
 loop-less : tie.Need-loop-less Inv-loop μ-loop
-loop-less c = search finding
+loop-less c = search needs
 
 loop-again : tie.Need-loop-again Inv-loop μ-loop
-loop-again c = search finding
+loop-again c = search needs
 
 returns-2 : tie.Need-returns-2 Inv-loop μ-loop
-returns-2 c = search finding
+returns-2 c = search needs
 
 pub next-tag-spec : {M : Type 1} → statement M
 next-tag-spec =

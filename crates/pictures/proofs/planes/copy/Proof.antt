@@ -3,7 +3,7 @@ use mathlib.Core.Path.{_≡_}
 use Prim.Native.Nat.{_-_, _≤_, min}
 use lib.ListN.{length, take}
 use Rattle.pictures.specs.Storing.{stored}
-use Rattle.pictures.proofs.Copies.{copying}
+use Rattle.pictures.proofs.Copies.{copying as needs}
 use Rattle.pictures.proofs.planes.copy.Statement.{statement}
 use Rattle.pictures.proofs.planes.copy.Tie as tie
 
@@ -14,37 +14,37 @@ abbrev μ-loop : tie.MeasureT-loop
 μ-loop from to₀ n k₀ to k = n - k
 
 least-requires : tie.Need-least-requires Inv-loop μ-loop
-least-requires c κs = search copying
+least-requires c κs = search needs
 
 loop-holds : tie.Need-loop-holds Inv-loop μ-loop
-loop-holds c = search copying
+loop-holds c = search needs
 
 mul-to : tie.Need-mul-to Inv-loop μ-loop
-mul-to c = search copying
+mul-to c = search needs
 
 shared-slice-read-to : tie.Need-shared-slice-read-to Inv-loop μ-loop
-shared-slice-read-to c = search copying
+shared-slice-read-to c = search needs
 
 mul-to-2 : tie.Need-mul-to-2 Inv-loop μ-loop
-mul-to-2 c = search copying
+mul-to-2 c = search needs
 
 slice-write-to : tie.Need-slice-write-to Inv-loop μ-loop
-slice-write-to c = search copying
+slice-write-to c = search needs
 
 add-k : tie.Need-add-k Inv-loop μ-loop
-add-k c = search copying
+add-k c = search needs
 
 loop-less : tie.Need-loop-less Inv-loop μ-loop
-loop-less c = search copying
+loop-less c = search needs
 
 loop-again : tie.Need-loop-again Inv-loop μ-loop
-loop-again c = search copying
+loop-again c = search needs
 
 same-length : tie.Need-same-length Inv-loop μ-loop
-same-length c = search copying
+same-length c = search needs
 
 returns : tie.Need-returns Inv-loop μ-loop
-returns c = search copying
+returns c = search needs
 
 pub copy-spec : {M : Type 1} → statement M
 copy-spec =

@@ -3,7 +3,7 @@ use mathlib.Core.Path.{_≡_}
 use Prim.Native.Nat.{_-_, _≤_, min}
 use lib.ListN.{length}
 use Rattle.pictures.specs.Changes.{differingOf}
-use Rattle.pictures.proofs.Changing.{changing}
+use Rattle.pictures.proofs.Changing.{changing as needs}
 use Rattle.pictures.proofs.planes.differing.Statement.{statement}
 use Rattle.pictures.proofs.planes.differing.Tie as tie
 
@@ -14,43 +14,43 @@ abbrev μ-loop : tie.MeasureT-loop
 μ-loop a b n stop count₀ k₀ count k = stop - k
 
 least-requires : tie.Need-least-requires Inv-loop μ-loop
-least-requires c κs = search changing
+least-requires c κs = search needs
 
 least-requires-2 : tie.Need-least-requires-2 Inv-loop μ-loop
-least-requires-2 c κs = search changing
+least-requires-2 c κs = search needs
 
 loop-holds : tie.Need-loop-holds Inv-loop μ-loop
-loop-holds c = search changing
+loop-holds c = search needs
 
 mul-differs : tie.Need-mul-differs Inv-loop μ-loop
-mul-differs c = search changing
+mul-differs c = search needs
 
 shared-slice-read-differs : tie.Need-shared-slice-read-differs Inv-loop μ-loop
-shared-slice-read-differs c = search changing
+shared-slice-read-differs c = search needs
 
 mul-differs-2 : tie.Need-mul-differs-2 Inv-loop μ-loop
-mul-differs-2 c = search changing
+mul-differs-2 c = search needs
 
 shared-slice-read-differs-2 : tie.Need-shared-slice-read-differs-2 Inv-loop μ-loop
-shared-slice-read-differs-2 c = search changing
+shared-slice-read-differs-2 c = search needs
 
 differs-requires : tie.Need-differs-requires Inv-loop μ-loop
-differs-requires c κs = search changing
+differs-requires c κs = search needs
 
 add-count : tie.Need-add-count Inv-loop μ-loop
-add-count c = search changing
+add-count c = search needs
 
 add-k : tie.Need-add-k Inv-loop μ-loop
-add-k c = search changing
+add-k c = search needs
 
 loop-less : tie.Need-loop-less Inv-loop μ-loop
-loop-less c = search changing
+loop-less c = search needs
 
 loop-again : tie.Need-loop-again Inv-loop μ-loop
-loop-again c = search changing
+loop-again c = search needs
 
 returns : tie.Need-returns Inv-loop μ-loop
-returns c = search changing
+returns c = search needs
 
 pub differing-spec : {M : Type 1} → statement M
 differing-spec =

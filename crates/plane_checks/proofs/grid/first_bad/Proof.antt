@@ -6,7 +6,7 @@ use Rattle.rules.specs.declared.refusals.Found.the-variants.{Nothing}
 use Rattle.rules.specs.Plane.{keeping, cellGood}
 use Rattle.rules.specs.Refusals.{first, foundUnless}
 use Rattle.plane_checks.specs.Fit.{badOf}
-use Rattle.plane_checks.proofs.Marks.{finds}
+use Rattle.plane_checks.proofs.Marks.{finds as needs}
 use Rattle.plane_checks.proofs.grid.first_bad.Statement.{statement}
 use Rattle.plane_checks.proofs.grid.first_bad.Tie as tie
 
@@ -17,27 +17,27 @@ abbrev μ-loop : tie.MeasureT-loop
 μ-loop vedge hedge sqw sqh keep count k₀ k = count - k
 
 loop-holds : tie.Need-loop-holds Inv-loop μ-loop
-loop-holds c = search finds
+loop-holds c = search needs
 
 cell-good-requires : tie.Need-cell-good-requires Inv-loop μ-loop
-cell-good-requires c κs = search finds
+cell-good-requires c κs = search needs
 
 returns : tie.Need-returns Inv-loop μ-loop
 unfolding badOf
-returns c = search finds
+returns c = search needs
 
 add-k : tie.Need-add-k Inv-loop μ-loop
-add-k c = search finds
+add-k c = search needs
 
 loop-less : tie.Need-loop-less Inv-loop μ-loop
-loop-less c = search finds
+loop-less c = search needs
 
 loop-again : tie.Need-loop-again Inv-loop μ-loop
-loop-again c = search finds
+loop-again c = search needs
 
 returns-2 : tie.Need-returns-2 Inv-loop μ-loop
 unfolding badOf
-returns-2 c = search finds
+returns-2 c = search needs
 
 pub first-bad-spec : {M : Type 1} → statement M
 first-bad-spec =

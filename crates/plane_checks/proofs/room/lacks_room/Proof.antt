@@ -1,28 +1,28 @@
 -- `lacks_room` meets its contract. Assumes nothing.
-use Rattle.plane_checks.proofs.Reach.{rooms}
+use Rattle.plane_checks.proofs.Reach.{rooms as needs}
 use Rattle.plane_checks.proofs.room.lacks_room.Statement.{statement}
 use Rattle.plane_checks.proofs.room.lacks_room.Tie as tie
 
 is-edge-requires : tie.Need-is-edge-requires
-is-edge-requires c κs = search rooms
+is-edge-requires c κs = search needs
 
 returns : tie.Need-returns
-returns c = search rooms
+returns c = search needs
 
 shortened-at-requires : tie.Need-shortened-at-requires
-shortened-at-requires c κs = search rooms
+shortened-at-requires c κs = search needs
 
 edge-room-requires : tie.Need-edge-room-requires
-edge-room-requires c κs = search rooms
+edge-room-requires c κs = search needs
 
 returns-2 : tie.Need-returns-2
-returns-2 c = search rooms
+returns-2 c = search needs
 
 cell-of-requires : tie.Need-cell-of-requires
-cell-of-requires c κs = search rooms
+cell-of-requires c κs = search needs
 
 returns-3 : tie.Need-returns-3
-returns-3 c = search rooms
+returns-3 c = search needs
 
 pub lacks-room-spec : {M : Type 1} → statement M
 lacks-room-spec =

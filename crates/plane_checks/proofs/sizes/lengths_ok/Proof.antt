@@ -2,22 +2,22 @@
 use Rattle.laws.specs.Choose.{tests, all-bad, all-ok, all-last}
 use mathlib.Core.Path.{refl}
 use Rattle.rules.specs.Plane.{planeLengthsOk}
-use Rattle.plane_checks.proofs.Accepted.{sizing}
+use Rattle.plane_checks.proofs.Accepted.{sizing as needs}
 use Rattle.plane_checks.proofs.sizes.lengths_ok.Statement.{statement}
 use Rattle.plane_checks.proofs.sizes.lengths_ok.Tie as tie
 
 mul-if1 : tie.Need-mul-if1
-mul-if1 c = search sizing
+mul-if1 c = search needs
 
 mul-if1-2 : tie.Need-mul-if1-2
-mul-if1-2 c = search sizing
+mul-if1-2 c = search needs
 
 returns : tie.Need-returns
 unfolding planeLengthsOk
 returns c = λ ts. all-bad _ _ (search tests)
 
 mul-cells : tie.Need-mul-cells
-mul-cells c = search sizing
+mul-cells c = search needs
 
 returns-2 : tie.Need-returns-2
 unfolding planeLengthsOk

@@ -3,7 +3,7 @@ use mathlib.Core.Path.{_≡_}
 use Prim.Native.Nat.{_+_, _-_, _≤_}
 use lib.ListN.{length, set}
 use Rattle.laws.specs.Loops.{turns}
-use Rattle.tiles.proofs.Turns.{loops}
+use Rattle.tiles.proofs.Turns.{loops as needs}
 use Rattle.rectangle.specs.Cut.{rowSet}
 use Rattle.rectangle.proofs.cut.set_row.Statement.{statement}
 use Rattle.rectangle.proofs.cut.set_row.Tie as tie
@@ -15,29 +15,29 @@ abbrev μ-loop : tie.MeasureT-loop
 μ-loop keep₀ at n j₀ keep j = n - j
 
 loop-holds : tie.Need-loop-holds Inv-loop μ-loop
-loop-holds c = search loops
+loop-holds c = search needs
 
 add-keep : tie.Need-add-keep Inv-loop μ-loop
-add-keep c = search loops
+add-keep c = search needs
 
 slice-write-keep : tie.Need-slice-write-keep Inv-loop μ-loop
-slice-write-keep c = search loops
+slice-write-keep c = search needs
 
 add-j : tie.Need-add-j Inv-loop μ-loop
-add-j c = search loops
+add-j c = search needs
 
 loop-less : tie.Need-loop-less Inv-loop μ-loop
-loop-less c = search loops
+loop-less c = search needs
 
 loop-again : tie.Need-loop-again Inv-loop μ-loop
-loop-again c = search loops
+loop-again c = search needs
 
 same-length : tie.Need-same-length Inv-loop μ-loop
-same-length c = search loops
+same-length c = search needs
 
 returns : tie.Need-returns Inv-loop μ-loop
 unfolding rowSet
-returns c = search loops
+returns c = search needs
 
 pub set-row-spec : {M : Type 1} → statement M
 set-row-spec =

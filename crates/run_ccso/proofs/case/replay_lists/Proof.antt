@@ -16,8 +16,8 @@ slice-aggregate-read-offsets c = search needs
 read-offsets-requires : tie.Need-read-offsets-requires
 read-offsets-requires c κs = search needs
 
-read-told-requires : tie.Need-read-told-requires
-read-told-requires c κs = search needs
+read-answer-requires : tie.Need-read-answer-requires
+read-answer-requires c κs = search needs
 
 unread-requires : tie.Need-unread-requires
 unread-requires c κs = search needs
@@ -57,7 +57,7 @@ replay-lists-spec =
     read-u8s-requires
     slice-aggregate-read-offsets
     read-offsets-requires
-    read-told-requires
+    read-answer-requires
     unread-requires
     returns
     array-share-prefix-flags

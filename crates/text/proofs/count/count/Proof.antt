@@ -2,7 +2,7 @@
 use mathlib.Core.Path.{_≡_}
 use Prim.Native.Nat.{_-_, _≤_}
 use lib.ListN.{length}
-use Rattle.text.proofs.Counting.{sofar, counting}
+use Rattle.text.proofs.Counting.{sofar, counting as needs}
 use Rattle.text.proofs.count.count.Statement.{statement}
 use Rattle.text.proofs.count.count.Tie as tie
 
@@ -13,31 +13,31 @@ abbrev μ-loop : tie.MeasureT-loop
 μ-loop text from end n words₀ k₀ words k = n - k
 
 sub-n : tie.Need-sub-n Inv-loop μ-loop
-sub-n c = search counting
+sub-n c = search needs
 
 loop-holds : tie.Need-loop-holds Inv-loop μ-loop
-loop-holds c = search counting
+loop-holds c = search needs
 
 add-is-last : tie.Need-add-is-last Inv-loop μ-loop
-add-is-last c = search counting
+add-is-last c = search needs
 
 is-last-requires : tie.Need-is-last-requires Inv-loop μ-loop
-is-last-requires c κs = search counting
+is-last-requires c κs = search needs
 
 add-words : tie.Need-add-words Inv-loop μ-loop
-add-words c = search counting
+add-words c = search needs
 
 add-k : tie.Need-add-k Inv-loop μ-loop
-add-k c = search counting
+add-k c = search needs
 
 loop-less : tie.Need-loop-less Inv-loop μ-loop
-loop-less c = search counting
+loop-less c = search needs
 
 loop-again : tie.Need-loop-again Inv-loop μ-loop
-loop-again c = search counting
+loop-again c = search needs
 
 returns : tie.Need-returns Inv-loop μ-loop
-returns c = search counting
+returns c = search needs
 
 pub count-spec : {M : Type 1} → statement M
 count-spec =

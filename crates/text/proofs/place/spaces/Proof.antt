@@ -1,5 +1,5 @@
 -- `spaces` walks to the first place that its test names. Assumes nothing.
-use Rattle.text.proofs.Seeking.{seeking}
+use Rattle.text.proofs.Seeking.{seeking as needs}
 use Rattle.text.specs.Places.{seek, inkAt}
 use Prim.Native.Nat.{_+_, _-_, _*_, _≤_, _<_}
 use mathlib.Core.Path.{_≡_}
@@ -14,28 +14,28 @@ abbrev μ-loop : tie.MeasureT-loop
 μ-loop text from end at₀ at = end - at
 
 loop-holds : tie.Need-loop-holds Inv-loop μ-loop
-loop-holds c = search seeking
+loop-holds c = search needs
 
 shared-slice-read-blank : tie.Need-shared-slice-read-blank Inv-loop μ-loop
-shared-slice-read-blank c = search seeking
+shared-slice-read-blank c = search needs
 
 blank-requires : tie.Need-blank-requires Inv-loop μ-loop
-blank-requires c κs = search seeking
+blank-requires c κs = search needs
 
 returns : tie.Need-returns Inv-loop μ-loop
-returns c = search seeking
+returns c = search needs
 
 add-at : tie.Need-add-at Inv-loop μ-loop
-add-at c = search seeking
+add-at c = search needs
 
 loop-less : tie.Need-loop-less Inv-loop μ-loop
-loop-less c = search seeking
+loop-less c = search needs
 
 loop-again : tie.Need-loop-again Inv-loop μ-loop
-loop-again c = search seeking
+loop-again c = search needs
 
 returns-2 : tie.Need-returns-2 Inv-loop μ-loop
-returns-2 c = search seeking
+returns-2 c = search needs
 
 pub spaces-spec : {M : Type 1} → statement M
 spaces-spec =

@@ -14,5 +14,5 @@ returns : tie.Need-returns
 unfolding answeredAt
 returns c = cc
 
-pub read-told-spec : {M : Type 1} → statement M
-read-told-spec = tie.close (tie.spec read-unsigned-requires read-unsigned-requires-2 returns)
+pub read-answer-spec : {M : Type 1} → statement M
+read-answer-spec = tie.close (tie.spec read-unsigned-requires read-unsigned-requires-2 returns)

@@ -4,8 +4,8 @@ use Rattle.text.specs.Typed.{countedAt}
 use Rattle.text.proofs.typed.read_counted.Statement.{statement}
 use Rattle.text.proofs.typed.read_counted.Tie as tie
 
-read-told-requires : tie.Need-read-told-requires
-read-told-requires c κs = search needs
+read-answer-requires : tie.Need-read-answer-requires
+read-answer-requires c κs = search needs
 
 read-unsigned-requires : tie.Need-read-unsigned-requires
 read-unsigned-requires c κs = search needs
@@ -18,4 +18,4 @@ unfolding countedAt
 returns c = cc
 
 pub read-counted-spec : {M : Type 1} → statement M
-read-counted-spec = tie.close (tie.spec read-told-requires read-unsigned-requires read-unsigned-requires-2 returns)
+read-counted-spec = tie.close (tie.spec read-answer-requires read-unsigned-requires read-unsigned-requires-2 returns)

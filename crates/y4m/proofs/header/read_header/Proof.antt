@@ -1,40 +1,40 @@
 -- `read_header` is put together from what its callees read. Assumes nothing.
-use Rattle.y4m.proofs.Heading.{heading}
+use Rattle.y4m.proofs.Heading.{heading as needs}
 use Rattle.y4m.proofs.header.read_header.Statement.{statement}
 use Rattle.y4m.proofs.header.read_header.Tie as tie
 
 sub-last : tie.Need-sub-last
-sub-last c = search heading
+sub-last c = search needs
 
 tag-requires : tie.Need-tag-requires
-tag-requires c κs = search heading
+tag-requires c κs = search needs
 
 tag-requires-2 : tie.Need-tag-requires-2
-tag-requires-2 c κs = search heading
+tag-requires-2 c κs = search needs
 
 tag-requires-3 : tie.Need-tag-requires-3
-tag-requires-3 c κs = search heading
+tag-requires-3 c κs = search needs
 
 format-requires : tie.Need-format-requires
-format-requires c κs = search heading
+format-requires c κs = search needs
 
 is-opening-requires : tie.Need-is-opening-requires
-is-opening-requires c κs = search heading
+is-opening-requires c κs = search needs
 
 add-size : tie.Need-add-size
-add-size c = search heading
+add-size c = search needs
 
 size-requires : tie.Need-size-requires
-size-requires c κs = search heading
+size-requires c κs = search needs
 
 add-size-2 : tie.Need-add-size-2
-add-size-2 c = search heading
+add-size-2 c = search needs
 
 size-requires-2 : tie.Need-size-requires-2
-size-requires-2 c κs = search heading
+size-requires-2 c κs = search needs
 
 returns : tie.Need-returns
-returns c = search heading
+returns c = search needs
 
 pub read-header-spec : {M : Type 1} → statement M
 read-header-spec =

@@ -1,5 +1,5 @@
 -- `tag` walks to the first such letter. Assumes nothing.
-use Rattle.y4m.proofs.Heading.{tagging}
+use Rattle.y4m.proofs.Heading.{tagging as needs}
 use Rattle.text.specs.Places.{seek}
 use Rattle.y4m.specs.Headers.{tagAt}
 use Prim.Native.Nat.{_+_, _-_, _*_, _≤_, _<_}
@@ -15,25 +15,25 @@ abbrev μ-loop : tie.MeasureT-loop
 μ-loop text last letter at₀ at = last - at
 
 loop-holds : tie.Need-loop-holds Inv-loop μ-loop
-loop-holds c = search tagging
+loop-holds c = search needs
 
 is-tag-requires : tie.Need-is-tag-requires Inv-loop μ-loop
-is-tag-requires c κs = search tagging
+is-tag-requires c κs = search needs
 
 returns : tie.Need-returns Inv-loop μ-loop
-returns c = search tagging
+returns c = search needs
 
 add-at : tie.Need-add-at Inv-loop μ-loop
-add-at c = search tagging
+add-at c = search needs
 
 loop-less : tie.Need-loop-less Inv-loop μ-loop
-loop-less c = search tagging
+loop-less c = search needs
 
 loop-again : tie.Need-loop-again Inv-loop μ-loop
-loop-again c = search tagging
+loop-again c = search needs
 
 returns-2 : tie.Need-returns-2 Inv-loop μ-loop
-returns-2 c = search tagging
+returns-2 c = search needs
 
 pub tag-spec : {M : Type 1} → statement M
 tag-spec =

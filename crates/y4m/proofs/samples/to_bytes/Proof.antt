@@ -1,5 +1,5 @@
 -- `to_bytes` fills the bytes place by place. Assumes nothing.
-use Rattle.y4m.proofs.Filling.{filling}
+use Rattle.y4m.proofs.Filling.{filling as needs}
 use Rattle.laws.specs.Loops.{filled}
 use Rattle.y4m.specs.Rows.{byteOf}
 use Prim.Native.Nat.{_+_, _-_, _*_, _≤_, _<_}
@@ -15,28 +15,28 @@ abbrev μ-loop : tie.MeasureT-loop
 μ-loop row bytes₀ wide n i₀ bytes i = n - i
 
 loop-holds : tie.Need-loop-holds Inv-loop μ-loop
-loop-holds c = search filling
+loop-holds c = search needs
 
 byte-requires : tie.Need-byte-requires Inv-loop μ-loop
-byte-requires c κs = search filling
+byte-requires c κs = search needs
 
 slice-write-bytes : tie.Need-slice-write-bytes Inv-loop μ-loop
-slice-write-bytes c = search filling
+slice-write-bytes c = search needs
 
 add-i : tie.Need-add-i Inv-loop μ-loop
-add-i c = search filling
+add-i c = search needs
 
 loop-less : tie.Need-loop-less Inv-loop μ-loop
-loop-less c = search filling
+loop-less c = search needs
 
 loop-again : tie.Need-loop-again Inv-loop μ-loop
-loop-again c = search filling
+loop-again c = search needs
 
 same-length : tie.Need-same-length Inv-loop μ-loop
-same-length c = search filling
+same-length c = search needs
 
 returns : tie.Need-returns Inv-loop μ-loop
-returns c = search filling
+returns c = search needs
 
 pub to-bytes-spec : {M : Type 1} → statement M
 to-bytes-spec =

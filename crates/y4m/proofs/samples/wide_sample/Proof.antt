@@ -1,28 +1,28 @@
 -- `wide_sample` is what its row says. Assumes nothing.
-use Rattle.y4m.proofs.Filling.{filling}
+use Rattle.y4m.proofs.Filling.{filling as needs}
 use Rattle.y4m.proofs.samples.wide_sample.Statement.{statement}
 use Rattle.y4m.proofs.samples.wide_sample.Tie as tie
 
 mul-byte-at : tie.Need-mul-byte-at
-mul-byte-at c = search filling
+mul-byte-at c = search needs
 
 byte-at-requires : tie.Need-byte-at-requires
-byte-at-requires c κs = search filling
+byte-at-requires c κs = search needs
 
 mul-byte-at-2 : tie.Need-mul-byte-at-2
-mul-byte-at-2 c = search filling
+mul-byte-at-2 c = search needs
 
 add-byte-at : tie.Need-add-byte-at
-add-byte-at c = search filling
+add-byte-at c = search needs
 
 byte-at-requires-2 : tie.Need-byte-at-requires-2
-byte-at-requires-2 c κs = search filling
+byte-at-requires-2 c κs = search needs
 
 two-requires : tie.Need-two-requires
-two-requires c κs = search filling
+two-requires c κs = search needs
 
 returns : tie.Need-returns
-returns c = search filling
+returns c = search needs
 
 pub wide-sample-spec : {M : Type 1} → statement M
 wide-sample-spec =
