@@ -2,8 +2,8 @@
 use rules::refusals::Answer;
 use rules::refusals::Refusal;
 use rules::settings::Frame;
-use thresholds::checks::delta_ok;
-use tiles::checks::cap_ok;
+use thresholds::tests::delta_ok;
+use tiles::tests::cap_ok;
 ghost use mathlib.Core.Path.{_≡_};
 ghost use mathlib.Core.List.{[], _∷_};
 ghost use Rattle.laws.specs.Choose.{all};

@@ -10,7 +10,7 @@ use rules::lent::FrameLengths;
 use rules::refusals::Answer;
 use rules::refusals::Refusal;
 use rules::settings::Frame;
-use thresholds::checks::steps_check;
+use thresholds::tests::steps_check;
 ghost use mathlib.Core.Path.{_≡_};
 ghost use mathlib.Core.List.{List};
 ghost use Prim.Native.Nat.{ℕ};

@@ -9,7 +9,7 @@ use rules::refusals::Answer;
 use rules::refusals::Refusal;
 use rules::settings::Frame;
 use rules::settings::Plane;
-use tiles::checks::fours;
+use tiles::tests::fours;
 ghost use mathlib.Core.Path.{_≡_};
 ghost use mathlib.Core.List.{[], _∷_};
 ghost use Prim.Native.Nat.{_*_};

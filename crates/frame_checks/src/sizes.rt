@@ -5,7 +5,7 @@ use checks::in_range;
 use rules::refusals::Answer;
 use rules::refusals::Refusal;
 use rules::settings::Frame;
-use tiles::checks::subsampling_ok;
+use tiles::tests::subsampling_ok;
 ghost use mathlib.Core.Path.{_≡_};
 ghost use mathlib.Core.List.{[], _∷_};
 ghost use Rattle.laws.specs.Choose.{all};

@@ -17,11 +17,11 @@ use rules::refusals::Answer;
 use rules::refusals::Found;
 use rules::refusals::Refusal;
 use rules::settings::TuGrid;
-use tiles::checks::cap_ok;
-use tiles::checks::cells_ok;
-use tiles::checks::lists_ok;
-use tiles::checks::subsampling_ok;
 use tiles::leaf::bad_leaf;
+use tiles::tests::cap_ok;
+use tiles::tests::cells_ok;
+use tiles::tests::lists_ok;
+use tiles::tests::subsampling_ok;
 
 // The grid of settings and leaves that the checks have passed.
 pub fn tx_grid(

@@ -9,7 +9,7 @@ use grid::tx_grid::sizes_ok;
 use rules::refusals::Answer;
 use rules::refusals::Refusal;
 use rules::settings::TuGrid;
-use tiles::checks::lists_long;
+use tiles::tests::lists_long;
 
 pub fn refused(a: Answer) -> bool
     ensures { λ r. ⌜ r ≡ refusedOf a ⌝ }

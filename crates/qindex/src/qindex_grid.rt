@@ -14,9 +14,9 @@ use laws::least;
 use rules::refusals::Answer;
 use rules::refusals::Refusal;
 use rules::settings::QindexGrid;
-use tiles::checks::cells_ok;
-use tiles::checks::subsampling_ok;
-use tiles::checks::superblocks_ok;
+use tiles::tests::cells_ok;
+use tiles::tests::subsampling_ok;
+use tiles::tests::superblocks_ok;
 
 // A cell's number shifted left by a subsampling.
 fn luma(ss: usize, n: usize) -> usize

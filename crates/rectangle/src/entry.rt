@@ -8,7 +8,7 @@ use rules::refusals::Answer;
 use rules::refusals::Found;
 use rules::refusals::Refusal;
 use rules::settings::Keep;
-use tiles::checks::cells_ok;
+use tiles::tests::cells_ok;
 
 // The first refusal, or none.
 fn keep_check(keep: &[u8], s: Keep) -> Answer

@@ -15,8 +15,8 @@ use rules::settings::Frame;
 use settings::lines::line_with;
 use settings::lines::lines_of;
 use streams::job::Job;
-use thresholds::checks::delta_ok;
-use tiles::checks::cap_ok;
+use thresholds::tests::delta_ok;
+use tiles::tests::cap_ok;
 
 // The frame that the header and the settings describe.
 pub fn frame_by(j: Job, numbers: &[i32]) -> Frame

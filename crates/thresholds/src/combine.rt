@@ -1,8 +1,8 @@
 // The thresholds of an edge, from those of its two blocks: the public entry, and what it is made of.
-use crate::checks::thresholds_check;
 use crate::index::index;
 use crate::side::df_side_from_qindex;
 use crate::steps::df_quant_from_qindex;
+use crate::tests::thresholds_check;
 use rules::depth::Depth;
 use rules::refusals::Answer;
 use rules::refusals::Thresholds;

@@ -13,7 +13,7 @@ pub mod side;
 pub mod steps;
 
 // The checks: depth, step table, deltas.
-pub mod checks;
+pub mod tests;
 
 // Two blocks' thresholds, and the entry.
 pub mod combine;

@@ -7,4 +7,4 @@ pub mod leaf;
 pub mod tile;
 
 // Sizes, lengths and caps in range.
-pub mod checks;
+pub mod tests;

@@ -2,8 +2,8 @@
 use borrow.Author.Tests.{ne-eqb}
 use Rattle.laws.specs.Choose.{either}
 use Rattle.rules.specs.TuGrid.{capOk}
-use Rattle.tiles.proofs.checks.cap_ok.Statement.{statement}
-use Rattle.tiles.proofs.checks.cap_ok.Tie as tie
+use Rattle.tiles.proofs.tests.cap_ok.Statement.{statement}
+use Rattle.tiles.proofs.tests.cap_ok.Tie as tie
 
 returns : tie.Need-returns
 unfolding capOk either

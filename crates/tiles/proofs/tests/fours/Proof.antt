@@ -1,8 +1,8 @@
 -- `fours` is the rule's test. Assumes nothing.
 use borrow.Author.Needs.{needs}
 use Rattle.rules.specs.TuGrid.{foursOk}
-use Rattle.tiles.proofs.checks.fours.Statement.{statement}
-use Rattle.tiles.proofs.checks.fours.Tie as tie
+use Rattle.tiles.proofs.tests.fours.Statement.{statement}
+use Rattle.tiles.proofs.tests.fours.Tie as tie
 
 returns : tie.Need-returns
 unfolding foursOk

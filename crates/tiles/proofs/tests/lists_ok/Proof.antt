@@ -1,8 +1,8 @@
 -- `lists_ok` tests the five lists, then both lists of leaves. Assumes nothing.
 use borrow.Author.Needs.{needs}
 use Rattle.laws.specs.Choose.{tests}
-use Rattle.tiles.proofs.checks.lists_ok.Statement.{statement}
-use Rattle.tiles.proofs.checks.lists_ok.Tie as tie
+use Rattle.tiles.proofs.tests.lists_ok.Statement.{statement}
+use Rattle.tiles.proofs.tests.lists_ok.Tie as tie
 
 lists-long-requires : tie.Need-lists-long-requires
 lists-long-requires c κs = search needs

@@ -5,8 +5,8 @@ use Rattle.rules.specs.Numbers.{deltaOk}
 use Rattle.checks.proofs.Checks.{checks}
 use Rattle.rules.specs.Thresholds.{deltasCheck}
 use borrow.Author.Needs.{needs}
-use Rattle.thresholds.proofs.checks.deltas_check.Statement.{statement}
-use Rattle.thresholds.proofs.checks.deltas_check.Tie as tie
+use Rattle.thresholds.proofs.tests.deltas_check.Statement.{statement}
+use Rattle.thresholds.proofs.tests.deltas_check.Tie as tie
 
 -- the two tests, of the deltas themselves
 first : (c : tie.After-delta-ok) → c .delta-ok .result ≡ deltaOk (c .before .args .deltaq)

@@ -4,8 +4,8 @@ use mir.Facts.{toZ-ofZ}
 use Rattle.checks.proofs.Checks.{checks}
 use Rattle.rules.specs.Thresholds.{thresholdsCheck, deltasCheck}
 use borrow.Author.Needs.{needs}
-use Rattle.thresholds.proofs.checks.thresholds_check.Statement.{statement}
-use Rattle.thresholds.proofs.checks.thresholds_check.Tie as tie
+use Rattle.thresholds.proofs.tests.thresholds_check.Statement.{statement}
+use Rattle.thresholds.proofs.tests.thresholds_check.Tie as tie
 
 -- the last check's answer, of the deltas themselves
 deltas : (c : tie.After-deltas-check) → c .deltas-check .result ≡ deltasCheck (c .before .before .before .before .before .before .before .args .deltaq) (c .before .before .before .before .before .before .before .args .deltaside)

@@ -1,8 +1,8 @@
 -- `subsampling_ok` makes both tests. Assumes nothing.
 use Rattle.laws.specs.Choose.{tests}
 use Rattle.rules.specs.Numbers.{subsamplingOk}
-use Rattle.tiles.proofs.checks.subsampling_ok.Statement.{statement}
-use Rattle.tiles.proofs.checks.subsampling_ok.Tie as tie
+use Rattle.tiles.proofs.tests.subsampling_ok.Statement.{statement}
+use Rattle.tiles.proofs.tests.subsampling_ok.Tie as tie
 
 returns : tie.Need-returns
 unfolding subsamplingOk

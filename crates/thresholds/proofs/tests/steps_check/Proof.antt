@@ -3,8 +3,8 @@ use Rattle.checks.proofs.Checks.{checks}
 use Rattle.rules.specs.Thresholds.{stepsCheck}
 use Rattle.thresholds.proofs.Accepted.{steps-bad}
 use borrow.Author.Needs.{needs}
-use Rattle.thresholds.proofs.checks.steps_check.Statement.{statement}
-use Rattle.thresholds.proofs.checks.steps_check.Tie as tie
+use Rattle.thresholds.proofs.tests.steps_check.Statement.{statement}
+use Rattle.thresholds.proofs.tests.steps_check.Tie as tie
 
 bad-step-requires : tie.Need-bad-step-requires
 bad-step-requires c κs = search needs

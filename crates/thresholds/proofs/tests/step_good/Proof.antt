@@ -2,8 +2,8 @@
 use Rattle.laws.specs.Choose.{tests}
 use Rattle.rules.specs.Thresholds.{stepGood}
 use borrow.Author.Needs.{needs}
-use Rattle.thresholds.proofs.checks.step_good.Statement.{statement}
-use Rattle.thresholds.proofs.checks.step_good.Tie as tie
+use Rattle.thresholds.proofs.tests.step_good.Statement.{statement}
+use Rattle.thresholds.proofs.tests.step_good.Tie as tie
 
 mul-a : tie.Need-mul-a
 mul-a c = search needs

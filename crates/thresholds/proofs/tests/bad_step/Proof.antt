@@ -7,8 +7,8 @@ use Rattle.checks.proofs.First.{firsts}
 use Rattle.rules.specs.declared.refusals.Found.the-variants.{Nothing}
 use Rattle.rules.specs.Refusals.{first, foundUnless}
 use Rattle.rules.specs.Thresholds.{stepGood, badStep}
-use Rattle.thresholds.proofs.checks.bad_step.Statement.{statement}
-use Rattle.thresholds.proofs.checks.bad_step.Tie as tie
+use Rattle.thresholds.proofs.tests.bad_step.Statement.{statement}
+use Rattle.thresholds.proofs.tests.bad_step.Tie as tie
 
 ruleset scans = (tests, firsts)
 

@@ -2,8 +2,8 @@
 use borrow.Author.Needs.{needs}
 use Rattle.laws.specs.Choose.{tests}
 use Rattle.rules.specs.TuGrid.{cellsOk}
-use Rattle.tiles.proofs.checks.cells_ok.Statement.{statement}
-use Rattle.tiles.proofs.checks.cells_ok.Tie as tie
+use Rattle.tiles.proofs.tests.cells_ok.Statement.{statement}
+use Rattle.tiles.proofs.tests.cells_ok.Tie as tie
 
 in-range-requires : tie.Need-in-range-requires
 in-range-requires c κs = search needs

@@ -7,8 +7,8 @@ use mir.Facts.{toZ-ofZ}
 use Rattle.laws.specs.Whole.{Is, over, under, self, count}
 use Rattle.laws.specs.Order.{lt-yes, lt-no}
 use Rattle.thresholds.proofs.Indices.{too-low, too-high, in-range}
-use Rattle.thresholds.proofs.checks.delta_ok.Statement.{statement}
-use Rattle.thresholds.proofs.checks.delta_ok.Tie as tie
+use Rattle.thresholds.proofs.tests.delta_ok.Statement.{statement}
+use Rattle.thresholds.proofs.tests.delta_ok.Tie as tie
 
 delta-is : (c : tie.Start) → Is (toZ w32 (ofZ w32 (c .args .delta))) (over (c .args .delta)) (under (c .args .delta))
 delta-is c = rw (toZ-ofZ (c .fits .delta)) (self (c .args .delta))
