@@ -1,6 +1,6 @@
 // A whole frame, by its settings as a list of numbers.
-use super::listed::frame_of;
-use super::listed::list_check;
+use super::settings::frame_of;
+use super::settings::list_check;
 use frame::frame::deblock_frame;
 use rules::refusals::Answer;
 use rules::refusals::PlaneAnswer;

@@ -1,6 +1,6 @@
 // Document 02, ticket 7: refusal 6 of a frame's keep marks, luma's and then, where chroma is filtered, chroma's.
-use super::planes::kind_on;
-use super::planes::plane_of;
+use super::parts::kind_on;
+use super::parts::plane_of;
 use checks::bad_keep;
 use rules::refusals::Answer;
 use rules::refusals::Found;

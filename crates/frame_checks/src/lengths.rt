@@ -1,8 +1,8 @@
 // Document 01, refusal 3 of a frame: every list that it uses is long enough, and leaf lists have four numbers a leaf.
 // Lengths travel by value, so that the checks take none of the lists that are written.
-use super::planes::blocks;
-use super::planes::chroma_on;
-use super::planes::plane_of;
+use super::parts::blocks;
+use super::parts::chroma_on;
+use super::parts::plane_of;
 use rules::lent::FrameLengths;
 use rules::lent::GridLengths;
 use rules::refusals::Answer;

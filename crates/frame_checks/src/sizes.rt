@@ -1,6 +1,6 @@
 // Document 01, refusal 2 of a frame: its size, subsampling and strides, luma before chroma.
-use super::planes::chroma_on;
-use super::planes::plane_of;
+use super::parts::chroma_on;
+use super::parts::plane_of;
 use checks::in_range;
 use rules::refusals::Answer;
 use rules::refusals::Refusal;

@@ -1,6 +1,6 @@
 // Document 02, ticket 5: refusal 5 of a frame's lists of tile starts, luma's and then, where chroma is filtered, chroma's.
-use super::planes::kind_on;
-use super::planes::plane_of;
+use super::parts::kind_on;
+use super::parts::plane_of;
 use plane_checks::starts::tiles_check;
 use rules::refusals::Answer;
 use rules::settings::Frame;
