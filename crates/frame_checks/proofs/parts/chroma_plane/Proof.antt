@@ -9,23 +9,23 @@ use Rattle.frame_checks.proofs.parts.chroma_plane.Tie as tie
 half-requires : tie.Need-half-requires
 half-requires c κs = search needs
 
-eights-requires : tie.Need-eights-requires
-eights-requires c κs = search needs
+up-to-eight-requires : tie.Need-up-to-eight-requires
+up-to-eight-requires c κs = search needs
 
 half-requires-2 : tie.Need-half-requires-2
 half-requires-2 c κs = search needs
 
-eights-requires-2 : tie.Need-eights-requires-2
-eights-requires-2 c κs = search needs
+up-to-eight-requires-2 : tie.Need-up-to-eight-requires-2
+up-to-eight-requires-2 c κs = search needs
 
-eights-requires-3 : tie.Need-eights-requires-3
-eights-requires-3 c κs = search needs
+up-to-eight-requires-3 : tie.Need-up-to-eight-requires-3
+up-to-eight-requires-3 c κs = search needs
 
 lower-requires : tie.Need-lower-requires
 lower-requires c κs = search needs
 
-eights-requires-4 : tie.Need-eights-requires-4
-eights-requires-4 c κs = search needs
+up-to-eight-requires-4 : tie.Need-up-to-eight-requires-4
+up-to-eight-requires-4 c κs = search needs
 
 lower-requires-2 : tie.Need-lower-requires-2
 lower-requires-2 c κs = search needs
@@ -48,7 +48,7 @@ returns c =
     _
     _
     (toZ-ofZ {w = w32} {z = c .before .before .before .before .before .before .before .before .before .before .before .args .f .deltauv} (record { sfits = c .struct-told .given .1 .1 .1 .1 .1 .1 .1 .1 .0 .1 }))
-    (eighths-by _ _ _ (c .before .before .before .before .before .before .before .before .before .before .half .ensures .0) (c .before .before .before .before .before .before .before .before .before .eights .ensures))
+    (eighths-by _ _ _ (c .before .before .before .before .before .before .before .before .before .before .half .ensures .0) (c .before .before .before .before .before .before .before .before .before .up-to-eight .ensures))
     (eighths-by _ _ _ (c .before .before .before .before .before .before .before .before .half2 .ensures .0) (c .before .before .before .before .before .before .before .eights2 .ensures))
     (down-by _ _ _ _ (c .before .before .before .before .before .before .eights3 .ensures) (c .before .before .before .before .before .lower .ensures))
     (down-by _ _ _ _ (c .before .before .before .before .eights4 .ensures) (c .before .before .before .lower2 .ensures))
@@ -60,12 +60,12 @@ chroma-plane-spec =
     tie.close
     (tie.spec
     half-requires
-    eights-requires
+    up-to-eight-requires
     half-requires-2
-    eights-requires-2
-    eights-requires-3
+    up-to-eight-requires-2
+    up-to-eight-requires-3
     lower-requires
-    eights-requires-4
+    up-to-eight-requires-4
     lower-requires-2
     lower-requires-3
     lower-requires-4

@@ -1,4 +1,4 @@
--- `eights` rounds up to 8. Assumes nothing.
+-- `up_to_eight` rounds up to 8. Assumes nothing.
 use Rattle.rules.specs.Frame.{upToEight}
 use borrow.Author.Needs.{needs}
 use Rattle.frame_checks.proofs.parts.up_to_eight.Statement.{statement}
@@ -14,5 +14,5 @@ returns : tie.Need-returns
 unfolding upToEight
 returns c = search needs
 
-pub eights-spec : {M : Type 1} → statement M
-eights-spec = tie.close (tie.spec add-result mul-result returns)
+pub up-to-eight-spec : {M : Type 1} → statement M
+up-to-eight-spec = tie.close (tie.spec add-result mul-result returns)
