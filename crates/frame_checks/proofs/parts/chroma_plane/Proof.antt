@@ -49,9 +49,9 @@ returns c =
     _
     (toZ-ofZ {w = w32} {z = c .before .before .before .before .before .before .before .before .before .before .before .args .f .deltauv} (record { sfits = c .struct-told .given .1 .1 .1 .1 .1 .1 .1 .1 .0 .1 }))
     (eighths-by _ _ _ (c .before .before .before .before .before .before .before .before .before .before .half .ensures .0) (c .before .before .before .before .before .before .before .before .before .up-to-eight .ensures))
-    (eighths-by _ _ _ (c .before .before .before .before .before .before .before .before .half2 .ensures .0) (c .before .before .before .before .before .before .before .eights2 .ensures))
-    (down-by _ _ _ _ (c .before .before .before .before .before .before .eights3 .ensures) (c .before .before .before .before .before .lower .ensures))
-    (down-by _ _ _ _ (c .before .before .before .before .eights4 .ensures) (c .before .before .before .lower2 .ensures))
+    (eighths-by _ _ _ (c .before .before .before .before .before .before .before .before .half2 .ensures .0) (c .before .before .before .before .before .before .before .up-to-eight2 .ensures))
+    (down-by _ _ _ _ (c .before .before .before .before .before .before .up-to-eight3 .ensures) (c .before .before .before .before .before .lower .ensures))
+    (down-by _ _ _ _ (c .before .before .before .before .up-to-eight4 .ensures) (c .before .before .before .lower2 .ensures))
     (c .before .before .lower3 .ensures)
     (c .before .lower4 .ensures)
 
