@@ -30,7 +30,7 @@ use Rattle.plane.specs.declared.visited.Visited.{Visited}
 use Rattle.plane.specs.Checked.{Checked}
 use Rattle.plane.proofs.Accepting.{settled, checked-samples}
 use Rattle.cell_edges.specs.Cells.{Sizes}
-use Rattle.rows.specs.Ran.{RanBand}
+use Rattle.bands.specs.Ran.{RanBand}
 use Rattle.rows.specs.Stated.{Stated}
 
 -- ---- good counts

@@ -1,7 +1,7 @@
-// What the counts of filled rows say: whether they are good, in how many rows of cells the horizontal edges are done, and how many rows are final.
+// What the counts of filled rows say: whether they are good, and how many rows are final.
 ghost use mathlib.Core.Path.{_≡_};
 ghost use Prim.Native.Nat.{_≤_};
-ghost use Rattle.rules.specs.Rows.{ready, finalOf, countOk, countsOk};
+ghost use Rattle.rules.specs.Rows.{finalOf, countOk, countsOk};
 
 // Whether so many rows of samples are in the plane and are whole rows of cells.
 fn count_ok(rows: usize, n: usize) -> bool
@@ -26,19 +26,6 @@ pub fn counts_ok(rows: usize, held: usize, filled: usize) -> bool
         return false;
     }
     held <= filled
-}
-
-// In how many rows of cells the horizontal edges are done when a rows of cells are filled: all but the last at most, since an edge reaches eight rows down.
-pub fn ready_rows(rows: usize, a: usize) -> usize
-    ensures { λ r. ⌜ r ≡ ready rows a ⌝ }
-{
-    if rows <= a {
-        return rows;
-    }
-    if a == 0 {
-        return 0;
-    }
-    a - 1
 }
 
 // How many rows of samples are final when so many are filled: all at full height, and else all but the last twelve.

@@ -1,7 +1,7 @@
 // Ticket 8's entry: a call's checks, its edges, and the state for the next call.
-use crate::band::run_band;
 use crate::check::rows_check;
 use crate::counts::final_rows;
+use bands::run_band;
 use rules::refusals::Answer;
 use rules::refusals::Refusal;
 use rules::refusals::number;

@@ -6,10 +6,7 @@ mod counts;
 // The checks of a call.
 mod check;
 
-// The edges of a call.
-mod band;
-
-// The entry.
+// The entry: the checks, and the edges of the band that is filled now.
 mod entry;
 
 pub use entry::deblock_rows;

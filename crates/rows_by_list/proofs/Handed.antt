@@ -24,7 +24,7 @@ use Rattle.rules.specs.Plane.{Grid}
 use Rattle.rules.specs.Rows.{finalOf, rowsCheck, rowsFinal, spentBy, stateAfter, rowsState}
 use Rattle.checks.proofs.Checks.{stop, stop-by, go-on, go-on-by, unless-bad, unless-good, unless-true, else-parts, settle-refused, settle-accepted}
 use Rattle.rows.specs.Stated.{Stated}
-use Rattle.rows.proofs.Bands.{final-in}
+use Rattle.rows.proofs.Final.{final-in}
 use Rattle.rows.proofs.Calls.{passed}
 use Rattle.answers.specs.Told.{listed, tallied, Counted}
 use Rattle.answers.proofs.Numbers.{counted-on}

@@ -29,7 +29,8 @@ use Rattle.plane.specs.Checked.{Checked}
 use Rattle.plane.proofs.Everywhere.{both-clear, sweep-inside}
 use Rattle.orders.proofs.Plain.{Stands, visit-stands}
 use Rattle.orders.proofs.Bands.{ready-full, ready-part, vert-below, horz-below}
-use Rattle.rows.proofs.Bands.{ready-goes, final-full, final-part}
+use Rattle.bands.proofs.Bands.{ready-goes}
+use Rattle.rows.proofs.Final.{final-full, final-part}
 use Rattle.rows_promises.specs.Calls.{SameRows}
 use Rattle.rows_promises.proofs.Agree.{Within}
 

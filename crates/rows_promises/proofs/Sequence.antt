@@ -34,7 +34,7 @@ use Rattle.plane.proofs.Accepting.{plane-parts, checked}
 use Rattle.plane.proofs.Samples.{run-length}
 use Rattle.orders.specs.Walks.{bandsOf}
 use Rattle.orders.proofs.Bands.{Fills, calls-run, calls-stored, calls-changed, final-stays}
-use Rattle.rows.proofs.Bands.{final-part}
+use Rattle.rows.proofs.Final.{final-part}
 use Rattle.rows.proofs.Calls.{Counts}
 use Rattle.rows_promises.specs.Calls.{SameRows, Calls, AllAccepted, heldAt, Sends}
 use Rattle.rows_promises.proofs.Agree.{Within, run-agree, stored-agree, changed-agree, run-outside}

@@ -1,7 +1,7 @@
 -- `deblock_plane_plain` meets its contract. Assumes nothing.
 use borrow.Author.Needs.{needs}
-use Rattle.plane.proofs.Accepting.{stated-refused, checked-by}
-use Rattle.plain.proofs.Plain.{stated-plain}
+use Rattle.plane.proofs.Accepting.{stated-refused}
+use Rattle.plain.proofs.Plain.{whole-asks, stated-plain}
 use Rattle.plain.proofs.engine.deblock_plane_plain.Statement.{statement}
 use Rattle.plain.proofs.engine.deblock_plane_plain.Tie as tie
 
@@ -20,14 +20,14 @@ returns c = stated-refused _ _ _ _ (c .before .before .before .plane-check .ensu
 enum-told : tie.Need-enum-told
 enum-told c = search needs
 
-run-plain-requires : tie.Need-run-plain-requires
-run-plain-requires c κs = checked-by _ _ _ _ (c .before .before .before .plane-check .ensures) (search needs)
+run-band-requires : tie.Need-run-band-requires
+run-band-requires c κs = whole-asks _ _ _ _ (c .before .before .before .plane-check .ensures) (search needs)
 
 same-length-2 : tie.Need-same-length-2
 same-length-2 c = search needs
 
 returns-2 : tie.Need-returns-2
-returns-2 c = stated-plain _ _ _ _ (c .before .before .before .before .before .before .plane-check .ensures) (search needs) (c .before .before .run-plain .ensures)
+returns-2 c = stated-plain _ _ _ _ (c .before .before .before .before .before .before .plane-check .ensures) (search needs) (c .before .before .run-band .ensures)
 
 pub deblock-plane-plain-spec : {M : Type 1} → statement M
 deblock-plane-plain-spec =
@@ -38,6 +38,6 @@ deblock-plane-plain-spec =
     same-length
     returns
     enum-told
-    run-plain-requires
+    run-band-requires
     same-length-2
     returns-2)

@@ -3,7 +3,7 @@ use borrow.Author.Needs.{needs}
 use native.Mathlib.Omega.{arith}
 use Rattle.laws.specs.Choose.{tests}
 use Rattle.rules.specs.Rows.{finalOf}
-use Rattle.rows.proofs.Bands.{final-none}
+use Rattle.rows.proofs.Final.{final-none}
 use Rattle.rows.proofs.counts.final_rows.Statement.{statement}
 use Rattle.rows.proofs.counts.final_rows.Tie as tie
 

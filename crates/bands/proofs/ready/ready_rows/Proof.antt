@@ -3,9 +3,9 @@ use borrow.Author.Needs.{needs}
 use native.Mathlib.Omega.{arith}
 use Rattle.laws.specs.Choose.{tests}
 use Rattle.rules.specs.Rows.{ready}
-use Rattle.rows.proofs.Bands.{ready-none}
-use Rattle.rows.proofs.counts.ready_rows.Statement.{statement}
-use Rattle.rows.proofs.counts.ready_rows.Tie as tie
+use Rattle.bands.proofs.Bands.{ready-none}
+use Rattle.bands.proofs.ready.ready_rows.Statement.{statement}
+use Rattle.bands.proofs.ready.ready_rows.Tie as tie
 
 returns : tie.Need-returns
 unfolding ready

@@ -2,9 +2,9 @@
 use native.Mathlib.Omega.{arith}
 use borrow.Author.Needs.{needs}
 use Rattle.plane.proofs.Runs.{field-same, few-none, few-most, most-none}
-use Rattle.rows.proofs.Bands.{part-in, ready-goes, ran-band}
-use Rattle.rows.proofs.band.both_ways.Statement.{statement}
-use Rattle.rows.proofs.band.both_ways.Tie as tie
+use Rattle.bands.proofs.Bands.{part-in, ready-goes, ran-band}
+use Rattle.bands.proofs.band.both_ways.Statement.{statement}
+use Rattle.bands.proofs.band.both_ways.Tie as tie
 
 ready-rows-requires : tie.Need-ready-rows-requires
 ready-rows-requires c κs = search needs

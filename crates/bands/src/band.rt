@@ -1,5 +1,5 @@
-// The edges of a call: the vertical edges of the newly filled rows of cells, then the horizontal edges that are done now and were not before.
-use crate::counts::ready_rows;
+// The edges of a band: the vertical edges of the newly filled rows of cells, then the horizontal edges that are done now and were not before.
+use crate::ready::ready_rows;
 use checks::asked;
 use plane::Part;
 use plane::Visited;
@@ -14,7 +14,7 @@ ghost use lib.ListN.{length};
 ghost use Rattle.rules.specs.Plane.{keeping};
 ghost use Rattle.plane.specs.Run.{Table, Field};
 ghost use Rattle.plane.specs.Checked.{Checked};
-ghost use Rattle.rows.specs.Ran.{RanBand};
+ghost use Rattle.bands.specs.Ran.{RanBand};
 
 // Both sweeps over a band, where the filled rows of cells grow from h to a; no record is written.
 fn both_ways(

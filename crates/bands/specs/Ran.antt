@@ -1,4 +1,4 @@
--- What the edges of a call tell and leave. Assumes nothing.
+-- What the edges of a band tell and leave. Assumes nothing.
 use mathlib.Core.Path.{_≡_}
 use mathlib.Core.List.{List}
 use Prim.Native.Nat.{ℕ}

@@ -1,14 +1,13 @@
--- The edges of a call: what its two sweeps ask and leave.
+-- The edges of a band: what its two sweeps ask and leave, and that the whole plane's are the plain order.
 -- Assumes nothing.
-use mathlib.Core.Path.{_≡_, refl, sym, _∙_}
-use mathlib.Core.List.{List}
+use mathlib.Core.Path.{_≡_, refl, ap, ap₂, _∙_}
+use mathlib.Core.List.{List, _++_}
 use Prim.Native.Nat.{ℕ, _+_, _*_, _-_, _≤_, _<_}
 use native.Mathlib.Nat.{le-refl}
 use native.Mathlib.Decide.{decLe}
 use native.Mathlib.Omega.{arith}
-use lib.Dec.{leb}
 use lib.ListN.{length, take}
-use Rattle.laws.specs.Choose.{pick, is-le, not-le, pick-yes, pick-no}
+use Rattle.laws.specs.Choose.{pick}
 use Rattle.laws.specs.Lists.{Each, each-append}
 use Rattle.laws.specs.Trace.{run-then}
 use Rattle.rules.specs.declared.edge.Edge.{Edge}
@@ -17,7 +16,7 @@ use Rattle.rules.specs.Numbers.{topOf}
 use Rattle.rules.specs.Segment.{keptIn, runEdges}
 use Rattle.rules.specs.Counts.{storedBy, changedBy}
 use Rattle.rules.specs.Plane.{Grid, keeping, keptBy, marksOf, indicesOf, indexAt, shortenedAt, edgeAt, isEdge, visitOf, sweepOf}
-use Rattle.rules.specs.Rows.{ready, bandOf, finalOf}
+use Rattle.rules.specs.Rows.{ready, bandOf}
 use Rattle.checks.specs.Asked.{Asked}
 use Rattle.segment.specs.Fit.{InPlane}
 use Rattle.segment.proofs.Counts.{stored-then, changed-then}
@@ -28,8 +27,9 @@ use Rattle.plane.specs.Run.{Table, PartOf, none, state, Ran}
 use Rattle.plane.specs.Checked.{Checked}
 use Rattle.plane.proofs.Runs.{stepOf}
 use Rattle.plane.proofs.Everywhere.{both-clear, sweep-inside}
+use Rattle.orders.specs.Walks.{plainOf}
 use Rattle.orders.proofs.Bands.{ready-full, ready-part, ready-up}
-use Rattle.rows.specs.Ran.{RanBand}
+use Rattle.bands.specs.Ran.{RanBand}
 
 -- ---- the parts, and the counts
 
@@ -37,27 +37,14 @@ use Rattle.rows.specs.Ran.{RanBand}
 pub part-in : (s : Plane) (row rows : ℕ) → row + rows ≤ s .rows → PartOf s (record { row = row; rows = rows; col = 0; cols = s .cols })
 part-in s row rows h = record { rows-in = h; cols-in = omega arith }
 
-module _ (rows a : ℕ) where
-  pub ready-none : a < rows → a ≡ 0 → 0 ≡ ready rows a
-  ready-none h e = omega (arith, ready-part rows a h)
+pub ready-none : (rows a : ℕ) → a < rows → a ≡ 0 → 0 ≡ ready rows a
+ready-none rows a h e = omega (arith, ready-part rows a h)
 
-  -- all rows at full height, and else all but the last twelve
-  pub final-full : 4 * rows ≤ a → finalOf rows a ≡ 4 * rows
-  unfolding finalOf
-  final-full h = sym (pick-yes (leb (4 * rows) a) (4 * rows) (a - 12) _ (is-le (4 * rows) a h) refl)
-
-  pub final-part : a < 4 * rows → finalOf rows a ≡ a - 12
-  unfolding finalOf
-  final-part h = sym (pick-no (leb (4 * rows) a) (4 * rows) (a - 12) _ (not-le (4 * rows) a h) refl)
-
-  pub final-none : a < 4 * rows → a < 12 → 0 ≡ finalOf rows a
-  final-none h k = omega (arith, final-part h)
-
-  pub final-in : finalOf rows a ≤ 4 * rows
-  final-in = elim (decLe (4 * rows) a) [
-    | yes h ↦ omega (arith, final-full h)
-    | no h ↦ omega (arith, final-part (omega arith))
-  ]
+ready-zero : (rows : ℕ) → ready rows 0 ≡ 0
+ready-zero rows = elim (decLe rows 0) [
+  | yes h ↦ omega (arith, ready-full rows 0 h)
+  | no h ↦ omega (arith, ready-part rows 0 (omega arith))
+]
 
 -- the horizontal edges that are done grow with the rows that are filled, and are never more than the plane has
 pub ready-goes : {rows h a from upto : ℕ} → h ≤ a → a ≤ rows → from ≡ ready rows h → upto ≡ ready rows a → (from ≤ upto) × (upto ≤ rows)
@@ -66,7 +53,20 @@ ready-goes {rows} {h} {a} up most f u = (
   omega (arith, u, ready-up rows a rows most (le-refl rows), ready-full rows rows (le-refl rows)),
 )
 
--- every edge of a call has room
+-- ---- the edges
+
+-- of all rows: the plain order
+pub whole-band : (s : Plane) (steps : List ℕ) (g : Grid) → bandOf s steps g 0 (s .rows) ≡ plainOf s steps g
+unfolding bandOf plainOf
+whole-band s steps g =
+    let none = ready-zero (s .rows) in
+    let all : ready (s .rows) (s .rows) - ready (s .rows) 0 ≡ s .rows = omega (arith, none, ready-full (s .rows) (s .rows) (le-refl (s .rows))) in
+    let rows : s .rows - 0 ≡ s .rows = omega arith in
+    ap₂ (λ (x y : List Edge). x ++ y)
+    (ap (λ (n : ℕ). sweepOf s steps g 0 0 n 0 (s .cols)) rows)
+    (ap₂ (λ (m n : ℕ). sweepOf s steps g 1 m n 0 (s .cols)) none all)
+
+-- every edge of a band has room
 pub band-inside : (s : Plane) (steps : List ℕ) (g : Grid) (size : ℕ) → Checked s steps g size → (h a : ℕ) → h ≤ a → a ≤ s .rows
     → Each (λ e. InPlane (s .stride) (4 * s .cols) (4 * s .rows) e size) (bandOf s steps g h a)
 unfolding bandOf

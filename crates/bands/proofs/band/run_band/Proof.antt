@@ -5,9 +5,9 @@ use borrow.Author.Needs.{needs}
 use Rattle.laws.specs.Lists.{front}
 use Rattle.plane_checks.proofs.Accepted.{cells-fit}
 use Rattle.plane.proofs.Accepting.{lengths, of-table, field-vert, field-horz}
-use Rattle.rows.proofs.Bands.{band-asked}
-use Rattle.rows.proofs.band.run_band.Statement.{statement}
-use Rattle.rows.proofs.band.run_band.Tie as tie
+use Rattle.bands.proofs.Bands.{band-asked}
+use Rattle.bands.proofs.band.run_band.Statement.{statement}
+use Rattle.bands.proofs.band.run_band.Tie as tie
 
 thresholds-by-qindex-requires : tie.Need-thresholds-by-qindex-requires
 thresholds-by-qindex-requires c κs = search needs
