@@ -4,7 +4,6 @@ use mathlib.Core.Path.{_≡_, refl, sym, ap, _∙_}
 use mathlib.Core.Bool.{Bool, true, false, not}
 use mathlib.Core.List.{List}
 use Prim.Native.Nat.{ℕ, _+_, _*_, _/_, _≤_, _<_}
-use native.Mathlib.Nat.{mul-le-mul}
 use native.Mathlib.Omega.{arith}
 use borrow.Author.Needs.{needs}
 use borrow.Author.Tests.{leb-true, not-true, not-false}
@@ -27,7 +26,7 @@ use Rattle.rules.specs.Ccso.{targetWidth, targetHeight, ccsoSizesOk, ccsoLength
 use Rattle.checks.proofs.First.{firsts, found-unless, found-unless-not}
 use Rattle.checks.proofs.Checks.{stop, go-on, found-bad-by, found-good-by}
 use Rattle.ccso.specs.Checks.{samplesCheck}
-use Rattle.ccso_sample.proofs.Places.{halved-most}
+use Rattle.rounding.proofs.Within.{samples-fit, superblocks-fit}
 
 -- ---- sizes in range
 
@@ -57,41 +56,22 @@ sizable s e =
       ssy-most = omega (arith, leb-true (s .ssx) 1 (t .0), leb-true (s .ssy) (s .ssx) (t .1));
     }
 
+-- what `superblocks` asks, each way
+pub wide-ok : (s : Ccso) → ccsoSizesOk s ≡ true → s .width ≤ 4096
+wide-ok s e = sizable s e .width-most
+
+pub high-ok : (s : Ccso) → ccsoSizesOk s ≡ true → s .height ≤ 4096
+high-ok s e = sizable s e .height-most
+
 -- what `halved` asks, each way
 pub across-ok : (s : Ccso) → ccsoSizesOk s ≡ true → (s .ssx ≤ 1) × (s .width ≤ 4096)
-across-ok s e = (sizable s e .ssx-most, sizable s e .width-most)
+across-ok s e = (sizable s e .ssx-most, wide-ok s e)
 
 pub down-ok : (s : Ccso) → ccsoSizesOk s ≡ true → (s .ssy ≤ 1) × (s .height ≤ 4096)
-down-ok s e = (sizable s e .ssy-most, sizable s e .height-most)
+down-ok s e = (sizable s e .ssy-most, high-ok s e)
 
--- the products of the lengths fit
-module _ {s : Ccso} (z : Sizable s) where
-  pub across-fits : Fits w64 (s .width + 63)
-  across-fits = record { fits = omega (arith, z .width-most) }
-
-  pub down-fits : Fits w64 (s .height + 63)
-  down-fits = record { fits = omega (arith, z .height-most) }
-
-  pub area-fits : Fits w64 (s .height * s .width)
-  area-fits = record { fits = omega (arith, mul-le-mul (z .height-most) (z .width-most)) }
-
-  pub target-fits : (a b : ℕ) → a ≡ halved (s .ssy) (s .height) → b ≡ halved (s .ssx) (s .width) → Fits w64 (a * b)
-  target-fits a b e f = record { fits = omega (arith, mul-le-mul high wide) }
-    where
-      high : a ≤ 4096
-      high = omega (arith, halved-most (s .ssy) (s .height) (z .ssy-most) (z .some-height), z .height-most)
-
-      wide : b ≤ 4096
-      wide = omega (arith, halved-most (s .ssx) (s .width) (z .ssx-most) (z .some-width), z .width-most)
-
-  pub flags-fit : Fits w64 ((s .height + 63) / 64 * ((s .width + 63) / 64))
-  flags-fit = record { fits = omega (arith, mul-le-mul high wide) }
-    where
-      high : (s .height + 63) / 64 ≤ 64
-      high = omega (arith, z .height-most)
-
-      wide : (s .width + 63) / 64 ≤ 64
-      wide = omega (arith, z .width-most)
+pub area-fits : (s : Ccso) → ccsoSizesOk s ≡ true → Fits w64 (s .height * s .width)
+area-fits s e = samples-fit (high-ok s e) (wide-ok s e)
 
 -- ---- lengths
 
@@ -100,29 +80,30 @@ module _ (s : Ccso) (luma target flags offsets : ℕ) where
   unfolding ccsoLengthsOk
   short-luma h = all-bad _ _ (not-le _ _ h)
 
-  pub short-flags : flags < (s .height + 63) / 64 * ((s .width + 63) / 64) → false ≡ ccsoLengthsOk s luma target flags offsets
-  unfolding ccsoLengthsOk superblocks
-  short-flags h = all-later _ _ (all-later _ _ (all-bad _ _ (not-le _ _ h)))
+  module _ (p q : ℕ) (g : p ≡ superblocks (s .height)) (k : q ≡ superblocks (s .width)) where
+    pub short-flags : flags < p * q → false ≡ ccsoLengthsOk s luma target flags offsets
+    unfolding ccsoLengthsOk
+    short-flags h = all-later _ _ (all-later _ _ (all-bad _ _ (not-le _ _ (rw (g, k) at h))))
 
   module _ (a b : ℕ) (e : a ≡ halved (s .ssy) (s .height)) (f : b ≡ halved (s .ssx) (s .width)) where
     pub short-target : target < a * b → false ≡ ccsoLengthsOk s luma target flags offsets
     unfolding ccsoLengthsOk targetHeight targetWidth
     short-target h = all-later _ _ (all-bad _ _ (not-le _ _ (rw (e, f) at h)))
 
-    module _ (h : s .height * s .width ≤ luma) (t : a * b ≤ target) (l : (s .height + 63) / 64 * ((s .width + 63) / 64) ≤ flags) where
+    module _ (p q : ℕ) (g : p ≡ superblocks (s .height)) (k : q ≡ superblocks (s .width)) (h : s .height * s .width ≤ luma) (t : a * b ≤ target) (l : p * q ≤ flags) where
       pub no-band : 3 < s .bandlog → true ≡ ccsoLengthsOk s luma target flags offsets
-      unfolding ccsoLengthsOk targetHeight targetWidth superblocks bandOk
+      unfolding ccsoLengthsOk targetHeight targetWidth bandOk
       no-band n =
           all-ok _ _ _ (is-le _ _ h)
           (all-ok _ _ _ (is-le _ _ (rw (e, f) at t))
-          (all-ok _ _ _ (is-le _ _ l) (all-last _ _ (pick-no _ _ _ _ (not-le _ _ n) refl))))
+          (all-ok _ _ _ (is-le _ _ (rw (g, k) at l)) (all-last _ _ (pick-no _ _ _ _ (not-le _ _ n) refl))))
 
       pub counted : s .bandlog ≤ 3 → (n : ℕ) → n ≡ offsetCount s → leb n offsets ≡ ccsoLengthsOk s luma target flags offsets
-      unfolding ccsoLengthsOk targetHeight targetWidth superblocks bandOk
-      counted b n g =
+      unfolding ccsoLengthsOk targetHeight targetWidth bandOk
+      counted b n o =
           all-ok _ _ _ (is-le _ _ h)
           (all-ok _ _ _ (is-le _ _ (rw (e, f) at t))
-          (all-ok _ _ _ (is-le _ _ l) (all-last _ _ (pick-yes _ _ _ _ (is-le _ _ b) (ap (λ (k : ℕ). leb k offsets) g)))))
+          (all-ok _ _ _ (is-le _ _ (rw (g, k) at l)) (all-last _ _ (pick-yes _ _ _ _ (is-le _ _ b) (ap (λ (i : ℕ). leb i offsets) o)))))
 
 -- ---- offsets
 
@@ -163,6 +144,6 @@ pub target-long : (s : Ccso) (a b n : ℕ) → a ≡ halved (s .ssy) (s .height)
 unfolding targetHeight targetWidth
 target-long s a b n e f h = rw (e, f) (omega arith)
 
-pub ruleset samples = (needs, sizable, across-ok, down-ok, target-fits, target-long, luma-over, target-over, none-over)
+pub ruleset samples = (needs, sizable, across-ok, down-ok, area-fits, samples-fit, target-long, luma-over, target-over, none-over)
 
-pub ruleset lengths = (needs, sizable, across-ok, down-ok, across-fits, down-fits, area-fits, target-fits, flags-fit, short-luma, short-flags, short-target, no-band, counted)
+pub ruleset lengths = (needs, sizable, wide-ok, high-ok, across-ok, down-ok, area-fits, samples-fit, superblocks-fit, short-luma, short-flags, short-target, no-band, counted)

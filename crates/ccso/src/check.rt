@@ -5,13 +5,14 @@ ghost use Prim.Native.Nat.{_≤_, _*_};
 ghost use lib.IntN.{pos, negℤ};
 ghost use lib.Signed.{leZ};
 ghost use lib.ListN.{length};
-ghost use Rattle.rules.specs.Frame as Frame;
 ghost use Rattle.rules.specs.Numbers.{depthOk, inRange, inRangeZ};
 ghost use Rattle.rules.specs.Ccso.{targetWidth, targetHeight, ccsoSizesOk, ccsoLengthsOk, ccsoSettingsOk, offsetOk, offsetCount, ccsoCheck};
 ghost use Rattle.rules.specs.Refusals.{first, foundUnless};
 ghost use Rattle.ccso.specs.Checks.{cutsOk, classesOk, tapsOk, samplesCheck};
 use checks::row;
 use laws::split;
+use rounding::halved;
+use rounding::superblocks;
 use rules::depth::Depth;
 use rules::refusals::Answer;
 use rules::refusals::Found;
@@ -130,7 +131,7 @@ fn lengths_ok(s: Ccso, luma: usize, target: usize, flags: usize, offsets: usize)
     if target < halved(s.ssy, s.height) * halved(s.ssx, s.width) {
         return false;
     }
-    if flags < (s.height + 63) / 64 * ((s.width + 63) / 64) {
+    if flags < superblocks(s.height) * superblocks(s.width) {
         return false;
     }
     if 3 < s.bandlog {
@@ -151,14 +152,6 @@ fn count_of(s: Ccso) -> usize
         2 => 64,
         _ => 128,
     }
-}
-
-// A size shifted by a subsampling, rounded up.
-fn halved(ss: usize, n: usize) -> usize
-    requires { ⌜ (ss ≤ 1) × (n ≤ 4096) ⌝ }
-    ensures { λ r. ⌜ r ≡ Frame.halved ss n ⌝ }
-{
-    if ss == 0 { n } else { (n + 1) / 2 }
 }
 
 // The first of count offsets that is not in -10..7.

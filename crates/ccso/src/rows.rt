@@ -134,7 +134,7 @@ pub fn run(luma: &[u16], target: &mut [u16], flags: &[u8], offsets: &[i8], s: Cc
     ensures { λ _. ⌜ now (target .exit) ≡ ccsoOf s (now (luma .entry)) (now (flags .entry)) (now (offsets .entry)) (now (target .entry)) ⌝ }
 {
     let k = counts_of(s);
-    let z = sizes_of(s, k);
+    let z = sizes_of(s);
     let rows = z.height;
     for y in 0..rows {
         row(luma, target, flags, offsets, s, k, z, y);

@@ -4,7 +4,6 @@ use mathlib.Core.Path.{_≡_}
 use mathlib.Core.List.{List}
 use Prim.Native.Nat.{ℕ, _+_, _-_, _*_, _/_, _^_, _≤_, _<_}
 use native.Mathlib.Nat.{mul-le-mul, mul-le-mul-right, suc-mul}
-use native.Mathlib.Decide.{ℕ-discrete}
 use native.Mathlib.Omega.{arith}
 use borrow.Author.Needs.{needs}
 use mir.Syntax.{w64}
@@ -16,17 +15,11 @@ use Rattle.rules.specs.declared.settings.Ccso.{Ccso}
 use Rattle.rules.specs.Numbers.{down, up}
 use Rattle.rules.specs.Frame.{halved, superblocks}
 use Rattle.rules.specs.Ccso.{targetWidth, targetHeight, lumaAt, centreOf, tapOf, tapClass, offsetPlace, placeAt}
+use Rattle.rounding.proofs.Within.{by-one, half-most}
 use Rattle.ccso_sample.specs.declared.counts.Counts.{Counts}
 use Rattle.ccso_sample.specs.declared.taps.Row.{Row}
 use Rattle.ccso_sample.specs.Ranges.{Ranges, Raised}
 use Rattle.ccso_sample.specs.Lists.{tapRow, RowOf, Lit}
-
--- what holds of a subsampling of 0 and of 1 holds of every one
-pub by-one : (P : ℕ → Type 0) → P 0 → P 1 → (ss : ℕ) → ss ≤ 1 → P ss
-by-one P x y ss h = elim (ℕ-discrete ss 0) [
-  | yes e ↦ rw e x
-  | no n ↦ let e : ss ≡ 1 = omega arith in rw e y
-]
 
 -- a place of the shifted picture, shifted up, lies in the picture
 up-below : (ss size n : ℕ) → ss ≤ 1 → n < halved ss size → n * 2 ^ ss < size
@@ -61,26 +54,14 @@ module _ {s : Ccso} {k : Counts} (u : Raised s k) (x : ℕ) (h : x < targetWidth
   pub column-most : x * k .across ≤ 8192
   column-most = omega (arith, column, u .ranges .width-most)
 
--- luma samples a target sample
-module _ {s : Ccso} {k : Counts} (u : Raised s k) where
-  pub across-some : 0 < k .across
-  across-some = rw (u .across) (by-one (λ n. 0 < 2 ^ n) (omega arith) (omega arith) (s .ssx) (u .ranges .ssx-most))
-
-  pub down-some : 0 < k .down
-  down-some = rw (u .down) (by-one (λ n. 0 < 2 ^ n) (omega arith) (omega arith) (s .ssy) (u .ranges .ssy-most))
-
 -- the target is no larger than luma
-pub halved-most : (ss size : ℕ) → ss ≤ 1 → 1 ≤ size → halved ss size ≤ size
-unfolding halved down
-halved-most ss size h l = by-one (λ k. (size + k) / 2 ^ k ≤ size) (omega arith) (omega arith) ss h
-
 pub width-most : {s : Ccso} → Ranges s → targetWidth s ≤ 4096
 unfolding targetWidth
-width-most {s} a = omega (arith, halved-most (s .ssx) (s .width) (a .ssx-most) (a .some-width))
+width-most {s} a = half-most (s .ssx) (s .width) 4096 (a .ssx-most) (omega arith) (a .width-most)
 
 pub height-most : {s : Ccso} → Ranges s → targetHeight s ≤ 4096
 unfolding targetHeight
-height-most {s} a = omega (arith, halved-most (s .ssy) (s .height) (a .ssy-most) (a .some-height))
+height-most {s} a = half-most (s .ssy) (s .height) 4096 (a .ssy-most) (omega arith) (a .height-most)
 
 -- blocks: some samples wide, and not many across
 pub block-some : (ss : ℕ) → ss ≤ 1 → 0 < down ss 64
@@ -193,9 +174,7 @@ pub block-most : (ss : ℕ) → ss ≤ 1 → down ss 64 ≤ 64
 unfolding down
 block-most ss h = by-one (λ n. 64 / 2 ^ n ≤ 64) (omega arith) (omega arith) ss h
 
--- what closes the needs of the functions that find a row, read luma, and count the target's sizes
+-- what closes the needs of the functions that find a row and read luma
 pub ruleset row-starts = (needs, line-fits, line-most)
 
 pub ruleset reads = (needs, column, column-fits, column-most, centre-below, tap0-below, tap1-below, place-fits)
-
-pub ruleset sizes = (needs, across-some, down-some)

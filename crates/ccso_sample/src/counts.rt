@@ -3,6 +3,9 @@ ghost use mathlib.Core.Path.{_≡_};
 ghost use Prim.Native.Nat.{_≤_, _^_};
 ghost use Rattle.laws.specs.Whole.{Is};
 ghost use Rattle.ccso_sample.specs.Ranges.{SignedWithin, Ranges, Raised, Sized};
+use rounding::halved;
+use rounding::shifted;
+use rounding::superblocks;
 use rules::depth::Depth;
 use rules::settings::Ccso;
 
@@ -62,15 +65,16 @@ pub fn counts_of(s: Ccso) -> Counts
     }
 }
 
-pub fn sizes_of(s: Ccso, k: Counts) -> Sizes
-    requires { ⌜ Raised s k ⌝ }
+// The target's sizes, as a frame's chroma counts them.
+pub fn sizes_of(s: Ccso) -> Sizes
+    requires { ⌜ Ranges s ⌝ }
     ensures { λ z. ⌜ Sized s z ⌝ }
 {
     Sizes {
-        width: (s.width + s.ssx) / k.across,
-        height: (s.height + s.ssy) / k.down,
-        blockw: 64 / k.across,
-        blockh: 64 / k.down,
-        blocks: (s.width + 63) / 64,
+        width: halved(s.ssx, s.width),
+        height: halved(s.ssy, s.height),
+        blockw: shifted(s.ssx, 64),
+        blockh: shifted(s.ssy, 64),
+        blocks: superblocks(s.width),
     }
 }

@@ -27,7 +27,7 @@ use Rattle.tiles.specs.Fit.{AllGood}
 use Rattle.tiles.proofs.Checked.{by-cap, all-good}
 use Rattle.cell_edges.specs.Cells.{Sizes}
 use Rattle.frame_checks.specs.Settings.{Sized, planeOf, tuOf, qOf}
-use Rattle.frame_checks.proofs.Ranges.{superblocks-some, superblocks-most}
+use Rattle.rounding.proofs.Within.{superblocks-some, superblocks-most}
 use Rattle.frame_checks.proofs.Accepted.{frame-sized, luma-sizes, chroma-sizes}
 use Rattle.frame_planes.specs.Fit.{Sampled, Buildable}
 use Rattle.frame.specs.Fit.{Stepped}

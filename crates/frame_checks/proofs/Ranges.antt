@@ -4,14 +4,12 @@ use mathlib.Core.Path.{_≡_, refl, sym, _∙_}
 use mathlib.Core.Bool.{Bool, true, false}
 use Prim.Native.Nat.{ℕ, zero, suc, _+_, _*_, _/_, _^_, _≤_, _<_}
 use native.Mathlib.Omega.{arith}
-use native.Mathlib.Nat.{mul-le-mul}
 use lib.IntN.{ℤ}
-use mir.Val.{Fits}
-use mir.Syntax.{w64}
 use Rattle.rules.specs.declared.settings.Frame.{Frame}
 use Rattle.rules.specs.declared.settings.Plane.{Plane}
 use Rattle.rules.specs.Numbers.{down}
-use Rattle.rules.specs.Frame.{upToEight, halved, superblocks, lumaPlane, chromaPlane}
+use Rattle.rules.specs.Frame.{upToEight, halved, lumaPlane, chromaPlane}
+use Rattle.rounding.proofs.Within.{half-some, half-most}
 use Rattle.frame_checks.specs.Settings.{Sized, planeOf}
 
 -- a property of a shift by 0 and by 1
@@ -29,16 +27,6 @@ pub cells-most : (n : ℕ) → n ≤ 4096 → upToEight n / 4 ≤ 1024
 unfolding upToEight
 cells-most n h = omega arith
 
-pub half-some : (ss n : ℕ) → ss ≤ 1 → 1 ≤ n → 1 ≤ halved ss n
-unfolding halved down
-half-some zero n h a = omega arith
-half-some (suc k) n h a = let e : suc k ≡ 1 = omega arith in rw e (omega arith)
-
-pub half-most : (ss n : ℕ) → ss ≤ 1 → n ≤ 4096 → halved ss n ≤ 4096
-unfolding halved down
-half-most zero n h a = omega arith
-half-most (suc k) n h a = let e : suc k ≡ 1 = omega arith in rw e (omega arith)
-
 -- a plane's cells each way
 pub record Cells (cols rows : ℕ) : Type 0 where
   pub some-cols : 1 ≤ cols
@@ -52,9 +40,9 @@ cells f false z = record { some-cols = cells-some _ (z .some-width); cols-most =
 cells f true z =
     record {
       some-cols = cells-some _ (half-some _ _ (z .ssx-most) (z .some-width));
-      cols-most = cells-most _ (half-most _ _ (z .ssx-most) (z .width-most));
+      cols-most = cells-most _ (half-most _ _ 4096 (z .ssx-most) (omega arith) (z .width-most));
       some-rows = cells-some _ (half-some _ _ (z .ssy-most) (z .some-height));
-      rows-most = cells-most _ (half-most _ _ (z .ssy-most) (z .height-most));
+      rows-most = cells-most _ (half-most _ _ 4096 (z .ssy-most) (omega arith) (z .height-most));
     }
 
 -- superblocks of 8 or 16 cells
@@ -67,19 +55,6 @@ blocks f true z = (
   by-shift (λ n. 8 ≤ n) _ 16 (z .ssy-most) (omega arith) (omega arith),
   by-shift (λ n. n ≤ 16) _ 16 (z .ssy-most) (omega arith) (omega arith),
 )
-
--- at most 64 superblocks of 64 samples, and at least one
-pub superblocks-some : (n : ℕ) → 1 ≤ n → 1 ≤ superblocks n
-unfolding superblocks
-superblocks-some n h = omega arith
-
-pub superblocks-most : (n : ℕ) → n ≤ 4096 → superblocks n ≤ 64
-unfolding superblocks
-superblocks-most n h = omega arith
-
-pub superblocks-fit : (f : Frame) {a b : ℕ} → Sized f → a ≡ superblocks (f .width) → b ≡ superblocks (f .height) → Fits w64 (a * b)
-superblocks-fit f z e g =
-    rw (e, g) (record { fits = omega (arith, mul-le-mul (superblocks-most _ (z .width-most)) (superblocks-most _ (z .height-most))) })
 
 -- ---- a plane's settings from its sizes, as the code makes them
 

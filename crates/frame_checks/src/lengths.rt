@@ -1,6 +1,5 @@
 // Document 01, refusal 3 of a frame: every list that it uses is long enough, and leaf lists have four numbers a leaf.
 // Lengths travel by value, so that the checks take none of the lists that are written.
-use super::parts::blocks;
 use super::parts::chroma_on;
 use super::parts::plane_of;
 use rules::lent::FrameLengths;
@@ -87,7 +86,7 @@ fn count_ok(f: Frame, count: usize) -> bool
     requires { ⌜ Sized f ⌝ }
     ensures { λ r. ⌜ r ≡ leb (superblocks (f .width) * superblocks (f .height)) count ⌝ }
 {
-    blocks(f.width) * blocks(f.height) <= count
+    rounding::superblocks(f.width) * rounding::superblocks(f.height) <= count
 }
 
 // Four numbers a leaf.

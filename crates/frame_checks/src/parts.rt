@@ -1,45 +1,15 @@
 // The settings of a frame's planes and grids, luma's or chroma's, in the words of rules' Frame.
+use rounding::halved;
+use rounding::shifted;
+use rounding::superblocks;
+use rounding::up_to_eight;
 use rules::settings::Frame;
 use rules::settings::Plane;
 use rules::settings::QindexGrid;
 use rules::settings::TuGrid;
 ghost use mathlib.Core.Path.{_≡_};
-ghost use Prim.Native.Nat.{_≤_};
-ghost use Rattle.rules.specs.Numbers.{down};
-ghost use Rattle.rules.specs.Frame.{upToEight, halved, superblocks, lumaPlane, chromaPlane, chromaOn};
+ghost use Rattle.rules.specs.Frame.{lumaPlane, chromaPlane, chromaOn};
 ghost use Rattle.frame_checks.specs.Settings.{Sized, kindOn, planeOf, tuOf, qOf};
-
-// Rounded up to 8.
-fn up_to_eight(n: usize) -> usize
-    requires { ⌜ n ≤ 4096 ⌝ }
-    ensures { λ r. ⌜ r ≡ upToEight n ⌝ }
-{
-    (n + 7) / 8 * 8
-}
-
-// Shifted right by a subsampling.
-fn lower(ss: usize, n: usize) -> usize
-    requires { ⌜ ss ≤ 1 ⌝ }
-    ensures { λ r. ⌜ r ≡ down ss n ⌝ }
-{
-    if ss == 0 { n } else { n / 2 }
-}
-
-// A size halved by a subsampling, rounded up.
-fn half(ss: usize, n: usize) -> usize
-    requires { ⌜ (ss ≤ 1) × (n ≤ 4096) ⌝ }
-    ensures { λ r. ⌜ (r ≡ halved ss n) × (r ≤ 4096) ⌝ }
-{
-    lower(ss, n + ss)
-}
-
-// How many superblocks of 64 samples.
-pub fn blocks(n: usize) -> usize
-    requires { ⌜ n ≤ 4096 ⌝ }
-    ensures { λ r. ⌜ r ≡ superblocks n ⌝ }
-{
-    (n + 63) / 64
-}
 
 fn luma_plane(f: Frame) -> Plane
     requires { ⌜ Sized f ⌝ }
@@ -66,16 +36,16 @@ fn chroma_plane(f: Frame) -> Plane
     requires { ⌜ Sized f ⌝ }
     ensures { λ r. ⌜ r ≡ chromaPlane f ⌝ }
 {
-    let width = up_to_eight(half(f.ssx, f.width));
-    let height = up_to_eight(half(f.ssy, f.height));
+    let width = up_to_eight(halved(f.ssx, f.width));
+    let height = up_to_eight(halved(f.ssy, f.height));
     Plane {
         cols: width / 4,
         rows: height / 4,
         stride: f.chromastride,
-        width: lower(f.ssx, up_to_eight(f.width)),
-        height: lower(f.ssy, up_to_eight(f.height)),
-        sbw: lower(f.ssx, 16),
-        sbh: lower(f.ssy, 16),
+        width: shifted(f.ssx, up_to_eight(f.width)),
+        height: shifted(f.ssy, up_to_eight(f.height)),
+        sbw: shifted(f.ssx, 16),
+        sbh: shifted(f.ssy, 16),
         chroma: true,
         depth: f.depth,
         deltaq: f.deltauv,
@@ -127,7 +97,7 @@ pub fn q_of(f: Frame, chroma: bool) -> QindexGrid
     ensures { λ r. ⌜ r ≡ qOf f chroma ⌝ }
 {
     let s = plane_of(f, chroma);
-    let sbcols = blocks(f.width);
+    let sbcols = superblocks(f.width);
     if chroma {
         return QindexGrid {
             cols: s.cols,

@@ -5,21 +5,22 @@ use Prim.Native.Nat.{ℕ}
 use borrow.Author.Needs.{needs}
 use lib.ListN.{getD, set}
 use Rattle.laws.specs.Choose.{pick, pick-yes, pick-no, is-eq, not-eq}
-use Rattle.pictures.specs.Defaults.{blocksOf, lastRepeated, tiled, tiledEnd, completeShorts, completePlaces}
+use Rattle.rules.specs.Frame.{superblocks}
+use Rattle.pictures.specs.Defaults.{lastRepeated, tiled, tiledEnd, completeShorts, completePlaces}
 
 module _ (width height : ℕ) (places : List ℕ) where
-  pub shorts-tiled : (l : List ℕ) (across down : ℕ) {q r : List ℕ} → getD places 4 0 ≡ 4096 → across ≡ blocksOf width → down ≡ blocksOf height
+  pub shorts-tiled : (l : List ℕ) (across down : ℕ) {q r : List ℕ} → getD places 4 0 ≡ 4096 → across ≡ superblocks width → down ≡ superblocks height
       → q ≡ lastRepeated (getD places 2 0) l → r ≡ tiled across down q → r ≡ completeShorts width height places l
   unfolding completeShorts
   shorts-tiled l across down {q} h a d e g =
       pick-yes _ _ _ _ (is-eq (getD places 4 0) 4096 h)
-      (g ∙ ap₂ (λ (x y : ℕ). tiled x y q) a d ∙ ap (tiled (blocksOf width) (blocksOf height)) e)
+      (g ∙ ap₂ (λ (x y : ℕ). tiled x y q) a d ∙ ap (tiled (superblocks width) (superblocks height)) e)
 
   pub shorts-kept : (l : List ℕ) {q : List ℕ} → (getD places 4 0 ≡ 4096 → ⊥) → q ≡ lastRepeated (getD places 2 0) l → q ≡ completeShorts width height places l
   unfolding completeShorts
   shorts-kept l h e = pick-no _ _ _ _ (not-eq (getD places 4 0) 4096 h) e
 
-  pub places-tiled : (across down n : ℕ) → getD places 4 0 ≡ 4096 → across ≡ blocksOf width → down ≡ blocksOf height → n ≡ tiledEnd across down
+  pub places-tiled : (across down n : ℕ) → getD places 4 0 ≡ 4096 → across ≡ superblocks width → down ≡ superblocks height → n ≡ tiledEnd across down
       → set places 4 n ≡ completePlaces width height places
   unfolding completePlaces
   places-tiled across down n h a d e =

@@ -12,3 +12,4 @@ pub mod Reading
 pub mod Texts
 pub mod Changing
 pub mod Beyond
+pub mod Counted

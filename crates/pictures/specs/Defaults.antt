@@ -2,12 +2,13 @@
 -- Assumes nothing.
 use mathlib.Core.Path.{_≡_}
 use mathlib.Core.List.{List, [], _∷_}
-use Prim.Native.Nat.{ℕ, _+_, _-_, _*_, _/_}
+use Prim.Native.Nat.{ℕ, _+_, _-_, _*_}
 use lib.Dec.{eqb}
 use lib.IntN.{ℤ, pos}
 use lib.ListN.{getD, set, replicate}
 use Rattle.laws.specs.Choose.{pick}
 use Rattle.laws.specs.Loops.{each}
+use Rattle.rules.specs.Frame.{superblocks}
 use Rattle.pictures.specs.Storing.{stored}
 
 -- luma's and chroma's caps of 16 cells each way at 3 to 6, chroma deblocked at 7; deltas and all else 0
@@ -15,10 +16,6 @@ unfoldable pub defaultNumbers : List ℤ
 defaultNumbers = stored (replicate 64 (pos 0)) 3 (pos 16 ∷ pos 16 ∷ pos 16 ∷ pos 16 ∷ pos 1 ∷ [])
 
 -- ---- superblocks of 64 by 64 samples, 16 by 16 cells
-
--- how many cover n samples
-unfoldable pub blocksOf : ℕ → ℕ
-blocksOf n = (n + 63) / 64
 
 -- the last of n qindex entries serves the superblocks after it, up to the 4096th; without one nothing does
 unfoldable pub lastRepeated : ℕ → List ℕ → List ℕ
@@ -47,8 +44,8 @@ tiledEnd across down = 4096 + 4 * across * down
 -- a leaf for every superblock where there is none
 unfoldable pub completeShorts : ℕ → ℕ → List ℕ → List ℕ → List ℕ
 completeShorts width height places l =
-    pick (eqb (getD places 4 0) 4096) (tiled (blocksOf width) (blocksOf height) (lastRepeated (getD places 2 0) l)) (lastRepeated (getD places 2 0) l)
+    pick (eqb (getD places 4 0) 4096) (tiled (superblocks width) (superblocks height) (lastRepeated (getD places 2 0) l)) (lastRepeated (getD places 2 0) l)
 
 unfoldable pub completePlaces : ℕ → ℕ → List ℕ → List ℕ
 completePlaces width height places =
-    pick (eqb (getD places 4 0) 4096) (set places 4 (tiledEnd (blocksOf width) (blocksOf height))) places
+    pick (eqb (getD places 4 0) 4096) (set places 4 (tiledEnd (superblocks width) (superblocks height))) places

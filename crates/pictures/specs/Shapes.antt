@@ -1,25 +1,17 @@
--- The shape of a plane: that of a picture by its subsampling, and one within the largest. Assumes nothing.
-use Prim.Native.Nat.{ℕ, _+_, _*_, _/_, _≤_}
-use lib.Dec.{eqb}
-use Rattle.laws.specs.Choose.{pick}
+-- The shape of a plane: that of a picture by its subsampling, and one within the largest, padded as a frame counts. Assumes nothing.
+use mathlib.Core.Path.{_≡_}
+use Prim.Native.Nat.{ℕ, _≤_}
+use Rattle.rules.specs.Frame.{upToEight, halved}
 use Rattle.pictures.specs.declared.planes.Shape.{Shape}
-
--- rounded up to 8
-unfoldable pub eightsOf : ℕ → ℕ
-eightsOf n = (n + 7) / 8 * 8
-
--- a size by its subsampling: as it is, or its half rounded up
-unfoldable pub halvedOf : ℕ → ℕ → ℕ
-halvedOf n ss = pick (eqb ss 0) n ((n + 1) / 2)
 
 -- a plane's size by the picture's, and the same rounded up to 8
 unfoldable pub shapeOf : ℕ → ℕ → ℕ → ℕ → Shape
 shapeOf width height ssx ssy =
     record {
-      width = halvedOf width ssx;
-      height = halvedOf height ssy;
-      stride = eightsOf (halvedOf width ssx);
-      rows = eightsOf (halvedOf height ssy);
+      width = halved ssx width;
+      height = halved ssy height;
+      stride = upToEight (halved ssx width);
+      rows = upToEight (halved ssy height);
     }
 
 pub record ShapeFits (s : Shape) : Type 0 where
@@ -28,3 +20,5 @@ pub record ShapeFits (s : Shape) : Type 0 where
   pub stride : s .stride ≤ 4096
   pub high : s .height ≤ 4096
   pub rows : s .rows ≤ 4096
+  pub padded : s .stride ≡ upToEight (s .width)
+  pub padded-rows : s .rows ≡ upToEight (s .height)

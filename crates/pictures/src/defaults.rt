@@ -3,7 +3,8 @@ ghost use mathlib.Core.Path.{_≡_};
 ghost use Prim.Native.Nat.{_+_, _≤_, _<_};
 ghost use lib.ListN.{length, set};
 ghost use Rattle.pictures.specs.Storing.{stored};
-ghost use Rattle.pictures.specs.Defaults.{defaultNumbers, blocksOf, lastRepeated, leaf, leafRow, tiled, tiledEnd, completeShorts, completePlaces};
+ghost use Rattle.pictures.specs.Defaults.{defaultNumbers, lastRepeated, leaf, leafRow, tiled, tiledEnd, completeShorts, completePlaces};
+use rounding::superblocks;
 
 // Deltas 0, caps of 16 cells, chroma deblocked.
 pub fn numbers() -> [i32; 64]
@@ -89,14 +90,6 @@ fn tile(shorts: &mut [u16], across: usize, down: usize) -> usize
     at
 }
 
-// Superblocks of 64 samples.
-fn blocks(n: usize) -> usize
-    requires { ⌜ n ≤ 4096 ⌝ }
-    ensures { λ r. ⌜ (r ≤ 64) × (r ≡ blocksOf n) ⌝ }
-{
-    (n + 63) / 64
-}
-
 // What the picture's size decides.
 pub fn complete(shorts: &mut [u16], places: &mut [usize; 24], width: usize, height: usize)
     requires { ⌜ (width ≤ 4096) × (height ≤ 4096) × (24576 ≤ length (now shorts)) ⌝ }
@@ -105,6 +98,6 @@ pub fn complete(shorts: &mut [u16], places: &mut [usize; 24], width: usize, heig
 {
     repeat_last(shorts, places[2]);
     if places[4] == 4096 {
-        places[4] = tile(shorts, blocks(width), blocks(height));
+        places[4] = tile(shorts, superblocks(width), superblocks(height));
     }
 }

@@ -5,10 +5,12 @@ ghost use Prim.Native.Nat.{_+_, _*_, _≤_, min};
 ghost use lib.Dec.{leb};
 ghost use lib.ListN.{length, take, drop};
 ghost use Rattle.pictures.specs.Storing.{stored};
-ghost use Rattle.pictures.specs.Shapes.{ShapeFits, eightsOf, halvedOf, shapeOf};
+ghost use Rattle.pictures.specs.Shapes.{ShapeFits, shapeOf};
 ghost use Rattle.pictures.specs.Changes.{differsOf, differingOf};
 ghost use Rattle.pictures.specs.Rows.{rowBytes, NextRow, rowPut, FilePlane, packed, rowOut};
 use laws::least;
+use rounding::halved;
+use rounding::up_to_eight;
 use y4m::samples::to_bytes;
 use y4m::samples::to_samples;
 
@@ -20,37 +22,19 @@ pub struct Shape {
     pub rows: usize,
 }
 
-// Rounded up to 8.
-fn eights(n: usize) -> usize
-    requires { ⌜ n ≤ 4096 ⌝ }
-    ensures { λ r. ⌜ (n ≤ r) × (r ≤ 4096) ⌝ }
-    ensures { λ r. ⌜ r ≡ eightsOf n ⌝ }
-{
-    (n + 7) / 8 * 8
-}
-
-// A size by its subsampling, rounded up.
-fn halved(n: usize, ss: usize) -> usize
-    requires { ⌜ (1 ≤ n) × (n ≤ 4096) ⌝ }
-    ensures { λ r. ⌜ (1 ≤ r) × (r ≤ 4096) ⌝ }
-    ensures { λ r. ⌜ r ≡ halvedOf n ss ⌝ }
-{
-    if ss == 0 { n } else { (n + 1) / 2 }
-}
-
 // The shape of a plane of a picture, by its subsampling.
 pub fn shape_of(width: usize, height: usize, ssx: usize, ssy: usize) -> Shape
-    requires { ⌜ (1 ≤ width) × (width ≤ 4096) × (1 ≤ height) × (height ≤ 4096) ⌝ }
+    requires { ⌜ (1 ≤ width) × (width ≤ 4096) × (1 ≤ height) × (height ≤ 4096) × (ssx ≤ 1) × (ssy ≤ 1) ⌝ }
     ensures { λ r. ⌜ ShapeFits r ⌝ }
     ensures { λ r. ⌜ r ≡ shapeOf width height ssx ssy ⌝ }
 {
-    let w = halved(width, ssx);
-    let h = halved(height, ssy);
+    let w = halved(ssx, width);
+    let h = halved(ssy, height);
     Shape {
         width: w,
         height: h,
-        stride: eights(w),
-        rows: eights(h),
+        stride: up_to_eight(w),
+        rows: up_to_eight(h),
     }
 }
 

@@ -1,4 +1,4 @@
-// The shapes of a picture's planes by its header, whose sizes are taken as 1 to 4096.
+// The shapes of a picture's planes by its header, whose sizes are taken as 1 to 4096 and whose subsampling as 0 or 1.
 ghost use Prim.Native.Nat.{_≤_};
 ghost use Rattle.pictures.specs.Shapes.{ShapeFits};
 use crate::planes::Shape;
@@ -26,5 +26,10 @@ pub fn chroma_of(h: Header) -> Shape
     ensures { λ r. ⌜ ShapeFits r ⌝ }
 {
     let layout = h.layout;
-    shape_of(side(h.width), side(h.height), layout.ssx, layout.ssy)
+    shape_of(
+        side(h.width),
+        side(h.height),
+        least(layout.ssx, 1),
+        least(layout.ssy, 1),
+    )
 }

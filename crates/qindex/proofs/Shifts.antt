@@ -9,7 +9,7 @@ use native.Mathlib.Omega.{arith}
 use Rattle.rules.specs.declared.settings.QindexGrid.{QindexGrid}
 use Rattle.rules.specs.Numbers.{up}
 use Rattle.rules.specs.QindexGrid.{superblockOf}
-use Rattle.tiles.proofs.Shifts.{is-one}
+use Rattle.rounding.proofs.Shifts.{is-one}
 
 pub up-none : (ss n : ℕ) → ss ≡ 0 → n ≡ up ss n
 unfolding up

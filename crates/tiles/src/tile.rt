@@ -9,23 +9,16 @@ ghost use Rattle.tiles.specs.Fit.{Cut};
 use super::leaf::bare;
 use super::leaf::flag;
 use super::leaf::wide;
+use rounding::shifted;
 use rules::settings::Tile;
 use rules::settings::TuGrid;
-
-// A number shifted right by a subsampling.
-fn shift(ss: usize, n: usize) -> usize
-    requires { ⌜ ss ≤ 1 ⌝ }
-    ensures { λ r. ⌜ r ≡ down ss n ⌝ }
-{
-    if ss == 0 { n } else { n / 2 }
-}
 
 // A leaf's bare size on the plane's cells.
 fn size(ss: usize, n: usize) -> usize
     requires { ⌜ ss ≤ 1 ⌝ }
     ensures { λ r. ⌜ r ≡ max 1 (down ss n) ⌝ }
 {
-    let m = shift(ss, n);
+    let m = shifted(ss, n);
     if m < 1 {
         return 1;
     }
@@ -79,8 +72,8 @@ pub fn tile_of(s: TuGrid, skip: bool, row: u16, col: u16, w: u16, h: u16) -> Til
     let bh = size(s.ssy, fh);
     let whole = is_whole(skip, w, bw, bh);
     Tile {
-        row: shift(s.ssy, wide(row)),
-        col: shift(s.ssx, wide(col)),
+        row: shifted(s.ssy, wide(row)),
+        col: shifted(s.ssx, wide(col)),
         w: bw,
         h: bh,
         tw: tu(whole, bw, s.capw),

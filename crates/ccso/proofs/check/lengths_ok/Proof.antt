@@ -22,11 +22,11 @@ mul-if2 c = search lengths
 returns-2 : tie.Need-returns-2
 returns-2 c = search lengths
 
-add-if3 : tie.Need-add-if3
-add-if3 c = search lengths
+superblocks-requires : tie.Need-superblocks-requires
+superblocks-requires c κs = search lengths
 
-add-if3-2 : tie.Need-add-if3-2
-add-if3-2 c = search lengths
+superblocks-requires-2 : tie.Need-superblocks-requires-2
+superblocks-requires-2 c κs = search lengths
 
 mul-if3 : tie.Need-mul-if3
 mul-if3 c = search lengths
@@ -53,8 +53,8 @@ lengths-ok-spec =
     halved-requires-2
     mul-if2
     returns-2
-    add-if3
-    add-if3-2
+    superblocks-requires
+    superblocks-requires-2
     mul-if3
     returns-3
     returns-4

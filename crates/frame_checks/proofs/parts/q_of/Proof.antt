@@ -7,8 +7,8 @@ use Rattle.frame_checks.proofs.parts.q_of.Tie as tie
 plane-of-requires : tie.Need-plane-of-requires
 plane-of-requires c κs = search needs
 
-blocks-requires : tie.Need-blocks-requires
-blocks-requires c κs = search needs
+superblocks-requires : tie.Need-superblocks-requires
+superblocks-requires c κs = search needs
 
 returns : tie.Need-returns
 unfolding chromaQ
@@ -19,4 +19,4 @@ unfolding lumaQ
 returns-2 c = rw (c .if1 .left) (let e = rw (c .if1 .left) at (c .before .before .plane-of .ensures) in cc)
 
 pub q-of-spec : {M : Type 1} → statement M
-q-of-spec = tie.close (tie.spec plane-of-requires blocks-requires returns returns-2)
+q-of-spec = tie.close (tie.spec plane-of-requires superblocks-requires returns returns-2)

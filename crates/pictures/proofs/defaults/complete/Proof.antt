@@ -13,11 +13,11 @@ repeat-last-requires c κs = search needs
 element-copy-out-if1 : tie.Need-element-copy-out-if1
 element-copy-out-if1 c = search needs
 
-blocks-requires : tie.Need-blocks-requires
-blocks-requires c κs = search needs
+superblocks-requires : tie.Need-superblocks-requires
+superblocks-requires c κs = search needs
 
-blocks-requires-2 : tie.Need-blocks-requires-2
-blocks-requires-2 c κs = search needs
+superblocks-requires-2 : tie.Need-superblocks-requires-2
+superblocks-requires-2 c κs = search needs
 
 tile-requires : tie.Need-tile-requires
 tile-requires c κs = search needs
@@ -44,8 +44,8 @@ complete-spec =
     element-copy-out-repeat-last
     repeat-last-requires
     element-copy-out-if1
-    blocks-requires
-    blocks-requires-2
+    superblocks-requires
+    superblocks-requires-2
     tile-requires
     element-write-places
     same-length

@@ -22,14 +22,14 @@ is-whole-requires c κs = search needs
 wide-requires : tie.Need-wide-requires
 wide-requires c κs = search needs
 
-shift-requires : tie.Need-shift-requires
-shift-requires c κs = search needs
+shifted-requires : tie.Need-shifted-requires
+shifted-requires c κs = search needs
 
 wide-requires-2 : tie.Need-wide-requires-2
 wide-requires-2 c κs = search needs
 
-shift-requires-2 : tie.Need-shift-requires-2
-shift-requires-2 c κs = search needs
+shifted-requires-2 : tie.Need-shifted-requires-2
+shifted-requires-2 c κs = search needs
 
 tu-requires : tie.Need-tu-requires
 tu-requires c κs = search needs
@@ -51,9 +51,9 @@ tile-of-spec =
     size-requires-2
     is-whole-requires
     wide-requires
-    shift-requires
+    shifted-requires
     wide-requires-2
-    shift-requires-2
+    shifted-requires-2
     tu-requires
     tu-requires-2
     returns)

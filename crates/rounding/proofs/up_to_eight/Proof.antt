@@ -1,8 +1,8 @@
 -- `up_to_eight` rounds up to 8. Assumes nothing.
 use Rattle.rules.specs.Frame.{upToEight}
 use borrow.Author.Needs.{needs}
-use Rattle.frame_checks.proofs.parts.up_to_eight.Statement.{statement}
-use Rattle.frame_checks.proofs.parts.up_to_eight.Tie as tie
+use Rattle.rounding.proofs.up_to_eight.Statement.{statement}
+use Rattle.rounding.proofs.up_to_eight.Tie as tie
 
 add-result : tie.Need-add-result
 add-result c = search needs
