@@ -27,6 +27,9 @@ module _ (s : TuGrid) (a : Tile) (dr dc : ℕ) (g : Marks) where
 pub tile-painted : (s : TuGrid) (a b : Tile) (g : Marks) {g' : Marks} → a ≡ b → g' ≡ paintOf s a g → g' ≡ paintOf s b g
 tile-painted s a b g e f = rw e at f
 
-pub grid-built : (s : TuGrid) (ls skips : List ℕ) (g g0 g1 : Marks) {g2 : Marks} → g0 ≡ blankOf (s .rows * s .cols) g → g1 ≡ leavesOf s false ls g0 → g2 ≡ leavesOf s true skips g1 → g2 ≡ txGridOf s ls skips g
+pub lists-painted : (s : TuGrid) (ls skips : List ℕ) (g g1 : Marks) {g2 : Marks} → g1 ≡ leavesOf s false ls g → g2 ≡ leavesOf s true skips g1 → g2 ≡ leavesOf s true skips (leavesOf s false ls g)
+lists-painted s ls skips g g1 e f = rw (← e) f
+
+pub grid-built : (s : TuGrid) (ls skips : List ℕ) (g g0 : Marks) {g2 : Marks} → g0 ≡ blankOf (s .rows * s .cols) g → g2 ≡ leavesOf s true skips (leavesOf s false ls g0) → g2 ≡ txGridOf s ls skips g
 unfolding txGridOf
-grid-built s ls skips g g0 g1 a e f = rw (← a, ← e) f
+grid-built s ls skips g g0 a e = rw (← a) e

@@ -5,6 +5,7 @@ use Prim.Native.Nat.{ℕ, _+_, _*_, _<_}
 use mir.Val.{Fits}
 use mir.Syntax.{w64}
 use native.Mathlib.Omega.{arith}
+use borrow.Author.Needs.{needs}
 use Rattle.rules.specs.declared.settings.TuGrid.{TuGrid}
 use Rattle.tiles.proofs.Places.{place-below, cells-fit, row-fits, cell-fits}
 use Rattle.grid.specs.Fit.{GridFits}
@@ -24,3 +25,5 @@ tx-cells-fit {s} fit = cells-fit (s .rows) (s .cols) (fit .rows-most) (fit .cols
 
 pub fit-same : {s : TuGrid} {v h w t v' h' w' t' : ℕ} → GridFits s v h w t → v' ≡ v → h' ≡ h → w' ≡ w → t' ≡ t → GridFits s v' h' w' t'
 fit-same {s} f a b c d = rw (a, b, c, d) f
+
+pub ruleset fitting = (needs, fit-same)

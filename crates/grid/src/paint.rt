@@ -1,5 +1,6 @@
 // Painting tiles: marks at each TU's first column and row, and its size indices.
 ghost use mathlib.Core.Path.{_≡_};
+ghost use mathlib.Core.Bool.{true, false};
 ghost use Prim.Native.Nat.{_≤_, _<_, _/_, _%_};
 ghost use lib.ListN.{length};
 ghost use Rattle.rules.specs.TuGrid.{marks, log2Of, markOf, storeCell, paintCell, paintRow, paintOf, tileOf, leafOf, leavesOf, clearOf, blankOf};
@@ -176,7 +177,7 @@ fn paint_at(
 }
 
 // The leaves of a list, later ones over earlier ones.
-pub fn leaves(
+fn leaves(
     vedge: &mut [u8],
     hedge: &mut [u8],
     sqw: &mut [u8],
@@ -194,6 +195,26 @@ pub fn leaves(
     for k in 0..n {
         paint_at(vedge, hedge, sqw, sqh, ls, s, skip, k);
     }
+}
+
+// The leaves, and the skip leaves over them.
+pub fn paint_lists(
+    vedge: &mut [u8],
+    hedge: &mut [u8],
+    sqw: &mut [u8],
+    sqh: &mut [u8],
+    ls: &[u16],
+    skips: &[u16],
+    s: TuGrid,
+)
+    requires { ⌜ GridFits s (length (now vedge)) (length (now hedge)) (length (now sqw)) (length (now sqh)) ⌝ }
+    requires { ⌜ Cut s ⌝ }
+    requires { ⌜ AllGood (now ls) ⌝ }
+    requires { ⌜ AllGood (now skips) ⌝ }
+    ensures { λ _. ⌜ marks (now (vedge .exit)) (now (hedge .exit)) (now (sqw .exit)) (now (sqh .exit)) ≡ leavesOf s true (now (skips .entry)) (leavesOf s false (now (ls .entry)) (marks (now (vedge .entry)) (now (hedge .entry)) (now (sqw .entry)) (now (sqh .entry)))) ⌝ }
+{
+    leaves(vedge, hedge, sqw, sqh, ls, s, false);
+    leaves(vedge, hedge, sqw, sqh, skips, s, true);
 }
 
 // The first n entries 0, the others kept.

@@ -2,26 +2,21 @@
 ghost use mathlib.Core.Path.{_≡_};
 ghost use mathlib.Core.Bool.{true, false};
 ghost use lib.ListN.{length};
-ghost use Rattle.laws.specs.Choose.{both};
-ghost use Rattle.rules.specs.Numbers.{subsamplingOk};
 ghost use Rattle.rules.specs.Refusals.{orElse, found};
-ghost use Rattle.rules.specs.TuGrid.{marks, cellsOk, capOk, badLeaf, txGridOf};
+ghost use Rattle.rules.specs.TuGrid.{marks, badLeaf, txGridOf};
 ghost use Rattle.rules.specs.declared.refusals.Refusal.the-variants.{Leaf};
 ghost use Rattle.tiles.specs.Fit.{Cut, AllGood};
-ghost use Rattle.grid.specs.Fit.{GridFits, TxChecked};
+ghost use Rattle.grid.specs.Fit.{GridFits};
 ghost use Rattle.grid.specs.Stated.{Stated};
 use super::paint::blank;
-use super::paint::clear;
-use super::paint::leaves;
+use super::paint::paint_lists;
+use super::start::start;
 use rules::refusals::Answer;
 use rules::refusals::Found;
 use rules::refusals::Refusal;
 use rules::settings::TuGrid;
 use tiles::leaf::bad_leaf;
-use tiles::tests::cap_ok;
-use tiles::tests::cells_ok;
-use tiles::tests::lists_ok;
-use tiles::tests::subsampling_ok;
+use tiles::tests::leaves_fours;
 
 // The grid of settings and leaves that the checks have passed.
 pub fn tx_grid(
@@ -40,26 +35,7 @@ pub fn tx_grid(
     ensures { λ _. ⌜ marks (now (vedge .exit)) (now (hedge .exit)) (now (sqw .exit)) (now (sqh .exit)) ≡ txGridOf s (now (ls .entry)) (now (skips .entry)) (marks (now (vedge .entry)) (now (hedge .entry)) (now (sqw .entry)) (now (sqh .entry))) ⌝ }
 {
     blank(vedge, hedge, sqw, sqh, s.rows * s.cols);
-    leaves(vedge, hedge, sqw, sqh, ls, s, false);
-    leaves(vedge, hedge, sqw, sqh, skips, s, true);
-}
-
-pub fn sizes_ok(s: TuGrid) -> bool
-    ensures { λ r. ⌜ r ≡ both (cellsOk (s .cols) (s .rows)) (subsamplingOk (s .ssx) (s .ssy)) ⌝ }
-{
-    if !cells_ok(s.cols, s.rows) {
-        return false;
-    }
-    subsampling_ok(s.ssx, s.ssy)
-}
-
-pub fn caps_ok(s: TuGrid) -> bool
-    ensures { λ r. ⌜ r ≡ both (capOk (s .capw)) (capOk (s .caph)) ⌝ }
-{
-    if !cap_ok(s.capw) {
-        return false;
-    }
-    cap_ok(s.caph)
+    paint_lists(vedge, hedge, sqw, sqh, ls, skips, s);
 }
 
 // Refusal 9 of the leaves, and then of the skip leaves.
@@ -77,31 +53,6 @@ fn leaves_ok(ls: &[u16], skips: &[u16]) -> Answer
     Answer::Accepted
 }
 
-// The checks, for four lists and keep marks of these lengths.
-fn tx_check(
-    ls: &[u16],
-    skips: &[u16],
-    v: usize,
-    h: usize,
-    w: usize,
-    t: usize,
-    k: usize,
-    s: TuGrid,
-) -> Answer
-    ensures { λ r. ⌜ TxChecked s (now (ls .entry)) (now (skips .entry)) v h w t k r ⌝ }
-{
-    if !sizes_ok(s) {
-        return Answer::Refused(Refusal::Size);
-    }
-    if !lists_ok(s.rows * s.cols, v, h, w, t, k, ls.len(), skips.len()) {
-        return Answer::Refused(Refusal::Length);
-    }
-    if !caps_ok(s) {
-        return Answer::Refused(Refusal::Setting);
-    }
-    leaves_ok(ls, skips)
-}
-
 // The TU grid of any settings and lists, with no cell kept, or why there is none.
 pub fn build_tx_grid(
     ls: &[u16],
@@ -116,20 +67,12 @@ pub fn build_tx_grid(
     ensures { λ r. ⌜ Stated s (now (ls .entry)) (now (skips .entry)) (marks (now (vedge .entry)) (now (hedge .entry)) (now (sqw .entry)) (now (sqh .entry))) (now (keep .entry))
         r (marks (now (vedge .exit)) (now (hedge .exit)) (now (sqw .exit)) (now (sqh .exit))) (now (keep .exit)) ⌝ }
 {
-    let a = tx_check(
-        ls,
-        skips,
-        vedge.len(),
-        hedge.len(),
-        sqw.len(),
-        sqh.len(),
-        keep.len(),
-        s,
-    );
+    let fours = leaves_fours(ls.len(), skips.len());
+    let nine = leaves_ok(ls, skips);
+    let a = start(vedge, hedge, sqw, sqh, keep, s, fours, nine);
     if let Answer::Refused(r) = a {
         return Answer::Refused(r);
     }
-    tx_grid(ls, skips, vedge, hedge, sqw, sqh, s);
-    clear(keep, s.rows * s.cols);
+    paint_lists(vedge, hedge, sqw, sqh, ls, skips, s);
     Answer::Accepted
 }

@@ -5,5 +5,6 @@ pub mod Unique
 pub mod While
 pub mod Again
 pub mod Four
+pub mod Relent
 pub mod Asks
 pub mod Exactly

@@ -1,15 +1,12 @@
-// What comes before the painting: the checks in document 01's order, by what a look through both lists of leaves found, and the lists, keep marks too, that start at 0.
+// What comes before the painting: refusal 9 by what a look through both lists of leaves found, and the grid's checks and lists that start at 0.
 ghost use mathlib.Core.Path.{_≡_};
+ghost use mathlib.Core.Bool.{true};
 ghost use Rattle.rules.specs.TuGrid.{marks};
-ghost use Rattle.leaves.specs.Records.{refusedOf, leavesCheck, Checked, Started};
-use grid::paint::blank;
-use grid::paint::clear;
-use grid::tx_grid::caps_ok;
-use grid::tx_grid::sizes_ok;
+ghost use Rattle.grid.specs.Start.{Started};
+ghost use Rattle.leaves.specs.Records.{refusedOf, leavesCheck};
 use rules::refusals::Answer;
 use rules::refusals::Refusal;
 use rules::settings::TuGrid;
-use tiles::tests::lists_long;
 
 pub fn refused(a: Answer) -> bool
     ensures { λ r. ⌜ r ≡ refusedOf a ⌝ }
@@ -33,34 +30,7 @@ fn leaves_ok(n: usize, good: usize, m: usize, sound: usize) -> Answer
     Answer::Accepted
 }
 
-// The checks, for four lists and keep marks of these lengths.
-fn check(
-    v: usize,
-    h: usize,
-    w: usize,
-    t: usize,
-    k: usize,
-    s: TuGrid,
-    n: usize,
-    good: usize,
-    m: usize,
-    sound: usize,
-) -> Answer
-    ensures { λ r. ⌜ Checked s n good m sound v h w t k r ⌝ }
-{
-    if !sizes_ok(s) {
-        return Answer::Refused(Refusal::Size);
-    }
-    if !lists_long(s.rows * s.cols, v, h, w, t, k) {
-        return Answer::Refused(Refusal::Length);
-    }
-    if !caps_ok(s) {
-        return Answer::Refused(Refusal::Setting);
-    }
-    leaves_ok(n, good, m, sound)
-}
-
-// The checks, and where they accept four lists and keep marks that start at 0.
+// The checks, of which no list of records is cut short, and where they accept four lists and keep marks that start at 0.
 pub fn start(
     vedge: &mut [u8],
     hedge: &mut [u8],
@@ -73,26 +43,9 @@ pub fn start(
     m: usize,
     sound: usize,
 ) -> Answer
-    ensures { λ r. ⌜ Started s n good m sound (marks (now (vedge .entry)) (now (hedge .entry)) (now (sqw .entry)) (now (sqh .entry))) (now (keep .entry))
+    ensures { λ r. ⌜ Started s true (leavesCheck n good m sound) (marks (now (vedge .entry)) (now (hedge .entry)) (now (sqw .entry)) (now (sqh .entry))) (now (keep .entry))
         r (marks (now (vedge .exit)) (now (hedge .exit)) (now (sqw .exit)) (now (sqh .exit))) (now (keep .exit)) ⌝ }
 {
-    let a = check(
-        vedge.len(),
-        hedge.len(),
-        sqw.len(),
-        sqh.len(),
-        keep.len(),
-        s,
-        n,
-        good,
-        m,
-        sound,
-    );
-    if let Answer::Refused(r) = a {
-        return Answer::Refused(r);
-    }
-    let cells = s.rows * s.cols;
-    blank(vedge, hedge, sqw, sqh, cells);
-    clear(keep, cells);
-    Answer::Accepted
+    let nine = leaves_ok(n, good, m, sound);
+    grid::start::start(vedge, hedge, sqw, sqh, keep, s, true, nine)
 }

@@ -70,22 +70,10 @@ pub fn lists_long(n: usize, v: usize, h: usize, w: usize, t: usize, k: usize) ->
     n <= k
 }
 
-// Five lists are long enough, and two lists of leaves have four numbers a leaf.
-pub fn lists_ok(
-    n: usize,
-    v: usize,
-    h: usize,
-    w: usize,
-    t: usize,
-    k: usize,
-    leaves: usize,
-    skips: usize,
-) -> bool
-    ensures { λ r. ⌜ r ≡ all (all (leb n v ∷ leb n h ∷ leb n w ∷ leb n t ∷ leb n k ∷ []) ∷ foursOk leaves ∷ foursOk skips ∷ []) ⌝ }
+// Two lists of leaves have four numbers a leaf.
+pub fn leaves_fours(leaves: usize, skips: usize) -> bool
+    ensures { λ r. ⌜ r ≡ all (foursOk leaves ∷ foursOk skips ∷ []) ⌝ }
 {
-    if !lists_long(n, v, h, w, t, k) {
-        return false;
-    }
     if !fours(leaves) {
         return false;
     }

@@ -1,7 +1,6 @@
--- `tx_grid` blanks the lists, paints the leaves and then the skip leaves; the lists keep their lengths. Assumes nothing.
-use borrow.Author.Needs.{needs}
+-- `tx_grid` blanks the lists and paints the leaves; the lists keep their lengths. Assumes nothing.
 use Rattle.grid.proofs.Painted.{grid-built}
-use Rattle.grid.proofs.Places.{fit-same}
+use Rattle.grid.proofs.Places.{fitting as needs}
 use Rattle.grid.proofs.tx_grid.tx_grid.Statement.{statement}
 use Rattle.grid.proofs.tx_grid.tx_grid.Tie as tie
 
@@ -11,38 +10,8 @@ mul-blank c = search needs
 blank-requires : tie.Need-blank-requires
 blank-requires c κs = search needs
 
-leaves-requires : tie.Need-leaves-requires
-leaves-requires c κs = (
-  fit-same
-      (c .before .before .before .before .before .before .before .before .before .before .before .before .before .before .before .before .before .before .before .before .before .before .before .before .pre .0)
-      (c .before .before .before .before .before .before .before .before .before .before .before .before .blank .kept .0)
-      (c .before .before .before .before .before .before .before .before .before .before .before .before .blank .kept .1 .0)
-      (c .before .before .before .before .before .before .before .before .before .before .before .before .blank .kept .1 .1 .0)
-      (c .before .before .before .before .before .before .before .before .before .before .before .before .blank .kept .1 .1 .1 .0),
-  (
-    c .before .before .before .before .before .before .before .before .before .before .before .before .before .before .before .before .before .before .before .before .before .before .before .before .pre .1 .0,
-    c .before .before .before .before .before .before .before .before .before .before .before .before .before .before .before .before .before .before .before .before .before .before .before .before .pre .1 .1 .0,
-  ),
-)
-
-leaves-requires-2 : tie.Need-leaves-requires-2
-leaves-requires-2 c κs = (
-  fit-same
-      (fit-same
-      (c .before .before .before .before .before .before .before .before .before .before .before .before .before .before .before .before .before .before .before .before .before .before .before .before .before .before .before .before .before .before .before .before .before .before .before .before .before .pre .0)
-      (c .before .before .before .before .before .before .before .before .before .before .before .before .before .before .before .before .before .before .before .before .before .before .before .before .before .blank .kept .0)
-      (c .before .before .before .before .before .before .before .before .before .before .before .before .before .before .before .before .before .before .before .before .before .before .before .before .before .blank .kept .1 .0)
-      (c .before .before .before .before .before .before .before .before .before .before .before .before .before .before .before .before .before .before .before .before .before .before .before .before .before .blank .kept .1 .1 .0)
-      (c .before .before .before .before .before .before .before .before .before .before .before .before .before .before .before .before .before .before .before .before .before .before .before .before .before .blank .kept .1 .1 .1 .0))
-      (c .before .before .before .before .before .before .before .before .before .before .before .before .leaves .kept .0)
-      (c .before .before .before .before .before .before .before .before .before .before .before .before .leaves .kept .1 .0)
-      (c .before .before .before .before .before .before .before .before .before .before .before .before .leaves .kept .1 .1 .0)
-      (c .before .before .before .before .before .before .before .before .before .before .before .before .leaves .kept .1 .1 .1 .0),
-  (
-    c .before .before .before .before .before .before .before .before .before .before .before .before .before .before .before .before .before .before .before .before .before .before .before .before .before .before .before .before .before .before .before .before .before .before .before .before .before .pre .1 .0,
-    c .before .before .before .before .before .before .before .before .before .before .before .before .before .before .before .before .before .before .before .before .before .before .before .before .before .before .before .before .before .before .before .before .before .before .before .before .before .pre .1 .1 .1,
-  ),
-)
+paint-lists-requires : tie.Need-paint-lists-requires
+paint-lists-requires c κs = search needs
 
 same-length : tie.Need-same-length
 same-length c = search needs
@@ -57,11 +26,7 @@ same-length-4 : tie.Need-same-length-4
 same-length-4 c = search needs
 
 returns : tie.Need-returns
-returns c =
-    grid-built _ _ _ _ _ _
-    (c .before .before .before .before .before .before .before .before .before .before .before .before .before .before .before .before .before .before .before .before .before .before .before .before .before .before .before .before .before .before .before .before .before .before .blank .ensures)
-    (c .before .before .before .before .before .before .before .before .before .before .before .before .before .before .before .before .before .before .before .before .before .leaves .ensures)
-    (c .before .before .before .before .before .before .before .before .leaves2 .ensures)
+returns c = grid-built _ _ _ _ _ (c .before .before .before .before .before .before .before .before .before .before .before .before .before .before .before .before .before .before .before .before .before .blank .ensures) (c .before .before .before .before .before .before .before .before .paint-lists .ensures)
 
 pub tx-grid-spec : {M : Type 1} → statement M
 tx-grid-spec =
@@ -69,8 +34,7 @@ tx-grid-spec =
     (tie.spec
     mul-blank
     blank-requires
-    leaves-requires
-    leaves-requires-2
+    paint-lists-requires
     same-length
     same-length-2
     same-length-3

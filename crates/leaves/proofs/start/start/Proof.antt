@@ -1,71 +1,14 @@
--- `start` answers by its checks, and clears the lists only where they accept. Assumes nothing.
+-- `start` hands what the leaves' counts say to the grid's own start. Assumes nothing.
 use borrow.Author.Needs.{needs}
-use Rattle.grid.proofs.Places.{tx-cells-fit}
-use Rattle.leaves.proofs.Entry.{start-refused, start-fit, start-done}
+use Rattle.leaves.proofs.Entry.{started-by}
 use Rattle.leaves.proofs.start.start.Statement.{statement}
 use Rattle.leaves.proofs.start.start.Tie as tie
 
-check-requires : tie.Need-check-requires
-check-requires c κs = search needs
+leaves-ok-requires : tie.Need-leaves-ok-requires
+leaves-ok-requires c κs = search needs
 
-enum-known-a : tie.Need-enum-known-a
-enum-known-a c = search needs
-
-returns : tie.Need-returns
-returns c =
-    start-refused _ _ _ _ _
-    (c .before .before .before .before .before .before .before .before .before .args .vedge .now)
-    (c .before .before .before .before .before .before .before .before .before .args .hedge .now)
-    (c .before .before .before .before .before .before .before .before .before .args .sqw .now)
-    (c .before .before .before .before .before .before .before .before .before .args .sqh .now)
-    (c .before .before .before .before .before .before .before .before .before .args .keep .now)
-    (c .before .before .before .check .ensures)
-    (c .before .a .given .1)
-
-enum-told : tie.Need-enum-told
-enum-told c = search needs
-
-mul-cells : tie.Need-mul-cells
-mul-cells c =
-    let f =
-    start-fit _ _ _ _ _
-    (c .before .before .before .before .before .before .before .before .before .args .vedge .now)
-    (c .before .before .before .before .before .before .before .before .before .args .hedge .now)
-    (c .before .before .before .before .before .before .before .before .before .args .sqw .now)
-    (c .before .before .before .before .before .before .before .before .before .args .sqh .now)
-    (c .before .before .before .before .before .before .before .before .before .args .keep .now)
-    (c .before .before .before .check .ensures)
-    (c .before .enum-told .given .1)
-    in
-    tx-cells-fit (f .0)
-
-blank-requires : tie.Need-blank-requires
-blank-requires c κs =
-    let f =
-    start-fit _ _ _ _ _
-    (c .before .before .before .before .before .before .before .before .before .before .before .before .before .args .vedge .now)
-    (c .before .before .before .before .before .before .before .before .before .before .before .before .before .args .hedge .now)
-    (c .before .before .before .before .before .before .before .before .before .before .before .before .before .args .sqw .now)
-    (c .before .before .before .before .before .before .before .before .before .before .before .before .before .args .sqh .now)
-    (c .before .before .before .before .before .before .before .before .before .before .before .before .before .args .keep .now)
-    (c .before .before .before .before .before .before .before .check .ensures)
-    (c .before .before .before .before .before .enum-told .given .1)
-    in
-    (f .0 .long-v, f .0 .long-h, f .0 .long-w, f .0 .long-t)
-
-clear-requires : tie.Need-clear-requires
-clear-requires c κs =
-    let f =
-    start-fit _ _ _ _ _
-    (c .before .before .before .before .before .before .before .before .before .before .before .before .before .before .before .before .before .before .before .before .before .before .before .args .vedge .now)
-    (c .before .before .before .before .before .before .before .before .before .before .before .before .before .before .before .before .before .before .before .before .before .before .before .args .hedge .now)
-    (c .before .before .before .before .before .before .before .before .before .before .before .before .before .before .before .before .before .before .before .before .before .before .before .args .sqw .now)
-    (c .before .before .before .before .before .before .before .before .before .before .before .before .before .before .before .before .before .before .before .before .before .before .before .args .sqh .now)
-    (c .before .before .before .before .before .before .before .before .before .before .before .before .before .before .before .before .before .before .before .before .before .before .before .args .keep .now)
-    (c .before .before .before .before .before .before .before .before .before .before .before .before .before .before .before .before .before .check .ensures)
-    (c .before .before .before .before .before .before .before .before .before .before .before .before .before .before .before .enum-told .given .1)
-    in
-    f .1
+start-requires : tie.Need-start-requires
+start-requires c κs = search needs
 
 same-length : tie.Need-same-length
 same-length c = search needs
@@ -82,33 +25,18 @@ same-length-4 c = search needs
 same-length-5 : tie.Need-same-length-5
 same-length-5 c = search needs
 
-returns-2 : tie.Need-returns-2
-returns-2 c =
-    start-done _ _ _ _ _
-    (c .before .before .before .before .before .before .before .before .before .before .before .before .before .before .before .before .before .before .before .before .before .before .before .before .before .before .args .vedge .now)
-    (c .before .before .before .before .before .before .before .before .before .before .before .before .before .before .before .before .before .before .before .before .before .before .before .before .before .before .args .hedge .now)
-    (c .before .before .before .before .before .before .before .before .before .before .before .before .before .before .before .before .before .before .before .before .before .before .before .before .before .before .args .sqw .now)
-    (c .before .before .before .before .before .before .before .before .before .before .before .before .before .before .before .before .before .before .before .before .before .before .before .before .before .before .args .sqh .now)
-    (c .before .before .before .before .before .before .before .before .before .before .before .before .before .before .before .before .before .before .before .before .before .before .before .before .before .before .args .keep .now)
-    (c .before .before .before .before .before .before .before .before .before .before .before .before .before .before .before .before .before .before .before .before .check .ensures)
-    (c .before .before .before .before .before .before .before .before .before .before .before .before .before .before .before .before .before .before .enum-told .given .1)
-    (c .before .before .before .before .before .before .before .before .before .before .before .before .blank .ensures)
-    (c .before .before .clear .ensures)
+returns : tie.Need-returns
+returns c = started-by _ _ (c .before .before .before .before .before .before .before .before .before .before .before .before .before .before .before .before .leaves-ok .ensures) (c .before .before .before .before .before .before .before .before .before .before .start .ensures)
 
 pub start-spec : {M : Type 1} → statement M
 start-spec =
     tie.close
     (tie.spec
-    check-requires
-    enum-known-a
-    returns
-    enum-told
-    mul-cells
-    blank-requires
-    clear-requires
+    leaves-ok-requires
+    start-requires
     same-length
     same-length-2
     same-length-3
     same-length-4
     same-length-5
-    returns-2)
+    returns)

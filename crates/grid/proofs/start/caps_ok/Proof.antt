@@ -1,8 +1,8 @@
 -- `caps_ok` tests both caps. Assumes nothing.
 use borrow.Author.Needs.{needs}
 use Rattle.laws.specs.Choose.{tests}
-use Rattle.grid.proofs.tx_grid.caps_ok.Statement.{statement}
-use Rattle.grid.proofs.tx_grid.caps_ok.Tie as tie
+use Rattle.grid.proofs.start.caps_ok.Statement.{statement}
+use Rattle.grid.proofs.start.caps_ok.Tie as tie
 
 cap-ok-requires : tie.Need-cap-ok-requires
 cap-ok-requires c κs = search needs

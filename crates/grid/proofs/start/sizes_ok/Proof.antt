@@ -1,8 +1,8 @@
 -- `sizes_ok` tests the cells, then the subsampling. Assumes nothing.
 use borrow.Author.Needs.{needs}
 use Rattle.laws.specs.Choose.{tests}
-use Rattle.grid.proofs.tx_grid.sizes_ok.Statement.{statement}
-use Rattle.grid.proofs.tx_grid.sizes_ok.Tie as tie
+use Rattle.grid.proofs.start.sizes_ok.Statement.{statement}
+use Rattle.grid.proofs.start.sizes_ok.Tie as tie
 
 cells-ok-requires : tie.Need-cells-ok-requires
 cells-ok-requires c κs = search needs
