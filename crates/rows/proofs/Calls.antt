@@ -28,7 +28,7 @@ use Rattle.checks.proofs.Rows.{box-inner}
 use Rattle.checks.proofs.Checks.{stop, stop-by, go-on, go-on-by, unless-bad, unless-good, found-bad-by, found-good-by, else-parts, unless-true, found-nothing, settle-refused, settle-accepted}
 use Rattle.plane.specs.declared.visited.Visited.{Visited}
 use Rattle.plane.specs.Checked.{Checked}
-use Rattle.plane.proofs.Accepting.{settled, checked-samples}
+use Rattle.plane.proofs.Accepting.{settled}
 use Rattle.cell_edges.specs.Cells.{Sizes}
 use Rattle.bands.specs.Ran.{RanBand}
 use Rattle.rows.specs.Stated.{Stated}
@@ -105,17 +105,10 @@ new-box {s} {held} {filled} {size} z up most long =
 
 -- ---- the checks, as the code comes by them
 
--- what the counts' check asks, and that of the new samples
-module _ (s : Plane) (steps : List ℕ) (g : Grid) (n : ℕ) {a : Answer} (is : a ≡ settingsCheck s steps g n) (good : a ≡ Accepted) where
-  pub settings-sizes : Sizes s
-  settings-sizes = settled s steps g n (sym is ∙ good) .sizes-ok
-
-  pub new-asks : (held filled : ℕ) {b : Bool} → b ≡ countsOk (s .rows) held filled → not b ≡ false
-      → Sizes s × (depthOk (s .depth) ≡ true) × (4 * s .rows * s .stride ≤ n) × (held ≤ filled) × (filled ≤ 4 * s .rows)
-  new-asks held filled of e =
-      let k = checked-samples (settled s steps g n (sym is ∙ good)) in
-      let c = counts-of (s .rows) held filled (sym (told-yes-not _ _ of e)) in
-      (k .0, k .1, k .2, c .up, c .filled-most)
+-- what the check of the new samples asks
+pub new-asks : {s : Plane} {n : ℕ} → Sizes s × (depthOk (s .depth) ≡ true) × (4 * s .rows * s .stride ≤ n) → (held filled : ℕ) {b : Bool} → b ≡ countsOk (s .rows) held filled → not b ≡ false
+    → Sizes s × (depthOk (s .depth) ≡ true) × (4 * s .rows * s .stride ≤ n) × (held ≤ filled) × (filled ≤ 4 * s .rows)
+new-asks {s} k held filled of e = let c = counts-of (s .rows) held filled (sym (told-yes-not _ _ of e)) in (k .0, k .1, k .2, c .up, c .filled-most)
 
 module _ (s : Plane) (steps : List ℕ) (g : Grid) (st : RowState) (filled : ℕ) (l : List ℕ) where
   pub spent-refused : st .spent ≡ true → Refused Spent ≡ rowsCheck s steps g st filled l

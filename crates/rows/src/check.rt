@@ -1,7 +1,6 @@
 // The checks of a call in ticket 8's order: 15, document 01's 1 to 7, 14, and 8 over the newly filled rows.
 use crate::counts::counts_ok;
 use checks::samples;
-use plane::settings_check;
 use rules::depth::Depth;
 use rules::refusals::Answer;
 use rules::refusals::Found;
@@ -10,11 +9,13 @@ use rules::rows::RowState;
 use rules::settings::Plane;
 ghost use mathlib.Core.Path.{_≡_};
 ghost use mathlib.Core.Bool.{true};
-ghost use Prim.Native.Nat.{_*_, _≤_};
+ghost use mathlib.Core.List.{List};
+ghost use Prim.Native.Nat.{ℕ, _*_, _≤_};
 ghost use lib.ListN.{length};
+ghost use Rattle.rules.specs.declared.refusals.Answer.the-variants.{Accepted};
 ghost use Rattle.rules.specs.Numbers.{depthOk};
-ghost use Rattle.rules.specs.Plane.{keeping};
-ghost use Rattle.rules.specs.Rows.{overNew, rowsCheck};
+ghost use Rattle.rules.specs.Plane.{Grid};
+ghost use Rattle.rules.specs.Rows.{settingsCheck, overNew, rowsCheck};
 ghost use Rattle.cell_edges.specs.Cells.{Sizes};
 
 // The first sample over top in the rows from held to filled.
@@ -33,27 +34,14 @@ fn over_new(plane: &[u16], s: Plane, held: usize, filled: usize) -> Found
     )
 }
 
-// The first refusal of a call, or none.
-pub fn rows_check(
-    plane: &[u16],
-    vedge: &[u8],
-    hedge: &[u8],
-    sqw: &[u8],
-    sqh: &[u8],
-    qindex: &[u16],
-    tiles: &[u16],
-    keep: &[u8],
-    steps: &[u32],
-    s: Plane,
-    state: RowState,
-    filled: usize,
-) -> Answer
-    ensures { λ a. ⌜ a ≡ rowsCheck s (now (steps .entry)) (keeping (now (vedge .entry)) (now (hedge .entry)) (now (sqw .entry)) (now (sqh .entry)) (now (qindex .entry)) (now (tiles .entry)) (now (keep .entry))) state filled (now (plane .entry)) ⌝ }
+// The first refusal of a call, or none, where document 01's 1 to 7 answer so.
+pub fn rows_check(plane: &[u16], s: Plane, state: RowState, filled: usize, given: Answer) -> Answer
+    requires { ⌜ (given ≡ Accepted → Sizes s × (depthOk (s .depth) ≡ true) × (4 * s .rows * s .stride ≤ length (now plane))) ⌝ }
+    ensures { λ a. ⌜ ((steps : List ℕ) (g : Grid) → given ≡ settingsCheck s steps g (length (now (plane .entry))) → a ≡ rowsCheck s steps g state filled (now (plane .entry))) ⌝ }
 {
     if state.spent {
         return Answer::Refused(Refusal::Spent);
     }
-    let given = settings_check(plane, vedge, hedge, sqw, sqh, qindex, tiles, keep, steps, s);
     if let Answer::Refused(r) = given {
         return Answer::Refused(r);
     }

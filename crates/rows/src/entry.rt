@@ -2,6 +2,7 @@
 use crate::check::rows_check;
 use crate::counts::final_rows;
 use bands::run_band;
+use plane::settings_check;
 use rules::refusals::Answer;
 use rules::refusals::Refusal;
 use rules::refusals::number;
@@ -44,20 +45,8 @@ pub fn deblock_rows(
 ) -> RowsAnswer
     ensures { λ a. ⌜ Stated s (now (steps .entry)) (keeping (now (vedge .entry)) (now (hedge .entry)) (now (sqw .entry)) (now (sqh .entry)) (now (qindex .entry)) (now (tiles .entry)) (now (keep .entry))) state filled (now (plane .entry)) a (now (plane .exit)) ⌝ }
 {
-    let a = rows_check(
-        plane,
-        vedge,
-        hedge,
-        sqw,
-        sqh,
-        qindex,
-        tiles,
-        keep,
-        steps,
-        s,
-        state,
-        filled,
-    );
+    let given = settings_check(plane, vedge, hedge, sqw, sqh, qindex, tiles, keep, steps, s);
+    let a = rows_check(plane, s, state, filled, given);
     if let Answer::Refused(r) = a {
         let kept = spent_by(r, state);
         return RowsAnswer {
