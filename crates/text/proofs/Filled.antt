@@ -2,20 +2,20 @@
 use mathlib.Core.Path.{_≡_, refl, sym, ap, _∙_}
 use mathlib.Core.Bool.{Bool}
 use mathlib.Core.List.{List}
-use Prim.Native.Nat.{ℕ, _+_, _≤_}
+use Prim.Native.Nat.{ℕ, _+_, _≤_, _<_}
 use native.Mathlib.Omega.{arith}
 use native.Mathlib.Nat.{le-antisymm}
 use native.Mathlib.Numerals.{add-one}
 use borrow.Author.Needs.{needs}
-use lib.ListN.{length, set}
+use lib.ListN.{length, set, length-set}
 use Rattle.laws.specs.Lists.{front}
-use Rattle.laws.specs.Loops.{filled, filled-more, filled-none}
+use Rattle.laws.specs.Loops.{filled, filled-more}
 use Rattle.text.specs.declared.number.Cursor.{Cursor}
-use Rattle.text.specs.declared.typed.Unsigned.{Unsigned}
 use Rattle.text.specs.declared.lists.Listed.{Listed}
+use Rattle.text.specs.declared.lists.Reading.{Reading}
 use Rattle.text.specs.Numbers.{numberAt, wholeLine}
 use Rattle.text.specs.Typed.{unsignedOf}
-use Rattle.text.specs.Lists.{Fills, Entries, Reads, ReadsTwo, twoAt, afterEntries, entryAt, lengthAt, listedAt, listAt, stepsAt}
+use Rattle.text.specs.Lists.{EntryOn, listedOf, Fills, Reads, ReadsTwo, twoAt, afterEntries, entryAt, lengthAt, listedAt, listAt, stepsAt}
 
 pub fronted : {A : Type 0} (n : ℕ) (before after : List A) → length after ≡ length before → n ≤ length before → Fills n before after
 fronted n before after e h = record { kept = e; within = omega arith; front = front n after (omega arith) }
@@ -24,38 +24,49 @@ pub ruleset fillings = (needs, fronted)
 
 -- ---- one entry after the other
 
-module _ (most : ℕ) (text : List ℕ) (c : Cursor) where
-  pub after-none : c ≡ afterEntries most text c 0
-  unfolding afterEntries
-  after-none = refl
+-- the first i of n entries stand at the front of the list; l is what was read so far, first what was read of the length
+pub record SoFar (most : ℕ) (text before : List ℕ) (first : Reading) (n i : ℕ) (list : List ℕ) (l : Reading) : Type 0 where
+  pub within : i ≤ n
+  pub room : n ≤ length before
+  pub kept : length list ≡ length before
+  pub first-length : first .length ≡ n
+  pub counted : l .length ≡ n
+  pub filling : list ≡ filled before (entryAt most text (first .rest)) i
+  pub follows : l .rest ≡ afterEntries most text (first .rest) i
 
-  module _ (i : ℕ) {at : Cursor} {e : Unsigned} (here : at ≡ afterEntries most text c i) (is : e ≡ unsignedOf most (numberAt text at)) where
-    reads : e ≡ unsignedOf most (numberAt text (afterEntries most text c i))
-    reads = rw here at is
+module _ (most : ℕ) (text before : List ℕ) (first : Reading) where
+  pub so-none : first .length ≤ length before → SoFar most text before first (first .length) 0 before first
+  unfolding afterEntries filled
+  so-none h = record { within = omega arith; room = h; kept = refl; first-length = refl; counted = refl; filling = refl; follows = refl }
 
-    pub after-more : e .rest ≡ afterEntries most text c (i + 1)
-    unfolding afterEntries
-    after-more = ap (λ (u : Unsigned). u .rest) reads ∙ ap (afterEntries most text c) (sym (add-one i))
+  module _ (n i : ℕ) (list : List ℕ) (l : Reading) (so : SoFar most text before first n i list l) where
+    pub so-more : (r : Reading) → i < n → EntryOn most text l r → SoFar most text before first n (i + 1) (set list i (r .entry)) r
+    unfolding afterEntries entryAt
+    so-more r h e = record {
+      within = omega arith;
+      room = so .room;
+      kept = length-set list i (r .entry) ∙ so .kept;
+      first-length = so .first-length;
+      counted = e .same ∙ so .counted;
+      filling = filled-more before (entryAt most text (first .rest)) i (so .filling) (ap (λ (v : ℕ). set list i v) (e .entry ∙ ap (λ (k : Cursor). unsignedOf most (numberAt text k) .value) (so .follows)));
+      follows = e .rest ∙ ap (λ (k : Cursor). unsignedOf most (numberAt text k) .rest) (so .follows) ∙ ap (afterEntries most text (first .rest)) (sym (add-one i));
+    }
 
-    pub entry-more : (lent : List ℕ) {list : List ℕ} → list ≡ filled lent (entryAt most text c) i → set list i (e .value) ≡ filled lent (entryAt most text c) (i + 1)
-    unfolding entryAt
-    entry-more lent {list} so = filled-more lent (entryAt most text c) i so (ap (λ (u : Unsigned). set list i (u .value)) reads)
+    -- all of them
+    pub so-read : (c : Cursor) (r : Listed) → n ≤ i → (first .length ≤ length before) × (first .length ≡ lengthAt text c (length before) .value) × (first .rest ≡ lengthAt text c (length before) .rest) → r ≡ listedOf l → Reads most text c before list r
+    unfolding listedAt listAt
+    so-read c r b e g =
+        let m : i ≡ n = le-antisymm (so .within) b in
+        let x : l .length ≡ lengthAt text c (length before) .value = so .counted ∙ sym (so .first-length) ∙ e .1 in
+        let y : i ≡ lengthAt text c (length before) .value = m ∙ sym (so .first-length) ∙ e .1 in
+        let q : l .rest ≡ afterEntries most text (lengthAt text c (length before) .rest) (lengthAt text c (length before) .value) = rw (e .2, y) at (so .follows) in
+        record {
+          fills = rw (g, so .counted) (fronted n before list (so .kept) (so .room));
+          listed = rw (g, x, q);
+          list = rw (e .2, y) at (so .filling);
+        }
 
-  pub entries-end : (i n : ℕ) (lent list : List ℕ) (at : Cursor) → i ≤ n → n ≤ i → length list ≡ length lent → list ≡ filled lent (entryAt most text c) i → at ≡ afterEntries most text c i → Entries most text c n lent list at
-  entries-end i n lent list at a b k e f = record { kept = k; list = rw (le-antisymm a b) at e; follows = rw (le-antisymm a b) at f }
-
-pub ruleset entering = (needs, filled-none, after-none, after-more, entry-more, entries-end)
-
--- a list, by its length and its entries
-pub list-read : (most : ℕ) (text : List ℕ) (c : Cursor) (before after : List ℕ) {n : ℕ} {first rest : Cursor} → n ≤ length before → n ≡ lengthAt text c (length before) .value → first ≡ lengthAt text c (length before) .rest → Entries most text first n before after rest → Reads most text c before after (record { length = n; rest = rest })
-unfolding listedAt listAt
-list-read most text c before after {n} {first} {rest} h e f g = record {
-  fills = fronted n before after (g .kept) h;
-  listed = rw (← e, ← f) (ap (λ (x : Cursor). record { length = n; rest = x }) (g .follows));
-  list = rw (← e, ← f) (g .list);
-}
-
-pub ruleset listings = (needs, list-read)
+pub ruleset entering = (needs, so-none, so-more, so-read)
 
 -- two lists, the second where the first ends
 pub two-read : (text : List ℕ) (c : Cursor) (a b a' b' : List ℕ) {x y : Listed} → Reads 255 text c a a' x → Reads 255 text (x .rest) b b' y → ReadsTwo text c a b a' b' (record { a = x .length; b = y .length; rest = y .rest })

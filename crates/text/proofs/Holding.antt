@@ -1,56 +1,60 @@
 -- How a list is held against the entries of a line, one at a time. Assumes nothing.
-use mathlib.Core.Path.{_≡_, sym, _∙_}
-use mathlib.Core.Bool.{true, false}
+use mathlib.Core.Path.{_≡_, refl, sym, ap, _∙_}
+use mathlib.Core.Bool.{Bool, true, false, not}
 use mathlib.Core.List.{List}
-use Prim.Native.Nat.{ℕ, suc, _+_, _-_, _≤_, _<_}
+use Prim.Native.Nat.{ℕ, _+_, _≤_, _<_}
 use native.Mathlib.Omega.{arith}
-use native.Mathlib.Numerals.{add-one}
 use borrow.Author.Needs.{needs}
-use lib.Dec.{eqb}
+use borrow.Author.Tests.{eq-eqb, ne-eqb, not-true, not-false}
 use lib.ListN.{length, getD}
-use Rattle.laws.specs.Choose.{pick, is-eq, not-eq}
+use Rattle.laws.specs.Choose.{pick}
+use Rattle.laws.specs.Loops.{turns, turns-none, turns-more, turns-end}
 use Rattle.text.specs.declared.number.Cursor.{Cursor}
 use Rattle.text.specs.declared.typed.Unsigned.{Unsigned}
 use Rattle.text.specs.declared.lists.Held.{Held}
 use Rattle.text.specs.Numbers.{numberAt}
 use Rattle.text.specs.Typed.{unsignedOf}
-use Rattle.text.specs.Lists.{heldFrom, heldAt}
+use Rattle.text.specs.Lists.{noneHeld, heldOn, heldAt}
 
--- before the first entry
-pub held-start : (most : ℕ) (text list : List ℕ) (c : Cursor) → heldFrom most text list 0 c (length list - 0) ≡ heldAt most text c list
-unfolding heldAt
-held-start most text list c = let n : length list - 0 ≡ length list = omega arith in rw n
+-- one entry: e is the one that was read, v what it is held against
+module _ (most : ℕ) (text : List ℕ) (v : ℕ) (h : Held) where
+  pub held-off : not (h .same) ≡ true → h ≡ heldOn most text v h
+  unfolding heldOn pick
+  held-off d = let n : h .same ≡ false = not-true _ d in rw n
 
--- whole is what holding from the first entry on says; e is the entry that was read at c, w the list's
-module _ (most : ℕ) (text list : List ℕ) (i : ℕ) (c : Cursor) (whole : Held) where
-  -- they are equal
-  pub held-on : (e : Unsigned) (w : ℕ) → e ≡ unsignedOf most (numberAt text c) → w ≡ getD list i 0 → i < length list → e .value ≡ w
-      → heldFrom most text list i c (length list - i) ≡ whole → heldFrom most text list (i + 1) (e .rest) (length list - (i + 1)) ≡ whole
-  unfolding heldFrom pick
-  held-on e w q l h v inv =
-      let n : length list - i ≡ suc (length list - (i + 1)) = omega arith in
-      let t : true ≡ eqb (e .value) (getD list i 0) = is-eq _ _ (v ∙ l) in
-      let u : true ≡ eqb (unsignedOf most (numberAt text c) .value) (getD list i 0) = rw q at t in
-      let g : heldFrom most text list i c (length list - i) ≡ heldFrom most text list (i + 1) (e .rest) (length list - (i + 1)) = rw (n, ← u, q, add-one) in
-      sym g ∙ inv
+  module _ (e : Unsigned) (is : e ≡ unsignedOf most (numberAt text (h .rest))) (so : not (h .same) ≡ false) where
+    pub held-same : e .value ≡ v → record { same = true; place = h .place + 1; rest = e .rest } ≡ heldOn most text v h
+    unfolding heldOn pick
+    held-same q = let y : h .same ≡ true = not-false _ so in rw (y, ← is, eq-eqb _ _ q)
 
-  -- they differ
-  pub held-off : (e : Unsigned) (w : ℕ) → e ≡ unsignedOf most (numberAt text c) → w ≡ getD list i 0 → i < length list → (e .value ≡ w → ⊥)
-      → heldFrom most text list i c (length list - i) ≡ whole → record { same = false; place = i; rest = e .rest } ≡ whole
-  unfolding heldFrom pick
-  held-off e w q l h v inv =
-      let n : length list - i ≡ suc (length list - (i + 1)) = omega arith in
-      let t : false ≡ eqb (e .value) (getD list i 0) = not-eq _ _ (λ f. v (f ∙ sym l)) in
-      let u : false ≡ eqb (unsignedOf most (numberAt text c) .value) (getD list i 0) = rw q at t in
-      let g : heldFrom most text list i c (length list - i) ≡ record { same = false; place = i; rest = e .rest } = rw (n, ← u, q) in
-      sym g ∙ inv
+    pub held-differs : (e .value ≡ v → ⊥) → record { same = false; place = h .place; rest = e .rest } ≡ heldOn most text v h
+    unfolding heldOn pick
+    held-differs q = let y : h .same ≡ true = not-false _ so in rw (y, ← is, ne-eqb _ _ q)
 
-  -- none is left
-  pub held-end : length list ≤ i → heldFrom most text list i c (length list - i) ≡ whole → record { same = true; place = i; rest = c } ≡ whole
-  unfolding heldFrom
-  held-end h inv =
-      let n : length list - i ≡ 0 = omega arith in
-      let g : heldFrom most text list i c (length list - i) ≡ record { same = true; place = i; rest = c } = rw n in
-      sym g ∙ inv
+pub ruleset entry-held = (needs, held-off, held-same, held-differs)
 
-pub ruleset holding = (needs, held-start, held-on, held-off, held-end)
+-- the first i of n entries were held against the list
+pub record HeldTo (most : ℕ) (text list : List ℕ) (first : Held) (n i : ℕ) (h : Held) : Type 0 where
+  pub within : i ≤ n
+  pub all : n ≡ length list
+  pub place : h .place ≤ i
+  pub held : h ≡ turns i (λ k x. heldOn most text (getD list k 0) x) first
+
+module _ (most : ℕ) (text list : List ℕ) (first : Held) where
+  pub held-none : (c : Cursor) → first ≡ noneHeld c → HeldTo most text list first (length list) 0 first
+  held-none c e = record { within = omega arith; all = refl; place = rw e (omega arith); held = turns-none (λ k x. heldOn most text (getD list k 0) x) first }
+
+  module _ (n i : ℕ) (h : Held) (so : HeldTo most text list first n i h) where
+    pub held-more : (w : ℕ) (g : Held) → i < n → w ≡ getD list i 0 → (g ≡ heldOn most text w h) × (g .place ≤ h .place + 1) → HeldTo most text list first n (i + 1) g
+    held-more w g b e r = record {
+      within = omega arith;
+      all = so .all;
+      place = omega (arith, so .place, r .1);
+      held = turns-more (λ k x. heldOn most text (getD list k 0) x) first i (so .held) (r .0 ∙ ap (λ (x : ℕ). heldOn most text x h) e);
+    }
+
+    pub held-end : (c : Cursor) → n ≤ i → first ≡ noneHeld c → h ≡ heldAt most text c list
+    unfolding heldAt
+    held-end c b e = rw e at (turns-end (λ k x. heldOn most text (getD list k 0) x) first i (length list) (so .held) (omega (arith, so .within, so .all)) (omega (arith, so .all)))
+
+pub ruleset holding = (needs, held-none, held-more, held-end)

@@ -1,17 +1,18 @@
 -- The lists of a line, their length first: the numbers that stand there, and what a lent list is once they were read to its front.
 -- Assumes nothing.
-use Prim.Native.Nat.{ℕ, zero, suc, _≤_}
+use Prim.Native.Nat.{ℕ, zero, suc, _+_, _≤_}
 use mathlib.Core.Path.{_≡_}
 use mathlib.Core.List.{List}
 use mathlib.Core.Bool.{true, false}
 use lib.Dec.{eqb}
 use lib.ListN.{length, take, getD}
 use Rattle.laws.specs.Choose.{pick}
-use Rattle.laws.specs.Loops.{filled}
+use Rattle.laws.specs.Loops.{turns, filled}
 use Rattle.text.specs.declared.number.Cursor.{Cursor}
 use Rattle.text.specs.declared.typed.Unsigned.{Unsigned}
 use Rattle.text.specs.declared.lists.Held.{Held}
 use Rattle.text.specs.declared.lists.Listed.{Listed}
+use Rattle.text.specs.declared.lists.Reading.{Reading}
 use Rattle.text.specs.declared.lists.Two.{Two}
 use Rattle.text.specs.declared.lists.Steps.{Steps}
 use Rattle.text.specs.Numbers.{numberAt, wholeLine}
@@ -25,6 +26,17 @@ pub record Fills {A : Type 0} (n : ℕ) (before after : List A) : Type 0 where
 
 -- ---- entries of at most most
 
+-- one more, where l is what was read so far
+pub record EntryOn (most : ℕ) (text : List ℕ) (l r : Reading) : Type 0 where
+  pub same : r .length ≡ l .length
+  pub entry : r .entry ≡ unsignedOf most (numberAt text (l .rest)) .value
+  pub rest : r .rest ≡ unsignedOf most (numberAt text (l .rest)) .rest
+  pub bound : r .entry ≤ most
+
+-- what is said of it at the end
+abbrev pub listedOf : Reading → Listed
+listedOf l = record { length = l .length; rest = l .rest }
+
 -- what follows the first i of them
 unfoldable pub afterEntries : ℕ → List ℕ → Cursor → ℕ → Cursor
 afterEntries most text c zero = c
@@ -33,12 +45,6 @@ afterEntries most text c (suc i) = unsignedOf most (numberAt text (afterEntries 
 -- the one after the first i, 0 where it is not there
 unfoldable pub entryAt : ℕ → List ℕ → Cursor → ℕ → ℕ
 entryAt most text c i = unsignedOf most (numberAt text (afterEntries most text c i)) .value
-
--- n of them, read to the front of the list before
-pub record Entries (most : ℕ) (text : List ℕ) (c : Cursor) (n : ℕ) (before after : List ℕ) (rest : Cursor) : Type 0 where
-  pub kept : length after ≡ length before
-  pub list : after ≡ filled before (entryAt most text c) n
-  pub follows : rest ≡ afterEntries most text c n
 
 -- ---- a list of them
 
@@ -88,13 +94,17 @@ pub record SetsSteps (text : List ℕ) (c : Cursor) (before after : List ℕ) (r
 
 -- ---- the next entries held against those of a list
 
--- from entry i on, of which n are left: up to the first that differs
-unfoldable pub heldFrom : ℕ → List ℕ → List ℕ → ℕ → Cursor → ℕ → Held
-heldFrom most text list i c zero = record { same = true; place = i; rest = c }
-heldFrom most text list i c (suc n) =
-    pick (eqb (unsignedOf most (numberAt text c) .value) (getD list i 0))
-    (heldFrom most text list (suc i) (unsignedOf most (numberAt text c) .rest) n)
-    (record { same = false; place = i; rest = unsignedOf most (numberAt text c) .rest })
+abbrev pub noneHeld : Cursor → Held
+noneHeld c = record { same = true; place = 0; rest = c }
+
+-- one entry more against v; after one that differs nothing more is read
+unfoldable pub heldOn : ℕ → List ℕ → ℕ → Held → Held
+heldOn most text v h =
+    pick (h .same)
+    (pick (eqb (unsignedOf most (numberAt text (h .rest)) .value) v)
+    (record { same = true; place = h .place + 1; rest = unsignedOf most (numberAt text (h .rest)) .rest })
+    (record { same = false; place = h .place; rest = unsignedOf most (numberAt text (h .rest)) .rest }))
+    h
 
 unfoldable pub heldAt : ℕ → List ℕ → Cursor → List ℕ → Held
-heldAt most text c list = heldFrom most text list 0 c (length list)
+heldAt most text c list = turns (length list) (λ i h. heldOn most text (getD list i 0) h) (noneHeld c)

@@ -31,7 +31,6 @@ pub use lists::read_two;
 pub use lists::read_u8s;
 pub use lists::read_u16s;
 pub use lists::read_u32s;
-pub use lists::read_usizes;
 pub use lists::set_steps;
 pub use number::Cursor;
 pub use number::Number;
