@@ -6,6 +6,54 @@ use Rattle.y4m.specs.Formats.{layoutOf}
 use Rattle.y4m.proofs.format.named.Statement.{statement}
 use Rattle.y4m.proofs.format.named.Tie as tie
 
+lay-out-requires : tie.Need-lay-out-requires
+lay-out-requires c κs = search needs
+
+lay-out-requires-2 : tie.Need-lay-out-requires-2
+lay-out-requires-2 c κs = search needs
+
+lay-out-requires-3 : tie.Need-lay-out-requires-3
+lay-out-requires-3 c κs = search needs
+
+lay-out-requires-4 : tie.Need-lay-out-requires-4
+lay-out-requires-4 c κs = search needs
+
+lay-out-requires-5 : tie.Need-lay-out-requires-5
+lay-out-requires-5 c κs = search needs
+
+lay-out-requires-6 : tie.Need-lay-out-requires-6
+lay-out-requires-6 c κs = search needs
+
+lay-out-requires-7 : tie.Need-lay-out-requires-7
+lay-out-requires-7 c κs = search needs
+
+lay-out-requires-8 : tie.Need-lay-out-requires-8
+lay-out-requires-8 c κs = search needs
+
+lay-out-requires-9 : tie.Need-lay-out-requires-9
+lay-out-requires-9 c κs = search needs
+
+lay-out-requires-10 : tie.Need-lay-out-requires-10
+lay-out-requires-10 c κs = search needs
+
+lay-out-requires-11 : tie.Need-lay-out-requires-11
+lay-out-requires-11 c κs = search needs
+
+lay-out-requires-12 : tie.Need-lay-out-requires-12
+lay-out-requires-12 c κs = search needs
+
+lay-out-requires-13 : tie.Need-lay-out-requires-13
+lay-out-requires-13 c κs = search needs
+
+lay-out-requires-14 : tie.Need-lay-out-requires-14
+lay-out-requires-14 c κs = search needs
+
+lay-out-requires-15 : tie.Need-lay-out-requires-15
+lay-out-requires-15 c κs = search needs
+
+lay-out-requires-16 : tie.Need-lay-out-requires-16
+lay-out-requires-16 c κs = search needs
+
 returns : tie.Need-returns
 unfolding layoutOf pick
 returns c = rw (c .lay-out .ensures, c .before .match .keys1)
@@ -92,22 +140,22 @@ pub named-spec : {M : Type 1} → statement M
 named-spec =
     tie.close
     (tie.spec
-    (λ c κs. search needs)
-    (λ c κs. search needs)
-    (λ c κs. search needs)
-    (λ c κs. search needs)
-    (λ c κs. search needs)
-    (λ c κs. search needs)
-    (λ c κs. search needs)
-    (λ c κs. search needs)
-    (λ c κs. search needs)
-    (λ c κs. search needs)
-    (λ c κs. search needs)
-    (λ c κs. search needs)
-    (λ c κs. search needs)
-    (λ c κs. search needs)
-    (λ c κs. search needs)
-    (λ c κs. search needs)
+    lay-out-requires
+    lay-out-requires-2
+    lay-out-requires-3
+    lay-out-requires-4
+    lay-out-requires-5
+    lay-out-requires-6
+    lay-out-requires-7
+    lay-out-requires-8
+    lay-out-requires-9
+    lay-out-requires-10
+    lay-out-requires-11
+    lay-out-requires-12
+    lay-out-requires-13
+    lay-out-requires-14
+    lay-out-requires-15
+    lay-out-requires-16
     returns
     returns-2
     returns-3
