@@ -1,4 +1,5 @@
 -- `rule_of` tells the kinds from all other numbers. Assumes nothing.
+use mathlib.Core.Path.{_∙_}
 use borrow.Author.Tests.{ne-eqb}
 use Rattle.laws.specs.Choose.{pick}
 use Rattle.settings.specs.Rules.{tilesFrom, keepsFrom, ruleOf}
@@ -101,15 +102,15 @@ put-requires-24 c κs = search needs
 
 returns : tie.Need-returns
 unfolding ruleOf pick
-returns c = rw (c .before .match .keys1) (cc)
+returns c = c .put .ensures ∙ rw (c .before .match .keys1)
 
 returns-2 : tie.Need-returns-2
 unfolding ruleOf pick
-returns-2 c = rw (c .before .match .keys2) (cc)
+returns-2 c = c .put2 .ensures ∙ rw (c .before .match .keys2)
 
 returns-3 : tie.Need-returns-3
 unfolding ruleOf pick
-returns-3 c = rw (c .before .match .keys3) (cc)
+returns-3 c = c .put3 .ensures ∙ rw (c .before .match .keys3)
 
 returns-4 : tie.Need-returns-4
 unfolding ruleOf pick
@@ -125,59 +126,59 @@ returns-6 c = rw (c .before .match .keys6) (cc)
 
 returns-7 : tie.Need-returns-7
 unfolding ruleOf pick
-returns-7 c = rw (c .before .match .keys7) (cc)
+returns-7 c = c .put7 .ensures ∙ rw (c .before .match .keys7)
 
 returns-8 : tie.Need-returns-8
 unfolding ruleOf pick
-returns-8 c = rw (c .before .match .keys8) (cc)
+returns-8 c = c .put8 .ensures ∙ rw (c .before .match .keys8)
 
 returns-9 : tie.Need-returns-9
 unfolding ruleOf pick
-returns-9 c = rw (c .before .match .keys9) (cc)
+returns-9 c = c .put9 .ensures ∙ rw (c .before .match .keys9)
 
 returns-10 : tie.Need-returns-10
 unfolding ruleOf pick
-returns-10 c = rw (c .before .match .keys10) (cc)
+returns-10 c = c .put10 .ensures ∙ rw (c .before .match .keys10)
 
 returns-11 : tie.Need-returns-11
 unfolding ruleOf pick
-returns-11 c = rw (c .before .match .keys11) (cc)
+returns-11 c = c .put11 .ensures ∙ rw (c .before .match .keys11)
 
 returns-12 : tie.Need-returns-12
 unfolding ruleOf pick
-returns-12 c = rw (c .before .match .keys12) (cc)
+returns-12 c = c .put12 .ensures ∙ rw (c .before .match .keys12)
 
 returns-13 : tie.Need-returns-13
 unfolding ruleOf pick
-returns-13 c = rw (c .before .match .keys13) (cc)
+returns-13 c = c .put13 .ensures ∙ rw (c .before .match .keys13)
 
 returns-14 : tie.Need-returns-14
 unfolding ruleOf pick
-returns-14 c = rw (c .before .match .keys14) (cc)
+returns-14 c = c .put14 .ensures ∙ rw (c .before .match .keys14)
 
 returns-15 : tie.Need-returns-15
 unfolding ruleOf pick
-returns-15 c = rw (c .before .match .keys15) (cc)
+returns-15 c = c .put15 .ensures ∙ rw (c .before .match .keys15)
 
 returns-16 : tie.Need-returns-16
 unfolding ruleOf pick
-returns-16 c = rw (c .before .match .keys16) (cc)
+returns-16 c = c .put16 .ensures ∙ rw (c .before .match .keys16)
 
 returns-17 : tie.Need-returns-17
 unfolding ruleOf pick
-returns-17 c = rw (c .before .match .keys17) (cc)
+returns-17 c = c .put17 .ensures ∙ rw (c .before .match .keys17)
 
 returns-18 : tie.Need-returns-18
 unfolding ruleOf pick
-returns-18 c = rw (c .before .match .keys18) (cc)
+returns-18 c = c .put18 .ensures ∙ rw (c .before .match .keys18)
 
 returns-19 : tie.Need-returns-19
 unfolding ruleOf pick
-returns-19 c = rw (c .before .match .keys19) (cc)
+returns-19 c = c .put19 .ensures ∙ rw (c .before .match .keys19)
 
 returns-20 : tie.Need-returns-20
 unfolding ruleOf pick
-returns-20 c = rw (c .before .match .keys20) (cc)
+returns-20 c = c .put20 .ensures ∙ rw (c .before .match .keys20)
 
 returns-21 : tie.Need-returns-21
 unfolding ruleOf tilesFrom pick
@@ -194,7 +195,8 @@ returns-23 c = rw (c .before .match .keys23) (cc)
 returns-24 : tie.Need-returns-24
 unfolding ruleOf pick
 returns-24 c =
-    rw (
+    c .put24 .ensures
+    ∙ rw (
       ne-eqb _ _ (c .before .match .rest .0 .0 .0 .0 .0 .0 .0 .0 .0 .0 .0 .0 .0 .0 .0 .0 .0 .0 .0 .0 .0 .0 .1),
       ne-eqb _ _ (c .before .match .rest .0 .0 .0 .0 .0 .0 .0 .0 .0 .0 .0 .0 .0 .0 .0 .0 .0 .0 .0 .0 .0 .1),
       ne-eqb _ _ (c .before .match .rest .0 .0 .0 .0 .0 .0 .0 .0 .0 .0 .0 .0 .0 .0 .0 .0 .0 .0 .0 .0 .1),
@@ -219,7 +221,6 @@ returns-24 c =
       ne-eqb _ _ (c .before .match .rest .0 .1),
       ne-eqb _ _ (c .before .match .rest .1),
     )
-    (cc)
 
 pub rule-of-spec : {M : Type 1} → statement M
 rule-of-spec =
