@@ -1,4 +1,4 @@
--- The lists of the settings among their n short numbers: 4096 qindex entries, then luma's leaves, chroma's leaves, skip leaves, luma's tile starts and chroma's, and the kept rectangles,
+-- The lists of the settings among their n short numbers: the qindex entries, then luma's leaves, chroma's leaves, skip leaves, luma's tile starts and chroma's, and the kept rectangles,
 -- each from a place of its own to the place after its last number. Assumes nothing.
 use mathlib.Core.List.{List}
 use Prim.Native.Nat.{ℕ, _+_, _-_, _≤_, min, max}
@@ -7,6 +7,7 @@ use lib.ListN.{getD, take, drop}
 use Rattle.laws.specs.Choose.{pick}
 use Rattle.settings.specs.Rules.{leafRoom, tilesFrom, keepsFrom}
 use Rattle.by_settings.specs.declared.lists.Lists.{Lists}
+use Rattle.by_settings.specs.Rooms.{qindexRoom, tilesRoom, keepsRoom, stepsRoom, leafKind, chromaLeafKind, skipKind, tilesKind, chromaTilesKind, keepKind}
 
 -- the end of a list that begins at `from` and has room up to `end`, by the place after the last number of its kind
 abbrev pub endOf : List ℕ → ℕ → ℕ → ℕ → ℕ
@@ -14,36 +15,36 @@ endOf places kind from end = max from (min (getD places kind 0) end)
 
 -- where chroma's leaves begin, and where the skip leaves do
 abbrev pub chromaFrom : ℕ → ℕ
-chromaFrom n = 4096 + leafRoom n
+chromaFrom n = qindexRoom + leafRoom n
 
 abbrev pub skipsFrom : ℕ → ℕ
 skipsFrom n = chromaFrom n + leafRoom n
 
--- kinds 4, 5 and 6, 21, 22 and 23; chroma has luma's leaves where it has none of its own, and no tile starts but its own
+-- each by its kind; chroma has luma's leaves where it has none of its own, and no tile starts but its own
 unfoldable pub listsAsked : ℕ → List ℕ → Lists
 listsAsked n places = record {
-  entries = 4096;
-  leaves = 4096;
-  leavesend = endOf places 4 4096 (chromaFrom n);
-  chroma = pick (eqb (endOf places 5 (chromaFrom n) (skipsFrom n)) (chromaFrom n)) 4096 (chromaFrom n);
-  chromaend = pick (eqb (endOf places 5 (chromaFrom n) (skipsFrom n)) (chromaFrom n)) (endOf places 4 4096 (chromaFrom n)) (endOf places 5 (chromaFrom n) (skipsFrom n));
+  entries = qindexRoom;
+  leaves = qindexRoom;
+  leavesend = endOf places leafKind qindexRoom (chromaFrom n);
+  chroma = pick (eqb (endOf places chromaLeafKind (chromaFrom n) (skipsFrom n)) (chromaFrom n)) qindexRoom (chromaFrom n);
+  chromaend = pick (eqb (endOf places chromaLeafKind (chromaFrom n) (skipsFrom n)) (chromaFrom n)) (endOf places leafKind qindexRoom (chromaFrom n)) (endOf places chromaLeafKind (chromaFrom n) (skipsFrom n));
   skips = skipsFrom n;
-  skipsend = endOf places 6 (skipsFrom n) (tilesFrom n);
+  skipsend = endOf places skipKind (skipsFrom n) (tilesFrom n);
   tiles = tilesFrom n;
-  tilesend = endOf places 21 (tilesFrom n) (tilesFrom n + 1023);
-  chromatiles = tilesFrom n + 1023;
-  chromatilesend = endOf places 22 (tilesFrom n + 1023) (keepsFrom n);
+  tilesend = endOf places tilesKind (tilesFrom n) (tilesFrom n + tilesRoom);
+  chromatiles = tilesFrom n + tilesRoom;
+  chromatilesend = endOf places chromaTilesKind (tilesFrom n + tilesRoom) (keepsFrom n);
   keeps = keepsFrom n;
-  keepsend = endOf places 23 (keepsFrom n) (keepsFrom n + 16384);
+  keepsend = endOf places keepKind (keepsFrom n) (keepsFrom n + keepsRoom);
 }
 
 -- the numbers from a place to another
 abbrev pub between : List ℕ → ℕ → ℕ → List ℕ
 between xs from end = take (end - from) (drop from xs)
 
--- the steps given, at most 352; all 352 of the published table where none is
+-- the steps given, as many as there is room for; all of the published table where none is
 unfoldable pub stepsAsked : ℕ → ℕ
-stepsAsked n = pick (eqb n 0) 352 (min n 352)
+stepsAsked n = pick (eqb n 0) stepsRoom (min n stepsRoom)
 
 -- every list begins before it ends, within n numbers
 pub record ListsWithin (l : Lists) (n : ℕ) : Type 0 where

@@ -10,8 +10,36 @@ use Rattle.rules.specs.declared.settings.Frame.{Frame}
 use Rattle.rules.specs.declared.settings.Ccso.{Ccso}
 use Rattle.numbers.specs.Settings.{numberAt, countAt}
 use Rattle.y4m.specs.declared.header.Header.{Header}
+use Rattle.by_settings.specs.Rooms.{numbersEach}
 
--- 1 and 2 are luma's and chroma's delta, 3 and 4 luma's caps, 5 and 6 chroma's caps, 7 is 0 where chroma is not deblocked
+-- ---- where each number of a frame stands
+
+-- luma's delta, and chroma's
+abbrev pub deltayAt : ℕ
+deltayAt = 1
+
+abbrev pub deltauvAt : ℕ
+deltauvAt = 2
+
+-- luma's caps, and chroma's
+abbrev pub capwAt : ℕ
+capwAt = 3
+
+abbrev pub caphAt : ℕ
+caphAt = 4
+
+abbrev pub ccapwAt : ℕ
+ccapwAt = 5
+
+abbrev pub ccaphAt : ℕ
+ccaphAt = 6
+
+-- 0 where chroma is not deblocked
+abbrev pub chromaAt : ℕ
+chromaAt = 7
+
+-- ---- the settings that they make
+
 unfoldable pub frameAsked : Header → List ℤ → ℕ → ℕ → Frame
 frameAsked h numbers stride chromastride = record {
   width = h .width;
@@ -19,21 +47,21 @@ frameAsked h numbers stride chromastride = record {
   ssx = h .layout .ssx;
   ssy = h .layout .ssy;
   haschroma = h .layout .chroma;
-  chromadeblock = not (eqb (countAt numbers 7) 0);
+  chromadeblock = not (eqb (countAt numbers chromaAt) 0);
   depth = h .layout .depth;
-  deltay = numberAt numbers 1;
-  deltauv = numberAt numbers 2;
+  deltay = numberAt numbers deltayAt;
+  deltauv = numberAt numbers deltauvAt;
   lumastride = stride;
   chromastride = chromastride;
-  capw = countAt numbers 3;
-  caph = countAt numbers 4;
-  ccapw = countAt numbers 5;
-  ccaph = countAt numbers 6;
+  capw = countAt numbers capwAt;
+  caph = countAt numbers caphAt;
+  ccapw = countAt numbers ccapwAt;
+  ccaph = countAt numbers ccaphAt;
 }
 
 -- where the eleven numbers of plane p begin: luma is 0, U is 1, V is 2
 abbrev pub offsetsFrom : ℕ → ℕ
-offsetsFrom p = 16 + 16 * p
+offsetsFrom p = numbersEach + numbersEach * p
 
 -- scale, both cuts, the class numbers, two taps, band log2; luma has no subsampling
 unfoldable pub ccsoAsked : Frame → List ℤ → ℕ → Ccso

@@ -13,6 +13,7 @@ use Rattle.rules.specs.declared.refusals.Answer.{Answer}
 use Rattle.rules.specs.Refusals.{orElse, onlyIf, settle}
 use Rattle.rules.specs.Ccso.{ccsoCheck, ccsoAfter}
 use Rattle.rules.specs.Frame.{Planes, planes}
+use Rattle.by_settings.specs.Rooms.{numbersRoom, flagsRoom, offsetsRoom, planesRoom, ccsoKind}
 use Rattle.by_settings.specs.Numbers.{offsetsFrom, ccsoAsked}
 use Rattle.by_settings.specs.declared.gated.Applied.{Applied}
 
@@ -28,21 +29,21 @@ asked numbers flags offsets places = record { numbers = numbers; flags = flags; 
 
 -- how long these lists are at least
 pub record OffsetsLong (numbers flags offsets places : ℕ) : Type 0 where
-  pub numbers-long : 64 ≤ numbers
-  pub flags-long : 12288 ≤ flags
-  pub offsets-long : 384 ≤ offsets
-  pub places-long : 15 ≤ places
+  pub numbers-long : numbersRoom ≤ numbers
+  pub flags-long : planesRoom flagsRoom ≤ flags
+  pub offsets-long : planesRoom offsetsRoom ≤ offsets
+  pub places-long : ccsoKind 2 + 1 ≤ places
 
--- the settings have numbers for plane p, kind 12 + p, and the picture has the plane
+-- the settings have numbers for plane p, and the picture has the plane
 unfoldable pub wanted : Frame → List ℕ → ℕ → Bool
-wanted f places p = both (ltb (offsetsFrom p) (getD places (12 + p) 0)) (either (eqb p 0) (f .haschroma))
+wanted f places p = both (ltb (offsetsFrom p) (getD places (ccsoKind p) 0)) (either (eqb p 0) (f .haschroma))
 
--- 4096 flags and 128 offsets stand for each plane
+-- the flags and the offsets of plane p
 unfoldable pub flagsOf : ℕ → List ℕ → List ℕ
-flagsOf p flags = take 4096 (drop (4096 * p) flags)
+flagsOf p flags = take flagsRoom (drop (flagsRoom * p) flags)
 
 unfoldable pub offsetsOf : ℕ → List ℤ → List ℤ
-offsetsOf p offsets = take 128 (drop (128 * p) offsets)
+offsetsOf p offsets = take offsetsRoom (drop (offsetsRoom * p) offsets)
 
 -- ---- one plane, whose samples are t
 

@@ -4,7 +4,9 @@ ghost use Prim.Native.Nat.{_≤_};
 ghost use lib.Dec.{eqb};
 ghost use lib.ListN.{length};
 ghost use Rattle.laws.specs.Choose.{pick};
+ghost use Rattle.by_settings.specs.Rooms.{numbersRoom, frameNumbers};
 ghost use Rattle.by_settings.specs.Numbers.{frameAsked, ccsoAsked};
+use crate::rooms::EACH;
 use numbers::count;
 use numbers::number;
 use numbers::size;
@@ -12,9 +14,24 @@ use rules::settings::Ccso;
 use rules::settings::Frame;
 use y4m::header::Header;
 
+// Where a frame's numbers stand: both deltas, luma's caps, chroma's, and whether chroma is deblocked.
+const DELTAY: usize = 1;
+
+const DELTAUV: usize = 2;
+
+const CAPW: usize = 3;
+
+const CAPH: usize = 4;
+
+const CCAPW: usize = 5;
+
+const CCAPH: usize = 6;
+
+const CHROMA: usize = 7;
+
 // The frame that a header and the settings' numbers describe.
 pub fn frame_of(h: Header, numbers: &[i32], stride: usize, chromastride: usize) -> Frame
-    requires { ⌜ 8 ≤ length (now numbers) ⌝ }
+    requires { ⌜ frameNumbers ≤ length (now numbers) ⌝ }
     ensures { λ f. ⌜ f ≡ frameAsked h (now (numbers .entry)) stride chromastride ⌝ }
 {
     let l = h.layout;
@@ -24,16 +41,16 @@ pub fn frame_of(h: Header, numbers: &[i32], stride: usize, chromastride: usize) 
         ssx: l.ssx,
         ssy: l.ssy,
         haschroma: l.chroma,
-        chromadeblock: count(numbers, 7) != 0,
+        chromadeblock: count(numbers, CHROMA) != 0,
         depth: l.depth,
-        deltay: number(numbers, 1),
-        deltauv: number(numbers, 2),
+        deltay: number(numbers, DELTAY),
+        deltauv: number(numbers, DELTAUV),
         lumastride: stride,
         chromastride,
-        capw: size(numbers, 3),
-        caph: size(numbers, 4),
-        ccapw: size(numbers, 5),
-        ccaph: size(numbers, 6),
+        capw: size(numbers, CAPW),
+        caph: size(numbers, CAPH),
+        ccapw: size(numbers, CCAPW),
+        ccaph: size(numbers, CCAPH),
     }
 }
 
@@ -44,12 +61,12 @@ fn subsampling(p: usize, ss: usize) -> usize
     if p == 0 { 0 } else { ss }
 }
 
-// The CCSO settings of plane p: luma, U, V.
+// The CCSO settings of plane p: luma, U, V. Its numbers stand in the order of its setting.
 pub fn ccso_of(f: Frame, numbers: &[i32], p: usize) -> Ccso
-    requires { ⌜ (p ≤ 2) × (64 ≤ length (now numbers)) ⌝ }
+    requires { ⌜ (p ≤ 2) × (numbersRoom ≤ length (now numbers)) ⌝ }
     ensures { λ s. ⌜ s ≡ ccsoAsked f (now (numbers .entry)) p ⌝ }
 {
-    let from = 16 + 16 * p;
+    let from = EACH + EACH * p;
     Ccso {
         width: f.width,
         height: f.height,

@@ -1,10 +1,15 @@
 // CCSO over a picture's planes, by the settings.
 ghost use mathlib.Core.Path.{_≡_};
-ghost use Prim.Native.Nat.{_≤_};
+ghost use Prim.Native.Nat.{_+_, _≤_};
 ghost use lib.ListN.{length};
 ghost use Rattle.rules.specs.Frame.{planes};
+ghost use Rattle.by_settings.specs.Rooms.{ccsoKind};
 ghost use Rattle.by_settings.specs.Offsets.{OffsetsLong, asked, wanted, PlaneOffset, PlanesOffset};
 use crate::filters::ccso_of;
+use crate::kinds::CCSO_Y;
+use crate::rooms::EACH;
+use crate::rooms::FLAGS;
+use crate::rooms::OFFSETS;
 use ccso::apply::apply_edge_gated;
 use rules::refusals::Answer;
 use rules::settings::Frame;
@@ -17,10 +22,10 @@ pub struct Applied {
 
 // Whether plane p is to be offset: the settings have its numbers, and the picture has the plane.
 fn wants(f: Frame, places: &[usize], p: usize) -> bool
-    requires { ⌜ (p ≤ 2) × (15 ≤ length (now places)) ⌝ }
+    requires { ⌜ (p ≤ 2) × (ccsoKind 2 + 1 ≤ length (now places)) ⌝ }
     ensures { λ r. ⌜ r ≡ wanted f (now (places .entry)) p ⌝ }
 {
-    if places[12 + p] <= 16 + 16 * p {
+    if places[CCSO_Y + p] <= EACH + EACH * p {
         return false;
     }
     if p == 0 {
@@ -47,10 +52,10 @@ pub fn offset_plane(
         return Answer::Accepted;
     }
     let s = ccso_of(f, numbers, p);
-    let a = 4096 * p;
-    let b = a + 4096;
-    let c = 128 * p;
-    let d = c + 128;
+    let a = FLAGS * p;
+    let b = a + FLAGS;
+    let c = OFFSETS * p;
+    let d = c + OFFSETS;
     apply_edge_gated(luma, plane, &flags[a..b], &offsets[c..d], s)
 }
 

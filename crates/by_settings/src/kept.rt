@@ -2,6 +2,7 @@
 ghost use mathlib.Core.Path.{_≡_};
 ghost use Prim.Native.Nat.{_+_, _*_, _≤_};
 ghost use lib.ListN.{length, replicate};
+ghost use Rattle.by_settings.specs.Rooms.{kinds, fewestShorts};
 ghost use Rattle.by_settings.specs.Kept.{firstIn, countIn, rectangleOf, keptBy, keptAsked};
 use crate::lists::lists_of;
 use rectangle::keep_rectangle;
@@ -82,7 +83,7 @@ pub fn keep_cells(keep: &mut [u8], rectangles: &[u16], s: Cells)
 
 // Marks those that the settings keep.
 pub fn keep_asked(keep: &mut [u8], shorts: &[u16], places: &[usize], s: Cells)
-    requires { ⌜ (24 ≤ length (now places)) × (22526 ≤ length (now shorts)) ⌝ }
+    requires { ⌜ (kinds ≤ length (now places)) × (fewestShorts ≤ length (now shorts)) ⌝ }
     ensures { λ _. ⌜ now (keep .exit) ≡ keptAsked s (now (shorts .entry)) (now (places .entry)) (now (keep .entry)) ⌝ }
 {
     let at = lists_of(places, shorts.len());

@@ -1,5 +1,11 @@
 // What the settings of a picture ask for: the filters' own settings, CCSO over the planes, the cells that are kept, and where a refusal stands.
 
+// The kinds of settings.
+pub mod kinds;
+
+// How long their lists are.
+pub mod rooms;
+
 // The frame, and the CCSO settings of a plane.
 pub mod filters;
 

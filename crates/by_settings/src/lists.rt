@@ -2,7 +2,10 @@
 ghost use mathlib.Core.Path.{_≡_};
 ghost use Prim.Native.Nat.{_≤_, min, max};
 ghost use lib.ListN.{length};
+ghost use Rattle.by_settings.specs.Rooms.{kinds, fewestShorts, stepsRoom};
 ghost use Rattle.by_settings.specs.Lists.{listsAsked, stepsAsked, ListsWithin};
+use crate::kinds;
+use crate::rooms;
 use laws::least;
 use laws::most;
 use settings::names::leaf_room;
@@ -33,34 +36,38 @@ pub fn limit(place: usize, from: usize, end: usize) -> usize
 
 // How many steps stand in the table: those given, or all of the published ones.
 pub fn steps_of(n: usize) -> usize
-    ensures { λ r. ⌜ (r ≡ stepsAsked n) × (r ≤ 352) ⌝ }
+    ensures { λ r. ⌜ (r ≡ stepsAsked n) × (r ≤ stepsRoom) ⌝ }
 {
-    if n == 0 { 352 } else { least(n, 352) }
+    if n == 0 {
+        rooms::STEPS
+    } else {
+        least(n, rooms::STEPS)
+    }
 }
 
 // The lists of n short numbers by the places after their last ones. Chroma has luma's leaves where it has none of its own.
 pub fn lists_of(places: &[usize], n: usize) -> Lists
-    requires { ⌜ (24 ≤ length (now places)) × (22526 ≤ n) ⌝ }
+    requires { ⌜ (kinds ≤ length (now places)) × (fewestShorts ≤ n) ⌝ }
     ensures { λ r. ⌜ (r ≡ listsAsked n (now (places .entry))) × ListsWithin r n ⌝ }
 {
     let room = leaf_room(n);
-    let chroma = 4096 + room;
+    let chroma = rooms::QINDEX + room;
     let skips = chroma + room;
-    let l = limit(places[4], 4096, chroma);
-    let c = limit(places[5], chroma, skips);
+    let l = limit(places[kinds::LEAF], rooms::QINDEX, chroma);
+    let c = limit(places[kinds::LEAF_UV], chroma, skips);
     let tiles = skips + room;
-    let chromatiles = tiles + 1023;
-    let keeps = chromatiles + 1023;
-    let s = limit(places[6], skips, tiles);
-    let t = limit(places[21], tiles, chromatiles);
-    let u = limit(places[22], chromatiles, keeps);
-    let k = limit(places[23], keeps, keeps + 16384);
+    let chromatiles = tiles + rooms::TILES;
+    let keeps = chromatiles + rooms::TILES;
+    let s = limit(places[kinds::SKIP], skips, tiles);
+    let t = limit(places[kinds::TILES_Y], tiles, chromatiles);
+    let u = limit(places[kinds::TILES_UV], chromatiles, keeps);
+    let k = limit(places[kinds::KEEP], keeps, keeps + rooms::KEEPS);
     if c == chroma {
         return Lists {
-            entries: 4096,
-            leaves: 4096,
+            entries: rooms::QINDEX,
+            leaves: rooms::QINDEX,
             leavesend: l,
-            chroma: 4096,
+            chroma: rooms::QINDEX,
             chromaend: l,
             skips,
             skipsend: s,
@@ -73,8 +80,8 @@ pub fn lists_of(places: &[usize], n: usize) -> Lists
         };
     }
     Lists {
-        entries: 4096,
-        leaves: 4096,
+        entries: rooms::QINDEX,
+        leaves: rooms::QINDEX,
         leavesend: l,
         chroma,
         chromaend: c,

@@ -7,7 +7,26 @@ use rules::settings::Frame;
 use tiles::leaf::bad_leaf;
 use tiles::leaf::wide;
 
-// 0 luma, 1 U, 2 V, 3 chroma, 4 luma's leaves, 5 chroma's leaves, 6 the skip leaves, 7 the step table, 8 the frame.
+// The planes and lists by number: the planes, both planes of chroma, the lists of leaves, the step table, the frame.
+pub const LUMA: usize = 0;
+
+pub const U: usize = 1;
+
+pub const V: usize = 2;
+
+pub const CHROMA: usize = 3;
+
+pub const LEAVES: usize = 4;
+
+pub const CHROMA_LEAVES: usize = 5;
+
+pub const SKIPS: usize = 6;
+
+pub const STEPS: usize = 7;
+
+pub const FRAME: usize = 8;
+
+// A plane or list, and a row and a column there.
 pub struct Place {
     pub plane: usize,
     pub row: usize,
@@ -51,12 +70,12 @@ pub fn sample_place(y: &[u16], u: &[u16], k: usize, f: Frame) -> Place
     ensures { λ r. ⌜ r ≡ samplePlace f (now (y .entry)) (now (u .entry)) k ⌝ }
 {
     if over(y, k, f.depth) {
-        return at(0, k, f.lumastride);
+        return at(LUMA, k, f.lumastride);
     }
     if over(u, k, f.depth) {
-        return at(1, k, f.chromastride);
+        return at(U, k, f.chromastride);
     }
-    at(2, k, f.chromastride)
+    at(V, k, f.chromastride)
 }
 
 // Leaf k of a list by its row and column.
@@ -80,11 +99,11 @@ pub fn leaves_place(leaves: &[u16], chromaleaves: &[u16], skips: &[u16], k: usiz
 {
     let a = bad_leaf(leaves, false);
     if let Found::At(_) = a {
-        return leaf_place(4, leaves, k);
+        return leaf_place(LEAVES, leaves, k);
     }
     let b = bad_leaf(chromaleaves, false);
     if let Found::At(_) = b {
-        return leaf_place(5, chromaleaves, k);
+        return leaf_place(CHROMA_LEAVES, chromaleaves, k);
     }
-    leaf_place(6, skips, k)
+    leaf_place(SKIPS, skips, k)
 }
