@@ -17,6 +17,7 @@ use Rattle.rules.specs.Refusals.{orElse, settle}
 use Rattle.rules.specs.Frame.{planes}
 use Rattle.checks.proofs.Checks.{only-yes, only-no}
 use Rattle.ccso.specs.Stated.{Stated}
+use Rattle.by_settings.specs.Rooms.{flagsRoom, offsetsRoom}
 use Rattle.by_settings.specs.Numbers.{ccsoAsked}
 use Rattle.by_settings.specs.Offsets.{Asked, wanted, flagsOf, offsetsOf, planeAnswer, planeAfter, PlaneOffset, planesAnswer, refusedPlane, planesAfter, PlanesOffset}
 
@@ -24,13 +25,13 @@ use Rattle.by_settings.specs.Offsets.{Asked, wanted, flagsOf, offsetsOf,
 part : {A : Type 0} (n k : ℕ) (xs : List A) → take (k + n - k) (drop k xs) ≡ take n (drop k xs)
 part n k xs = let e : k + n - k ≡ n = omega arith in rw e
 
-pub flags-part : (p : ℕ) (xs : List ℕ) → take (4096 * p + 4096 - 4096 * p) (drop (4096 * p) xs) ≡ flagsOf p xs
+pub flags-part : (p : ℕ) (xs : List ℕ) → take (flagsRoom * p + flagsRoom - flagsRoom * p) (drop (flagsRoom * p) xs) ≡ flagsOf p xs
 unfolding flagsOf
-flags-part p xs = part 4096 (4096 * p) xs
+flags-part p xs = part flagsRoom (flagsRoom * p) xs
 
-pub offsets-part : (p : ℕ) (xs : List ℤ) → take (128 * p + 128 - 128 * p) (drop (128 * p) xs) ≡ offsetsOf p xs
+pub offsets-part : (p : ℕ) (xs : List ℤ) → take (offsetsRoom * p + offsetsRoom - offsetsRoom * p) (drop (offsetsRoom * p) xs) ≡ offsetsOf p xs
 unfolding offsetsOf
-offsets-part p xs = part 128 (128 * p) xs
+offsets-part p xs = part offsetsRoom (offsetsRoom * p) xs
 
 -- ---- one plane
 
