@@ -45,7 +45,7 @@ fn bad_entry(name: &[u8], rule: usize, k: usize, what: &[u8]) {
 }
 
 // A name and its number.
-fn told(name: &[u8], n: usize) {
+fn named(name: &[u8], n: usize) {
     words(name);
     number(n);
 }
@@ -63,26 +63,26 @@ fn lengths(pair: usize) {
     if 8 <= pair {
         return;
     }
-    told(b"lengths ", length_before(pair));
-    told(b" and ", length_after(pair));
+    named(b"lengths ", length_before(pair));
+    named(b" and ", length_after(pair));
 }
 
 // An edge with its number in the record.
 pub fn edge(k: usize, e: Edge) {
-    told(b"edge ", k);
-    told(b": x ", e.x);
-    told(b" y ", e.y);
+    named(b"edge ", k);
+    named(b": x ", e.x);
+    named(b" y ", e.y);
     direction(e.dir);
     words(b", ");
     lengths(e.pair);
-    told(b", q ", e.q as usize);
-    told(b", side ", e.side as usize);
+    named(b", q ", e.q as usize);
+    named(b", side ", e.side as usize);
 }
 
 // What the other record's edge has instead, where a number differs.
 fn instead(name: &[u8], mine: usize, other: usize) {
     if mine != other {
-        told(name, other);
+        named(name, other);
     }
 }
 
@@ -105,10 +105,10 @@ pub fn other(e: Edge, f: Edge) {
 // Which record is longer.
 pub fn longer(a: &[u8], n: usize, b: &[u8], m: usize) {
     words(a);
-    told(b": ", n);
+    named(b": ", n);
     words(b" edges; ");
     words(b);
-    told(b": ", m);
+    named(b": ", m);
     words(b" edges; ");
     if n == m {
         words(b"both are as long\n");
