@@ -11,11 +11,15 @@ use Rattle.rules.specs.Plane.{Grid, keeping, noRoom}
 use Rattle.rules.specs.Frame.{Planes, Given, Lent, Done, grids, lent, lumaPlane, lumaTu, lumaQ, builtGrid, frameOf, frameStored, frameChanged}
 use Rattle.frame_planes.specs.Fit.{Sampled, Buildable}
 use Rattle.by_settings.specs.declared.places.Place.{Place}
-use Rattle.by_settings.specs.Places.{placeIn, ifFound}
+use Rattle.by_settings.specs.Places.{inLuma, inChroma, placeIn, ifFound}
 
--- one entry for each cell of the largest plane
+-- how many cells the largest plane has
+abbrev pub mostCells : ℕ
+mostCells = 1048576
+
+-- one entry for each
 unfoldable pub zeros : List ℕ
-zeros = replicate 1048576 0
+zeros = replicate mostCells 0
 
 -- luma's tile starts, and chroma's
 pub record Starts : Type 0 where
@@ -63,4 +67,4 @@ pub record LumaFit (f : Frame) (leaves skips : List ℕ) (count : ℕ) : Type 0 
 -- cell k of luma where luma lacks room, else of chroma
 unfoldable pub roomPlace : Frame → List ℕ → List ℕ → List ℕ → List ℕ → ℕ → Place
 roomPlace f leaves skips sbq ts k =
-    ifFound (noRoom (lumaPlane f) (lumaGrid f leaves skips sbq ts)) (placeIn 0 k (f .lumastride / 4)) (placeIn 3 k (f .chromastride / 4))
+    ifFound (noRoom (lumaPlane f) (lumaGrid f leaves skips sbq ts)) (placeIn inLuma k (f .lumastride / 4)) (placeIn inChroma k (f .chromastride / 4))

@@ -12,16 +12,17 @@ use Rattle.rules.specs.declared.refusals.Answer.the-variants.{Accepted, Refused
 use Rattle.rules.specs.Frame.{Planes, Given, given}
 use Rattle.by_settings.specs.declared.places.Place.{Place}
 use Rattle.by_settings.specs.declared.lists.Lists.{Lists}
+use Rattle.by_settings.specs.Rooms.{fewestShorts, stepsRoom, kinds, stepsKind}
 use Rattle.by_settings.specs.Lists.{listsAsked, stepsAsked, between}
-use Rattle.by_settings.specs.Places.{placeIn, samplePlace, leavesPlace}
+use Rattle.by_settings.specs.Places.{inSteps, inFrame, placeIn, samplePlace, leavesPlace}
 use Rattle.frame_by_settings.specs.Deblocked.{Starts, Keeps, starts, Deblocked, roomPlace}
 use Rattle.frame_by_settings.specs.declared.lists.Outcome.{Outcome}
 
 -- how long the short numbers, the steps and the places are at least
 pub record ListsLong (shorts steps places : ℕ) : Type 0 where
-  pub shorts-long : 22526 ≤ shorts
-  pub steps-long : 352 ≤ steps
-  pub places-long : 24 ≤ places
+  pub shorts-long : fewestShorts ≤ shorts
+  pub steps-long : stepsRoom ≤ steps
+  pub places-long : kinds ≤ places
 
 -- the lists of a frame among the short numbers, and n steps
 abbrev pub givenBy : Lists → ℕ → List ℕ → List ℕ → Given
@@ -30,9 +31,9 @@ givenBy l n shorts steps =
     (between shorts (l .chroma) (l .chromaend))
     (between shorts (l .skips) (l .skipsend))
 
--- kind 3 of the settings is the steps
+-- as the settings have them
 unfoldable pub givenAsked : List ℕ → List ℕ → List ℕ → Given
-givenAsked shorts steps places = givenBy (listsAsked (length shorts) places) (stepsAsked (getD places 3 0)) shorts steps
+givenAsked shorts steps places = givenBy (listsAsked (length shorts) places) (stepsAsked (getD places stepsKind 0)) shorts steps
 
 -- the tile starts of luma and of chroma there
 abbrev pub startsBy : Lists → List ℕ → Starts
@@ -43,25 +44,25 @@ startsAsked shorts places = startsBy (listsAsked (length shorts) places) shorts
 
 -- a sample, a cell, a leaf or a step; any other refusal is of the whole frame; ts are luma's tile starts
 unfoldable pub refusalPlace : Frame → Given → List ℕ → Planes → Refusal → Place
-refusalPlace f n ts p Depth = placeIn 8 0 0
-refusalPlace f n ts p Size = placeIn 8 0 0
-refusalPlace f n ts p Length = placeIn 8 0 0
-refusalPlace f n ts p (Steps k) = placeIn 7 k 0
-refusalPlace f n ts p Setting = placeIn 8 0 0
-refusalPlace f n ts p (Cell k) = placeIn 8 0 0
+refusalPlace f n ts p Depth = placeIn inFrame 0 0
+refusalPlace f n ts p Size = placeIn inFrame 0 0
+refusalPlace f n ts p Length = placeIn inFrame 0 0
+refusalPlace f n ts p (Steps k) = placeIn inSteps k 0
+refusalPlace f n ts p Setting = placeIn inFrame 0 0
+refusalPlace f n ts p (Cell k) = placeIn inFrame 0 0
 refusalPlace f n ts p (Room k) = roomPlace f (n .leaves) (n .skips) (n .sbq) ts k
 refusalPlace f n ts p (Sample k) = samplePlace f (p .y) (p .u) k
 refusalPlace f n ts p (Leaf k) = leavesPlace (n .leaves) (n .chromaLeaves) (n .skips) k
-refusalPlace f n ts p Buffer = placeIn 8 0 0
-refusalPlace f n ts p Header = placeIn 8 0 0
-refusalPlace f n ts p (Cut k) = placeIn 8 0 0
-refusalPlace f n ts p (Entry k) = placeIn 8 0 0
-refusalPlace f n ts p Filled = placeIn 8 0 0
-refusalPlace f n ts p Spent = placeIn 8 0 0
+refusalPlace f n ts p Buffer = placeIn inFrame 0 0
+refusalPlace f n ts p Header = placeIn inFrame 0 0
+refusalPlace f n ts p (Cut k) = placeIn inFrame 0 0
+refusalPlace f n ts p (Entry k) = placeIn inFrame 0 0
+refusalPlace f n ts p Filled = placeIn inFrame 0 0
+refusalPlace f n ts p Spent = placeIn inFrame 0 0
 
 -- an accepted frame has no place but itself
 unfoldable pub answerPlace : Frame → Given → List ℕ → Planes → Answer → Place
-answerPlace f n ts p Accepted = placeIn 8 0 0
+answerPlace f n ts p Accepted = placeIn inFrame 0 0
 answerPlace f n ts p (Refused r) = refusalPlace f n ts p r
 
 -- the answer with the counts, its place, and the planes afterwards

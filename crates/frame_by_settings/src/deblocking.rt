@@ -6,18 +6,21 @@ use frame::frame::deblock_frame;
 use rules::refusals::PlaneAnswer;
 use rules::settings::Frame;
 
+// How many cells the largest plane has.
+const MOST_CELLS: usize = 1048576;
+
 // Marks or size indices of the largest plane.
-pub fn marks() -> [u8; 1048576]
+pub fn marks() -> [u8; MOST_CELLS]
     ensures { λ r. ⌜ r ≡ zeros ⌝ }
 {
-    [0; 1048576]
+    [0; MOST_CELLS]
 }
 
 // Its qindex entries.
-pub fn indices() -> [u16; 1048576]
+pub fn indices() -> [u16; MOST_CELLS]
     ensures { λ r. ⌜ r ≡ zeros ⌝ }
 {
-    [0; 1048576]
+    [0; MOST_CELLS]
 }
 
 // Deblocks a frame, in document 01's order or in the plain one, and tells how many samples that stored and changed, or refuses and leaves its planes as lent.

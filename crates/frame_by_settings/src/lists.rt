@@ -5,8 +5,10 @@ ghost use Rattle.frame_by_settings.specs.Deblocked.{starts, keeps};
 ghost use Rattle.frame_by_settings.specs.Framed.{ListsLong, givenAsked, startsAsked, DeblockedAt};
 use crate::deblocking::deblock;
 use crate::places::place_of;
+use by_settings::kinds::STEPS;
 use by_settings::lists::lists_of;
 use by_settings::lists::steps_of;
+use by_settings::places::FRAME;
 use by_settings::places::Place;
 use by_settings::places::at;
 use rules::refusals::Answer;
@@ -72,22 +74,22 @@ fn deblock_given(
     }
     Outcome {
         answer: Answer::Accepted,
-        place: at(8, 0, 0),
+        place: at(FRAME, 0, 0),
         stored: a.stored,
         changed: a.changed,
     }
 }
 
 // The same by the lists among the settings' numbers, and the keep marks that they ask for.
-pub fn deblock_asked(
+pub fn deblock_asked<'a>(
     y: &mut [u16],
     u: &mut [u16],
     v: &mut [u16],
     shorts: &[u16],
-    steps: &[u32],
+    steps: &'a [u32],
     keep: &[u8],
     chromakeep: &[u8],
-    places: &[usize],
+    places: &'a [usize],
     f: Frame,
     plain: bool,
 ) -> Outcome
@@ -101,7 +103,7 @@ pub fn deblock_asked(
         (planes (now (y .exit)) (now (u .exit)) (now (v .exit))) ⌝ }
 {
     let at = lists_of(places, shorts.len());
-    let n = steps_of(places[3]);
+    let n = steps_of(places[STEPS]);
     let q = at.entries;
     let a = at.leaves;
     let b = at.leavesend;

@@ -11,7 +11,11 @@ ghost use Rattle.frame_by_settings.specs.Deblocked.{LumaFit, lumaGrid, r
 ghost use Rattle.frame_by_settings.specs.Framed.{refusalPlace};
 use crate::deblocking::indices;
 use crate::deblocking::marks;
+use by_settings::places::CHROMA;
+use by_settings::places::FRAME;
+use by_settings::places::LUMA;
 use by_settings::places::Place;
+use by_settings::places::STEPS;
 use by_settings::places::at;
 use by_settings::places::leaves_place;
 use by_settings::places::sample_place;
@@ -53,9 +57,9 @@ fn room_at(leaves: &[u16], skips: &[u16], sbq: &[u16], tiles: &[u16], f: Frame, 
 {
     let a = luma_room(leaves, skips, sbq, tiles, f);
     if let Answer::Refused(_) = a {
-        return at(0, k, f.lumastride / 4);
+        return at(LUMA, k, f.lumastride / 4);
     }
-    at(3, k, f.chromastride / 4)
+    at(CHROMA, k, f.chromastride / 4)
 }
 
 // Where a frame was refused, whatever its steps, V and chroma's tile starts.
@@ -77,17 +81,17 @@ pub fn place_of(
         Refusal::Sample(k) => sample_place(y, u, k, f),
         Refusal::Room(k) => room_at(leaves, skips, sbq, tiles, f, k),
         Refusal::Leaf(k) => leaves_place(leaves, chromaleaves, skips, k),
-        Refusal::Steps(k) => at(7, k, 0),
-        Refusal::Depth => at(8, 0, 0),
-        Refusal::Size => at(8, 0, 0),
-        Refusal::Length => at(8, 0, 0),
-        Refusal::Setting => at(8, 0, 0),
-        Refusal::Cell(_) => at(8, 0, 0),
-        Refusal::Buffer => at(8, 0, 0),
-        Refusal::Header => at(8, 0, 0),
-        Refusal::Cut(_) => at(8, 0, 0),
-        Refusal::Entry(_) => at(8, 0, 0),
-        Refusal::Filled => at(8, 0, 0),
-        Refusal::Spent => at(8, 0, 0),
+        Refusal::Steps(k) => at(STEPS, k, 0),
+        Refusal::Depth => at(FRAME, 0, 0),
+        Refusal::Size => at(FRAME, 0, 0),
+        Refusal::Length => at(FRAME, 0, 0),
+        Refusal::Setting => at(FRAME, 0, 0),
+        Refusal::Cell(_) => at(FRAME, 0, 0),
+        Refusal::Buffer => at(FRAME, 0, 0),
+        Refusal::Header => at(FRAME, 0, 0),
+        Refusal::Cut(_) => at(FRAME, 0, 0),
+        Refusal::Entry(_) => at(FRAME, 0, 0),
+        Refusal::Filled => at(FRAME, 0, 0),
+        Refusal::Spent => at(FRAME, 0, 0),
     }
 }
