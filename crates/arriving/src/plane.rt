@@ -12,6 +12,7 @@ use crate::passed::End;
 use crate::passed::Passed;
 use crate::passed::none;
 use by_settings::kept::keep_cells;
+use by_settings::kinds::STEPS;
 use by_settings::lists::lists_of;
 use by_settings::lists::steps_of;
 use frame_by_settings::deblocking::indices;
@@ -119,7 +120,7 @@ fn deblocked(
     requires { ⌜ ListsLong (length (now shorts)) (length (now steps)) (length (now places)) × Sized f × ShapeFits (way .shape) ⌝ }
 {
     let at = lists_of(places, shorts.len());
-    let n = steps_of(places[3]);
+    let n = steps_of(places[STEPS]);
     let q = at.entries;
     let leaves = leaves_of(at, chroma, shorts.len());
     let tiles = tiles_of(at, chroma, shorts.len());
@@ -146,11 +147,11 @@ fn deblocked(
 }
 
 // A plane of luma or of chroma, by whether the settings have it deblocked.
-pub fn pass_plane(
+pub fn pass_plane<'a>(
     plane: &mut [u16],
     shorts: &[u16],
-    steps: &[u32],
-    places: &[usize],
+    steps: &'a [u32],
+    places: &'a [usize],
     f: Frame,
     chroma: bool,
     way: Way,

@@ -1,7 +1,9 @@
 // The leaves of the settings that begin outside the picture.
 ghost use lib.ListN.{length};
 ghost use Prim.Native.Nat.{_≤_};
+ghost use Rattle.by_settings.specs.Rooms.{kinds, fewestShorts};
 use crate::say;
+use by_settings::kinds;
 use by_settings::lists::lists_of;
 use pictures::outside::outside;
 use pictures::planes::Shape;
@@ -26,7 +28,7 @@ fn list_inside(name: &[u8], text: &[u8], kind: usize, leaves: &[u16], s: Shape) 
 
 // Whether every leaf begins in the picture; else after the answer.
 pub fn inside(name: &[u8], text: &[u8], shorts: &[u16], places: &[usize], s: Shape) -> bool
-    requires { ⌜ (22526 ≤ length (now shorts)) × (24 ≤ length (now places)) ⌝ }
+    requires { ⌜ (fewestShorts ≤ length (now shorts)) × (kinds ≤ length (now places)) ⌝ }
 {
     let at = lists_of(places, shorts.len());
     let a = at.leaves;
@@ -35,11 +37,11 @@ pub fn inside(name: &[u8], text: &[u8], shorts: &[u16], places: &[usize], s: Sha
     let d = at.chromaend;
     let e = at.skips;
     let g = at.skipsend;
-    if !list_inside(name, text, 4, &shorts[a..b], s) {
+    if !list_inside(name, text, kinds::LEAF, &shorts[a..b], s) {
         return false;
     }
-    if !list_inside(name, text, 5, &shorts[c..d], s) {
+    if !list_inside(name, text, kinds::LEAF_UV, &shorts[c..d], s) {
         return false;
     }
-    list_inside(name, text, 6, &shorts[e..g], s)
+    list_inside(name, text, kinds::SKIP, &shorts[e..g], s)
 }

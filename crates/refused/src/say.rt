@@ -1,5 +1,7 @@
 // The lines of an answer: the outcome as one byte (1 refused, 2 a bad file), which stands before any name, and then what is said of a leaf, a setting or a refusal.
+use by_settings::kinds;
 use by_settings::places::Place;
+use by_settings::places::STEPS;
 use rules::refusals::Refusal;
 use streams::say::number;
 use streams::say::words;
@@ -39,8 +41,8 @@ fn settings_line(line: usize) {
 // The range of a setting.
 fn range(kind: usize) {
     match kind {
-        7 | 8 => words(b"-128..127"),
-        9 | 10 => words(b"1, 2, 4, 8 and 16 cells each way"),
+        kinds::DELTA_Y | kinds::DELTA_UV => words(b"-128..127"),
+        kinds::CAP_Y | kinds::CAP_UV => words(b"1, 2, 4, 8 and 16 cells each way"),
         _ => words(
             b"its ranges: scale 1..16, cuts -4095..4095 with lo at most hi, classes 0..3, taps -16..16, band log2 0..3",
         ),
@@ -96,7 +98,7 @@ fn placed(at: Place) {
         b"luma\nU\nV\nchroma\nleaf\nleaf_uv\nskip\nsteps\nthe frame",
         at.plane,
     );
-    if at.plane == 7 {
+    if at.plane == STEPS {
         words(b", entry ");
     } else {
         words(b", row ");
