@@ -161,3 +161,33 @@ pub fn grid(
         rest,
     }
 }
+
+// What follows a list.
+fn past_list(text: &[u8], c: Cursor) -> Cursor {
+    let n = text::read_unsigned(text, c, 131072);
+    let mut rest = n.rest;
+    let mut left = n.value;
+    while left > 0 {
+        let e = text::read_unsigned(text, rest, 65535);
+        rest = e.rest;
+        left -= 1;
+    }
+    rest
+}
+
+// What follows the five lists of a grid.
+fn past_grid(text: &[u8], c: Cursor) -> Cursor {
+    let vedge = past_list(text, c);
+    let hedge = past_list(text, vedge);
+    let sqw = past_list(text, hedge);
+    let sqh = past_list(text, sqw);
+    past_list(text, sqh)
+}
+
+// What follows the planes and both grids.
+pub fn past_lists(text: &[u8], c: Cursor) -> Cursor {
+    let y = past_list(text, c);
+    let u = past_list(text, y);
+    let v = past_list(text, u);
+    past_grid(text, past_grid(text, v))
+}

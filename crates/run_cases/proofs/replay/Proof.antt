@@ -7,6 +7,15 @@ use Rattle.run_cases.proofs.replay.Tie as tie
 read-unsigned-requires : tie.Need-read-unsigned-requires
 read-unsigned-requires c κs = search needs
 
+begin-requires : tie.Need-begin-requires
+begin-requires c κs = search needs
+
+returns : tie.Need-returns
+returns c = search needs
+
+has-tables-requires : tie.Need-has-tables-requires
+has-tables-requires c κs = search needs
+
 set-steps-requires : tie.Need-set-steps-requires
 set-steps-requires c κs = search needs
 
@@ -16,29 +25,20 @@ no-case-requires c κs = search needs
 same-length : tie.Need-same-length
 same-length c = search needs
 
-returns : tie.Need-returns
-returns c = search needs
-
-replay-requires : tie.Need-replay-requires
-replay-requires c κs = search needs
-
 returns-2 : tie.Need-returns-2
 returns-2 c = search needs
-
-unread-requires : tie.Need-unread-requires
-unread-requires c κs = search needs
 
 returns-3 : tie.Need-returns-3
 returns-3 c = search needs
 
-slice-reshare-prefix-replay : tie.Need-slice-reshare-prefix-replay
-slice-reshare-prefix-replay c = search needs
+slice-reshare-prefix-replay-case : tie.Need-slice-reshare-prefix-replay-case
+slice-reshare-prefix-replay-case c = search needs
 
-slice-aggregate-replay : tie.Need-slice-aggregate-replay
-slice-aggregate-replay c = front _ _ (search needs)
+slice-aggregate-replay-case : tie.Need-slice-aggregate-replay-case
+slice-aggregate-replay-case c = front _ _ (search needs)
 
-replay-requires-2 : tie.Need-replay-requires-2
-replay-requires-2 c κs = search needs
+replay-case-requires : tie.Need-replay-case-requires
+replay-case-requires c κs = search needs
 
 same-length-2 : tie.Need-same-length-2
 same-length-2 c = search needs
@@ -51,16 +51,16 @@ replay-spec =
     tie.close
     (tie.spec
     read-unsigned-requires
+    begin-requires
+    returns
+    has-tables-requires
     set-steps-requires
     no-case-requires
     same-length
-    returns
-    replay-requires
     returns-2
-    unread-requires
     returns-3
-    slice-reshare-prefix-replay
-    slice-aggregate-replay
-    replay-requires-2
+    slice-reshare-prefix-replay-case
+    slice-aggregate-replay-case
+    replay-case-requires
     same-length-2
     returns-4)
