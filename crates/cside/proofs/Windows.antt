@@ -1,15 +1,17 @@
 -- One segment as C is answered it: from the lone segment's answer and plane on the samples that the bytes hold.
 -- Assumes nothing.
 use mathlib.Core.Path.{_≡_, refl, sym, ap, ap₂, _∙_}
-use mathlib.Core.Bool.{true, false}
+use mathlib.Core.Bool.{Bool, true, false, not}
 use mathlib.Core.List.{List}
 use Prim.Native.Nat.{ℕ, _≤_, _<_}
 use native.Mathlib.Omega.{arith}
+use borrow.Author.Needs.{needs}
 use borrow.Author.Tests.{eq-eqb, ne-eqb}
 use lib.ListN.{length}
 use lib.IntN.{ℤ, pos, negℤ}
 use mir.Syntax.{w32}
 use mir.Val.{toZ, ofZ}
+use Rattle.laws.specs.Choose.{told-yes-not, told-no-not}
 use Rattle.rules.specs.declared.settings.Lone.{Lone}
 use Rattle.rules.specs.declared.refusals.Refusal.{Refusal}
 use Rattle.rules.specs.declared.refusals.Refusal.the-variants.{Depth, Length}
@@ -60,54 +62,62 @@ module _ (depth pair q side : ℕ) (bytes : List ℕ) where
     counts-are = t ∙ ap₂ (λ (s c : ℕ). tallied s c counts) (settle-refused _ _ _ a) (settle-refused _ _ _ a);
   }
 
-  pub bad-depth : {z : ℤ} {counts tally : List ℕ} → z ≡ negℤ (pos (numberOf Depth)) → tally ≡ tallied 0 0 counts → false ≡ depthOk depth
-      → SegmentTold depth pair q side bytes counts (toZ w32 (ofZ w32 z)) bytes tally
-  unfolding cSegmentCheck
-  bad-depth f t e = refused-told (stop _ _ (unless-bad _ _ e)) f t
+  module _ {u : Bool} (asked : u ≡ depthOk depth) where
+    pub bad-depth : {z : ℤ} {counts put : List ℕ} → not u ≡ true → z ≡ negℤ (pos (numberOf Depth)) → put ≡ tallied 0 0 counts → SegmentTold depth pair q side bytes counts (toZ w32 (ofZ w32 z)) bytes put
+    unfolding cSegmentCheck
+    bad-depth bad f none = refused-told (stop _ _ (unless-bad _ _ (told-no-not _ _ asked bad))) f none
 
-  pub bad-length : {z : ℤ} {counts tally : List ℕ} → z ≡ negℤ (pos (numberOf Length)) → tally ≡ tallied 0 0 counts → true ≡ depthOk depth → (length bytes ≡ 144 → ⊥)
-      → SegmentTold depth pair q side bytes counts (toZ w32 (ofZ w32 z)) bytes tally
-  unfolding cSegmentCheck
-  bad-length f t e n = refused-told (go-on _ _ _ (unless-good _ _ e) (stop _ _ (unless-bad _ _ (sym (ne-eqb _ _ n))))) f t
+    module _ (yes : not u ≡ false) where
+      deep : true ≡ depthOk depth
+      deep = told-yes-not _ _ asked yes
 
-  module _ (d : true ≡ depthOk depth) (long : length bytes ≡ 144) where
-    -- the C side's check is the lone segment's where depth and length are good
-    check-is : (a : Answer) → a ≡ loneCheck (windowEdge depth pair q side) (samplesIn bytes) → a ≡ cSegmentCheck depth pair q side bytes
-    unfolding cSegmentCheck orElse unless
-    check-is a e = rw (← d, eq-eqb _ _ long) e
+      pub bad-length : {z : ℤ} {counts put : List ℕ} → (length bytes ≡ 144 → ⊥) → z ≡ negℤ (pos (numberOf Length)) → put ≡ tallied 0 0 counts → SegmentTold depth pair q side bytes counts (toZ w32 (ofZ w32 z)) bytes put
+      unfolding cSegmentCheck
+      bad-length n f none = refused-told (go-on _ _ _ (unless-good _ _ deep) (stop _ _ (unless-bad _ _ (sym (ne-eqb _ _ n))))) f none
 
-    module _ {l m : List ℕ} {a : LoneAnswer} {s : Lone} (samples : l ≡ samplesIn bytes) (edge : s ≡ windowEdge depth pair q side) (stated : Stated s l a m) where
-      here : Stated (windowEdge depth pair q side) (samplesIn bytes) a m
-      here = rw (edge, samples) at stated
+      module _ (long : length bytes ≡ 144) where
+        -- the C side's check is the lone segment's where depth and length are good
+        check-is : (a : Answer) → a ≡ loneCheck (windowEdge depth pair q side) (samplesIn bytes) → a ≡ cSegmentCheck depth pair q side bytes
+        unfolding cSegmentCheck orElse unless
+        check-is a e = rw (← deep, eq-eqb _ _ long) e
 
-      parts : {n : ℕ} → a .width ≡ Samples n → (Accepted ≡ loneCheck (windowEdge depth pair q side) (samplesIn bytes)) × (n ≡ widthAt 18 (edgeOf (windowEdge depth pair q side)) (samplesIn bytes))
-      unfolding loneWidth
-      parts e = from-samples _ _ (sym e ∙ here .width)
+        module _ {l m : List ℕ} {a : LoneAnswer} {s : Lone} (samples : l ≡ samplesIn bytes) (edge : s ≡ windowEdge depth pair q side) (stated : Stated s l a m) where
+          here : Stated (windowEdge depth pair q side) (samplesIn bytes) a m
+          here = rw (edge, samples) at stated
 
-      pub width-range : {n : ℕ} → a .width ≡ Samples n → n ≤ 8
-      unfolding edgeOf
-      width-range e =
-          let p = parts e in
-          let h = passed _ _ (sym (p .0)) .inside .pair-is in
-          omega (arith, p .1, width-most depth pair q side (samplesIn bytes) h)
+          parts : {n : ℕ} → a .width ≡ Samples n → (Accepted ≡ loneCheck (windowEdge depth pair q side) (samplesIn bytes)) × (n ≡ widthAt 18 (edgeOf (windowEdge depth pair q side)) (samplesIn bytes))
+          unfolding loneWidth
+          parts e = from-samples _ _ (sym e ∙ here .width)
 
-      -- at the way out with a width: the number that the machine holds, the bytes of what the segment left, and its counts
-      pub told-width : {n : ℕ} {z : ℤ} {after counts put tally : List ℕ} → a .width ≡ Samples n → z ≡ pos n → after ≡ bytesOf m → put ≡ tallied 0 0 counts → tally ≡ tallied (a .stored) (a .changed) put
-          → SegmentTold depth pair q side bytes counts (toZ w32 (ofZ w32 z)) after tally
-      unfolding cSegment cWindow cStored cChanged
-      told-width {n} {z} {after} {counts} e f g t u =
-          let p = parts e in
-          let ok = check-is Accepted (p .0) in
-          record {
-            answer = held z n f (omega (arith, width-range e)) ∙ answer-accepted _ _ ok (p .1);
-            window-is = g ∙ settle-accepted _ _ _ (bytesOf m) ok (ap bytesOf (here .plane));
-            counts-are =
-                u ∙ ap (tallied (a .stored) (a .changed)) t ∙ tallied-last _ _ _ _ counts
-                ∙ ap₂ (λ (s c : ℕ). tallied s c counts) (settle-accepted _ _ _ _ ok (here .stored)) (settle-accepted _ _ _ _ ok (here .changed));
-          }
+          width-few : {n : ℕ} → a .width ≡ Samples n → n ≤ 8
+          unfolding edgeOf
+          width-few e =
+              let p = parts e in
+              let h = passed _ _ (sym (p .0)) .inside .pair-is in
+              omega (arith, p .1, width-most depth pair q side (samplesIn bytes) h)
 
-      -- at the way out with a refusal
-      pub told-refused : {r : Refusal} {z : ℤ} {counts tally : List ℕ} → a .width ≡ «NoWidth» r → z ≡ negℤ (pos (numberOf r)) → tally ≡ tallied 0 0 counts
-          → SegmentTold depth pair q side bytes counts (toZ w32 (ofZ w32 z)) bytes tally
-      unfolding loneWidth
-      told-refused {r} e f t = refused-told (check-is (Refused r) (from-refused _ _ (sym e ∙ here .width))) f t
+          -- the width is a number that C's answer holds
+          pub width-range : {n : ℕ} → a .width ≡ Samples n → n < 2147483648
+          width-range e = omega (arith, width-few e)
+
+          -- at the way out with a width: the number that the machine holds, the bytes of what the segment left, and its counts
+          pub told-width : {n : ℕ} {z : ℤ} {after counts put tally : List ℕ} → a .width ≡ Samples n → z ≡ pos n → after ≡ bytesOf m → put ≡ tallied 0 0 counts → tally ≡ tallied (a .stored) (a .changed) put
+              → SegmentTold depth pair q side bytes counts (toZ w32 (ofZ w32 z)) after tally
+          unfolding cSegment cWindow cStored cChanged
+          told-width {n} {z} {after} {counts} e f g none t =
+              let p = parts e in
+              let ok = check-is Accepted (p .0) in
+              record {
+                answer = held z n f (width-range e) ∙ answer-accepted _ _ ok (p .1);
+                window-is = g ∙ settle-accepted _ _ _ (bytesOf m) ok (ap bytesOf (here .plane));
+                counts-are =
+                    t ∙ ap (tallied (a .stored) (a .changed)) none ∙ tallied-last _ _ _ _ counts
+                    ∙ ap₂ (λ (s c : ℕ). tallied s c counts) (settle-accepted _ _ _ _ ok (here .stored)) (settle-accepted _ _ _ _ ok (here .changed));
+              }
+
+          -- at the way out with a refusal
+          pub told-refused : {r : Refusal} {z : ℤ} {counts put : List ℕ} → a .width ≡ «NoWidth» r → z ≡ negℤ (pos (numberOf r)) → put ≡ tallied 0 0 counts → SegmentTold depth pair q side bytes counts (toZ w32 (ofZ w32 z)) bytes put
+          unfolding loneWidth
+          told-refused {r} e f none = refused-told (check-is (Refused r) (from-refused _ _ (sym e ∙ here .width))) f none
+
+pub ruleset windows = (needs, bad-depth, bad-length, width-range, told-width, told-refused)

@@ -1,9 +1,5 @@
 -- `bihargesh_segment` answers, leaves the window and counts as document 01's C side and ticket 4 say. Assumes nothing.
-use mathlib.Core.Path.{sym, _∙_}
-use native.Mathlib.Omega.{arith}
-use borrow.Author.Needs.{needs}
-use borrow.Author.Tests.{not-true, not-false}
-use Rattle.cside.proofs.Windows.{bad-depth, bad-length, width-range, told-width, told-refused}
+use Rattle.cside.proofs.Windows.{windows as needs}
 use Rattle.cside.proofs.window.bihargesh_segment.Statement.{statement}
 use Rattle.cside.proofs.window.bihargesh_segment.Tie as tie
 
@@ -20,7 +16,7 @@ same-length : tie.Need-same-length
 same-length c = search needs
 
 returns : tie.Need-returns
-returns c = bad-depth _ _ _ _ _ (c .minus .ensures) (c .before .before .before .before .before .put-counts .ensures) (sym (not-true _ (c .before .if1 .taken)) ∙ c .before .before .is .ensures)
+returns c = search needs
 
 minus-requires-2 : tie.Need-minus-requires-2
 minus-requires-2 c κs = search needs
@@ -29,7 +25,7 @@ same-length-2 : tie.Need-same-length-2
 same-length-2 c = search needs
 
 returns-2 : tie.Need-returns-2
-returns-2 c = bad-length _ _ _ _ _ (c .minus2 .ensures) (c .before .before .before .before .before .before .put-counts .ensures) (sym (not-false _ (c .before .before .if1 .left)) ∙ c .before .before .before .is .ensures) (c .before .if2 .taken)
+returns-2 c = search needs
 
 samples-requires : tie.Need-samples-requires
 samples-requires c κs = search needs
@@ -53,22 +49,7 @@ put-counts-requires-2 : tie.Need-put-counts-requires-2
 put-counts-requires-2 c κs = search needs
 
 count-requires : tie.Need-count-requires
-count-requires c κs =
-    let way = c .before .before .before .before .before .before .before .before .before .before in
-    let filtered = way .before .before .before in
-    let edged = filtered .before .before in
-    let read = edged .before in
-    let long = read .before .before in
-    omega (
-      arith,
-      width-range _ _ _ _ _
-          (sym (not-false _ (long .before .if1 .left)) ∙ long .before .before .is .ensures)
-          (long .if2 .left)
-          (read .samples .ensures)
-          (edged .edge .ensures)
-          (filtered .filter-lone .ensures)
-          (way .w .given .1),
-    )
+count-requires c κs = search needs
 
 enum-known-w-2 : tie.Need-enum-known-w-2
 enum-known-w-2 c = search needs
@@ -83,25 +64,7 @@ same-length-4 : tie.Need-same-length-4
 same-length-4 c = search needs
 
 returns-3 : tie.Need-returns-3
-returns-3 c =
-    let counted = c .before .before .before in
-    let put = counted .before .before .before .before in
-    let way = put .before .before .before .before in
-    let filtered = way .before .before .before in
-    let edged = filtered .before .before in
-    let read = edged .before in
-    let long = read .before .before in
-    told-width _ _ _ _ _
-    (sym (not-false _ (long .before .if1 .left)) ∙ long .before .before .is .ensures)
-    (long .if2 .left)
-    (read .samples .ensures)
-    (edged .edge .ensures)
-    (filtered .filter-lone .ensures)
-    (way .w .given .1)
-    (c .count .ensures)
-    (put .put-samples .ensures)
-    (long .before .before .before .before .before .put-counts .ensures)
-    (counted .put-counts2 .ensures)
+returns-3 c = search needs
 
 same-length-5 : tie.Need-same-length-5
 same-length-5 c = search needs
@@ -110,21 +73,7 @@ same-length-6 : tie.Need-same-length-6
 same-length-6 c = search needs
 
 returns-4 : tie.Need-returns-4
-returns-4 c =
-    let way = c .before .before in
-    let filtered = way .before .before .before in
-    let edged = filtered .before .before in
-    let read = edged .before in
-    let long = read .before .before in
-    told-refused _ _ _ _ _
-    (sym (not-false _ (long .before .if1 .left)) ∙ long .before .before .is .ensures)
-    (long .if2 .left)
-    (read .samples .ensures)
-    (edged .edge .ensures)
-    (filtered .filter-lone .ensures)
-    (way .w2 .given .1)
-    (c .minus3 .ensures)
-    (long .before .before .before .before .before .put-counts .ensures)
+returns-4 c = search needs
 
 pub bihargesh-segment-spec : {M : Type 1} → statement M
 bihargesh-segment-spec =
