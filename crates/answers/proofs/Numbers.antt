@@ -23,7 +23,7 @@ use Rattle.rules.specs.Record.{answerBytes}
 use Rattle.rules.specs.CSide.{cAnswer}
 use Rattle.rules.proofs.Numbered.{number-most}
 use Rattle.checks.proofs.Checks.{stop, go-on, unless-bad, unless-good, settle-refused}
-use Rattle.answers.specs.Told.{placed, tallied, Counted, Told, Few, refusalIn, bytesIn, listed, Handed, Reported, Filtered, FilterTold}
+use Rattle.answers.specs.Told.{placed, tallied, Counted, Told, Few, refusalIn, bytesIn, listed, Reported, FilterTold}
 
 -- a count that the machine holds
 pub held : (z : ℤ) (n : ℕ) → z ≡ pos n → n < 2147483648 → toZ w32 (ofZ w32 z) ≡ pos n
@@ -111,6 +111,11 @@ counted-on {a} {b} {m} {n} {lent} {place} {z} e f h t =
 pub told-by : {a b : Answer} {lent place : List ℕ} {z : ℤ} → a ≡ b → Told a lent z place → Told b lent (toZ w32 (ofZ w32 z)) place
 told-by e t = counted-on e refl (omega arith) t
 
+-- a refusal of the settings' own list, where the check's answer would be a count
+pub refused-by : {b : Answer} (n : ℕ) {r : Refusal} {lent place : List ℕ} {z : ℤ} → Refused r ≡ b → Told (Refused r) lent z place → Counted b n lent (toZ w32 (ofZ w32 z)) place
+unfolding cAnswer
+refused-by n {r} {z = z} e t = rw (← e) (record { answer = held-minus z r (t .answer); place-is = t .place-is })
+
 -- ---- a record's bytes
 
 pub bytes-told : {a : Recorded} (lent : List ℕ) {n : ℕ} {z : ℤ} → Few a → a ≡ Bytes n → z ≡ pos n → Counted (refusalIn a) (bytesIn a) lent (toZ w32 (ofZ w32 z)) lent
@@ -132,15 +137,15 @@ counted-by {a} (Refused r) n {lent} {place} {z} e few t =
     let u : Counted (Refused r) 0 lent z place = rw e at t in
     record { answer = held-minus z r (u .answer); place-is = u .place-is }
 
--- ---- what is left of the lent lists
+-- ---- what is left of the lent lists, told to C
 
-module _ {A : Type 0} {check : Answer} (lent new : A) where
-  pub handed-refused : {r : Refusal} → Refused r ≡ check → Handed check lent new (Refused r) lent
-  handed-refused e = record { answer = e; left-is = settle-refused _ _ _ e }
+module _ {A : Type 0} {check : Answer} (lent new : A) {p q : List ℕ} {z : ℤ} where
+  pub reported-refused : {r : Refusal} → Refused r ≡ check → Told (Refused r) p z q → Reported check lent new p (toZ w32 (ofZ w32 z)) lent q
+  reported-refused e t = record { told = told-by e t; left-is = settle-refused _ _ _ e }
 
   -- by a check of the entry's own
-  pub handed-on : {own a : Answer} {left : A} → own ≡ check → a ≡ own → left ≡ settle own lent new → Handed check lent new a left
-  handed-on e f g = record { answer = f ∙ e; left-is = g ∙ ap (λ (x : Answer). settle x lent new) e }
+  pub reported-on : {own a : Answer} {left : A} → own ≡ check → a ≡ own → left ≡ settle own lent new → Told a p z q → Reported check lent new p (toZ w32 (ofZ w32 z)) left q
+  reported-on e f g t = record { told = told-by (f ∙ e) t; left-is = g ∙ ap (λ (x : Answer). settle x lent new) e }
 
 -- two lists that are left by one check
 pub settled : {A B : Type 0} (check : Answer) (a b : A) (c d : B) {m : A} {n : B} → m ≡ settle check a b → n ≡ settle check c d → _≡_ {A = A × B} (m, n) (settle check (a, c) (b, d))
@@ -148,41 +153,34 @@ unfolding settle
 settled Accepted a b c d e f = cc
 settled (Refused r) a b c d e f = cc
 
--- told to C
-pub reported : {A : Type 0} {check a : Answer} {lent new left : A} {p q : List ℕ} {z : ℤ} → Handed check lent new a left → Told a p z q → Reported check lent new p (toZ w32 (ofZ w32 z)) left q
-reported d t = record { told = told-by (d .answer) t; left-is = d .left-is }
-
 -- a settings list: too short, and long enough
-module _ {A : Type 0} (n : ℕ) (settings : List ℤ) (check : Answer) (lent new : A) where
-  pub short : length settings < n → Handed (listed n settings check) lent new (Refused Length) lent
+module _ (n : ℕ) (settings : List ℤ) (check : Answer) where
+  pub short-is : length settings < n → Refused Length ≡ listed n settings check
   unfolding listed
-  short h = handed-refused lent new (stop _ _ (unless-bad _ _ (not-le n (length settings) h)))
+  short-is h = stop _ _ (unless-bad _ _ (not-le n (length settings) h))
 
   pub long-is : n ≤ length settings → check ≡ listed n settings check
   unfolding listed
   long-is h = go-on _ _ _ (unless-good _ _ (is-le n (length settings) h)) refl
 
-  pub long : n ≤ length settings → {a : Answer} {left : A} → a ≡ check → left ≡ settle check lent new → Handed (listed n settings check) lent new a left
-  long h e f = handed-on lent new (long-is h) e f
+  module _ {A : Type 0} (lent new : A) {p q : List ℕ} {z : ℤ} where
+    pub short : length settings < n → Told (Refused Length) p z q → Reported (listed n settings check) lent new p (toZ w32 (ofZ w32 z)) lent q
+    short h t = reported-refused lent new (short-is h) t
+
+    pub long : n ≤ length settings → {a : Answer} {left : A} → a ≡ check → left ≡ settle check lent new → Told a p z q → Reported (listed n settings check) lent new p (toZ w32 (ofZ w32 z)) left q
+    long h e f t = reported-on lent new (long-is h) e f t
 
 -- ---- counts beside an answer
 
--- a refusal with none
-abbrev pub none : Refusal → PlaneAnswer
-none r = record { answer = Refused r; stored = 0; changed = 0 }
-
-module _ {A : Type 0} {check : Answer} (lent new : A) (stored changed : ℕ) where
-  pub filtered-refused : {r : Refusal} → Refused r ≡ check → Filtered check lent new stored changed (none r) lent
-  filtered-refused e = record { handed = handed-refused lent new e; stored-is = settle-refused _ _ _ e; changed-is = settle-refused _ _ _ e }
+module _ {A : Type 0} {check : Answer} (lent new : A) (stored changed : ℕ) {p q k m : List ℕ} {z : ℤ} where
+  pub filter-refused : {r : Refusal} → Refused r ≡ check → Told (Refused r) p z q × (m ≡ tallied 0 0 k) → FilterTold check lent new stored changed p k (toZ w32 (ofZ w32 z)) lent q m
+  filter-refused e t = record { reported = reported-refused lent new e (t .0); counts-are = t .1 ∙ ap₂ (λ (s c : ℕ). tallied s c k) (settle-refused _ _ _ e) (settle-refused _ _ _ e) }
 
   -- those of a check of the entry's own
-  pub filtered-on : {own : Answer} {a : PlaneAnswer} {left : A} → own ≡ check → a .answer ≡ own → left ≡ settle own lent new → a .stored ≡ settle own 0 stored → a .changed ≡ settle own 0 changed → Filtered check lent new stored changed a left
-  filtered-on e f g s c =
-      record { handed = handed-on lent new e f g; stored-is = s ∙ ap (λ (x : Answer). settle x 0 stored) e; changed-is = c ∙ ap (λ (x : Answer). settle x 0 changed) e }
-
--- told to C
-pub filter-told : {A : Type 0} {check : Answer} {a : PlaneAnswer} {lent new left : A} {stored changed : ℕ} {p q k m : List ℕ} {z : ℤ}
-    → Filtered check lent new stored changed a left
-    → Told (a .answer) p z q × (m ≡ tallied (a .stored) (a .changed) k)
-    → FilterTold check lent new stored changed p k (toZ w32 (ofZ w32 z)) left q m
-filter-told {k = k} d t = record { reported = reported (d .handed) (t .0); counts-are = t .1 ∙ ap₂ (λ (s c : ℕ). tallied s c k) (d .stored-is) (d .changed-is) }
+  pub filter-on : {own : Answer} {a : PlaneAnswer} {left : A} → own ≡ check → a .answer ≡ own → left ≡ settle own lent new → a .stored ≡ settle own 0 stored → a .changed ≡ settle own 0 changed
+      → Told (a .answer) p z q × (m ≡ tallied (a .stored) (a .changed) k)
+      → FilterTold check lent new stored changed p k (toZ w32 (ofZ w32 z)) left q m
+  filter-on e f g s c t = record {
+    reported = reported-on lent new e f g (t .0);
+    counts-are = t .1 ∙ ap₂ (λ (s c : ℕ). tallied s c k) (s ∙ ap (λ (x : Answer). settle x 0 stored) e) (c ∙ ap (λ (x : Answer). settle x 0 changed) e);
+  }

@@ -1,12 +1,11 @@
--- Two results that a statement allows are equal: what C is told, what an entry hands back, both together, and with counts.
+-- Two results that a statement allows are equal: what C is told, with what is left of the lent lists, and with counts.
 -- Assumes nothing.
 use mathlib.Core.Path.{_≡_, sym, _∙_}
 use mathlib.Core.List.{List}
 use Prim.Native.Nat.{ℕ}
 use lib.IntN.{ℤ}
 use Rattle.rules.specs.declared.refusals.Answer.{Answer}
-use Rattle.rules.specs.declared.refusals.PlaneAnswer.{PlaneAnswer}
-use Rattle.answers.specs.Told.{Counted, Told, Handed, Reported, Filtered, FilterTold}
+use Rattle.answers.specs.Told.{Counted, Told, Reported, FilterTold}
 
 pub counted-unique : {a : Answer} {count : ℕ} {lent : List ℕ} {n m : ℤ} {p q : List ℕ} → Counted a count lent n p → Counted a count lent m q → (n ≡ m) × (p ≡ q)
 counted-unique t u = (t .answer ∙ sym (u .answer), t .place-is ∙ sym (u .place-is))
@@ -15,21 +14,12 @@ pub told-unique : {a : Answer} {lent : List ℕ} {n m : ℤ} {p q : List ℕ} �
 told-unique = counted-unique
 
 module _ {A : Type 0} {check : Answer} {lent new : A} where
-  pub handed-unique : {a b : Answer} {l m : A} → Handed check lent new a l → Handed check lent new b m → (a ≡ b) × (l ≡ m)
-  handed-unique t u = (t .answer ∙ sym (u .answer), t .left-is ∙ sym (u .left-is))
-
   pub reported-unique : {place : List ℕ} {n m : ℤ} {k l : A} {p q : List ℕ} → Reported check lent new place n k p → Reported check lent new place m l q → (n ≡ m) × (k ≡ l) × (p ≡ q)
   reported-unique t u =
       let e = told-unique (t .told) (u .told) in
       (e .0, t .left-is ∙ sym (u .left-is), e .1)
 
   module _ {stored changed : ℕ} where
-    pub filtered-unique : {a b : PlaneAnswer} {l m : A} → Filtered check lent new stored changed a l → Filtered check lent new stored changed b m
-        → (a .answer ≡ b .answer) × (l ≡ m) × (a .stored ≡ b .stored) × (a .changed ≡ b .changed)
-    filtered-unique t u =
-        let e = handed-unique (t .handed) (u .handed) in
-        (e .0, e .1, t .stored-is ∙ sym (u .stored-is), t .changed-is ∙ sym (u .changed-is))
-
     pub filter-told-unique : {place counts : List ℕ} {n m : ℤ} {k l : A} {p q s t : List ℕ}
         → FilterTold check lent new stored changed place counts n k p s
         → FilterTold check lent new stored changed place counts m l q t

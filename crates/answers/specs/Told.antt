@@ -9,7 +9,6 @@ use lib.IntN.{ℤ}
 use Rattle.rules.specs.declared.refusals.Refusal.the-variants.{Length}
 use Rattle.rules.specs.declared.refusals.Answer.{Answer}
 use Rattle.rules.specs.declared.refusals.Answer.the-variants.{Accepted, Refused}
-use Rattle.rules.specs.declared.refusals.PlaneAnswer.{PlaneAnswer}
 use Rattle.rules.specs.declared.refusals.Recorded.{Recorded}
 use Rattle.rules.specs.declared.refusals.Recorded.the-variants.{Bytes, Refused as «NoRecord»}
 use Rattle.rules.specs.Refusals.{placeRefused, orElse, unless, settle}
@@ -50,25 +49,14 @@ Few a = (n : ℕ) → a ≡ Bytes n → n ≤ 20971525
 unfoldable pub listed : ℕ → List ℤ → Answer → Answer
 listed n settings check = orElse (unless (leb n (length settings)) Length) check
 
--- the answer a is the check's, and what was lent is left as it was or new
-pub record Handed {A : Type 0} (check : Answer) (lent new : A) (a : Answer) (left : A) : Type 0 where
-  pub answer : a ≡ check
-  pub left-is : left ≡ settle check lent new
-
--- the same told to C
+-- what C is told of the check, and what was lent is left as it was or new
 pub record Reported {A : Type 0} (check : Answer) (lent new : A) (place : List ℕ) (n : ℤ) (left : A) (placed : List ℕ) : Type 0 where
   pub told : Told check place n placed
   pub left-is : left ≡ settle check lent new
 
 -- ---- ticket 4: "A refusal reports zero for both."
 
--- what an entry that filters hands back: stored and changed are its counts where it is accepted
-pub record Filtered {A : Type 0} (check : Answer) (lent new : A) (stored changed : ℕ) (a : PlaneAnswer) (left : A) : Type 0 where
-  pub handed : Handed check lent new (a .answer) left
-  pub stored-is : a .stored ≡ settle check 0 stored
-  pub changed-is : a .changed ≡ settle check 0 changed
-
--- the same told to C
+-- the same of an entry that filters: stored and changed are its counts where it is accepted
 pub record FilterTold {A : Type 0} (check : Answer) (lent new : A) (stored changed : ℕ) (place counts : List ℕ) (n : ℤ) (left : A) (placed tally : List ℕ) : Type 0 where
   pub reported : Reported check lent new place n left placed
   pub counts-are : tally ≡ tallied (settle check 0 stored) (settle check 0 changed) counts

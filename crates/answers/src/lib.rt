@@ -11,6 +11,7 @@ ghost use mathlib.Core.Path.{_≡_};
 ghost use Prim.Native.Nat.{_+_, _*_, _≤_, _<_};
 ghost use lib.IntN.{pos, negℤ};
 ghost use lib.ListN.{set};
+ghost use Rattle.rules.specs.declared.refusals.Answer.the-variants.{Refused};
 ghost use Rattle.rules.specs.Refusals.{numberOf};
 ghost use Rattle.answers.specs.Told.{Told, Counted, Few, bytesIn, refusalIn, tallied};
 
@@ -58,6 +59,14 @@ pub fn told(a: Answer, place: &mut [usize]) -> i32
     ensures { λ n. ⌜ Told a (now (place .entry)) n (now (place .exit)) ⌝ }
 {
     told_count(a, 0, place)
+}
+
+// A refusal of the settings' own list: minus its number, its place put into a list, and counts of none into another.
+pub fn told_refusal(r: Refusal, place: &mut [usize], counts: &mut [usize]) -> i32
+    ensures { λ n. ⌜ Told (Refused r) (now (place .entry)) n (now (place .exit)) × (now (counts .exit) ≡ tallied 0 0 (now (counts .entry))) ⌝ }
+{
+    put_counts(counts, 0, 0);
+    told(Answer::Refused(r), place)
 }
 
 // How many bytes a record takes, or minus the number of a refusal, whose place is put into a list.

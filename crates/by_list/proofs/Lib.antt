@@ -1,4 +1,2 @@
-pub mod Done
-pub mod Recorded
-pub mod Unique
+pub mod Lists
 pub mod Records

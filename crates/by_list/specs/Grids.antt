@@ -1,11 +1,11 @@
--- What a TU grid's entries hand back and tell C: its four lists and its keep marks.
+-- What a TU grid's entries tell C: its four lists and its keep marks.
 -- Assumes nothing.
 use mathlib.Core.List.{List}
 use Prim.Native.Nat.{ℕ, _*_}
 use lib.IntN.{ℤ}
 use Rattle.rules.specs.declared.refusals.Answer.{Answer}
 use Rattle.rules.specs.TuGrid.{Marks, clearOf, txGridCheck, txGridOf}
-use Rattle.answers.specs.Told.{listed, Handed, Reported}
+use Rattle.answers.specs.Told.{listed, Reported}
 use Rattle.numbers.specs.Settings.{tuGridOf}
 
 abbrev pub cGridCheck : List ℤ → List ℕ → List ℕ → Marks → List ℕ → Answer
@@ -17,12 +17,7 @@ cGridOf settings leaves skips g k =
     let s = tuGridOf settings in
     (txGridOf s leaves skips g, clearOf (s .rows * s .cols) k)
 
--- what is handed back of lists g and keep marks k: the answer a, the lists m and the keep marks n
-abbrev pub GridHanded : List ℤ → List ℕ → List ℕ → Marks → List ℕ → Answer → Marks → List ℕ → Type 0
-GridHanded settings leaves skips g k a m n =
-    Handed (cGridCheck settings leaves skips g k) (g, k) (cGridOf settings leaves skips g k) a (m, n)
-
--- the same told to C
+-- what C is told of lists g and keep marks k: the answer r, the lists m and the keep marks n
 abbrev pub GridTold : List ℤ → List ℕ → List ℕ → Marks → List ℕ → List ℕ → ℤ → Marks → List ℕ → List ℕ → Type 0
 GridTold settings leaves skips g k place r m n placed =
     Reported (cGridCheck settings leaves skips g k) (g, k) (cGridOf settings leaves skips g k) place r (m, n) placed

@@ -1,4 +1,4 @@
--- What a plane's entries hand back and tell C: alone, with its record, and of a record that is run again.
+-- What a plane's entries tell C: alone, with its record, and of a record that is run again.
 -- Assumes nothing.
 use mathlib.Core.Path.{_≡_}
 use mathlib.Core.List.{List}
@@ -8,17 +8,15 @@ use lib.ListN.{length}
 use lib.IntN.{ℤ}
 use Rattle.rules.specs.declared.refusals.Refusal.the-variants.{Depth, Size}
 use Rattle.rules.specs.declared.refusals.Answer.{Answer}
-use Rattle.rules.specs.declared.refusals.PlaneAnswer.{PlaneAnswer}
-use Rattle.rules.specs.declared.refusals.RecordAnswer.{RecordAnswer}
 use Rattle.rules.specs.Numbers.{depthOk, topOf}
 use Rattle.rules.specs.Refusals.{orElse, unless, settle}
 use Rattle.rules.specs.Segment.{keptIn}
 use Rattle.rules.specs.Counts.{storedBy, changedBy}
 use Rattle.rules.specs.Plane.{Grid, edgesOf, planeCheck, runPlane, runStored, runChanged}
-use Rattle.rules.specs.Record.{edgesIn, recordOf, bufferAfter, recordedCheck, answerBytes}
+use Rattle.rules.specs.Record.{edgesIn, recordOf, bufferAfter, recordedCheck}
 use Rattle.rules.specs.Replay.{replayCheck, replayOf}
 use Rattle.replay.specs.Fit.{inWord}
-use Rattle.answers.specs.Told.{listed, tallied, Counted, Few, Filtered, FilterTold}
+use Rattle.answers.specs.Told.{listed, tallied, Counted, FilterTold}
 use Rattle.numbers.specs.Settings.{countAt, planeOf, replaySettings}
 
 -- a chroma other than 0 and 1 is refused by 2, after 1 as in document 01's order
@@ -28,13 +26,7 @@ listCheck settings = listed 11 settings (orElse (unless (depthOk (countAt settin
 unfoldable pub cPlaneCheck : List ℤ → List ℕ → Grid → List ℕ → Answer
 cPlaneCheck settings steps g l = orElse (listCheck settings) (planeCheck (planeOf settings) steps g l)
 
--- what is handed back: the answer a and the plane m
-abbrev pub PlaneHanded : List ℤ → List ℕ → Grid → List ℕ → PlaneAnswer → List ℕ → Type 0
-PlaneHanded settings steps g l a m =
-    let s = planeOf settings in
-    Filtered (cPlaneCheck settings steps g l) l (runPlane s steps g l) (runStored s steps g l) (runChanged s steps g l) a m
-
--- the same told to C
+-- what C is told: the answer n, and the plane m
 abbrev pub PlaneTold : List ℤ → List ℕ → Grid → List ℕ → List ℕ → List ℕ → ℤ → List ℕ → List ℕ → List ℕ → Type 0
 PlaneTold settings steps g l place counts n m placed tally =
     let s = planeOf settings in
@@ -64,16 +56,7 @@ cRecordStored settings steps g l b = settle (cRecordCheck settings steps g l (le
 unfoldable pub cRecordChanged : List ℤ → List ℕ → Grid → List ℕ → List ℕ → ℕ
 cRecordChanged settings steps g l b = settle (cRecordCheck settings steps g l (length b)) 0 (runChanged (planeOf settings) steps g l)
 
--- what is handed back: the answer a, the plane m and the buffer c
-pub record RecordHanded (settings : List ℤ) (steps : List ℕ) (g : Grid) (l b : List ℕ) (a : RecordAnswer) (m c : List ℕ) : Type 0 where
-  pub answer : a .«record» ≡ answerBytes (cRecordCheck settings steps g l (length b)) (recordLength settings steps g)
-  pub few : Few (a .«record»)
-  pub plane : m ≡ cRecordPlane settings steps g l b
-  pub buffer : c ≡ cRecordBuffer settings steps g l b
-  pub stored : a .stored ≡ cRecordStored settings steps g l b
-  pub changed : a .changed ≡ cRecordChanged settings steps g l b
-
--- the same told to C
+-- what C is told: the answer n, the plane m and the buffer c
 pub record RecordTold (settings : List ℤ) (steps : List ℕ) (g : Grid) (l b place counts : List ℕ) (n : ℤ) (m c placed tally : List ℕ) : Type 0 where
   pub told : Counted (cRecordCheck settings steps g l (length b)) (recordLength settings steps g) place n placed
   pub plane : m ≡ cRecordPlane settings steps g l b
@@ -89,14 +72,7 @@ replayCounts settings bytes keep l =
     let kept = keptIn (s .cols) (s .stride) keep in
     (inWord (storedBy (topOf (s .depth)) (s .stride) kept (edgesIn bytes) l), inWord (changedBy (topOf (s .depth)) (s .stride) kept (edgesIn bytes) l))
 
--- what is handed back: the answer a and the plane m
-abbrev pub ReplayHanded : List ℤ → List ℕ → List ℕ → List ℕ → PlaneAnswer → List ℕ → Type 0
-ReplayHanded settings bytes keep l a m =
-    let s = replaySettings settings in
-    let k = replayCounts settings bytes keep l in
-    Filtered (listed 4 settings (replayCheck s bytes keep l)) l (replayOf s bytes keep l) (k .0) (k .1) a m
-
--- the same told to C
+-- what C is told: the answer n, and the plane m
 abbrev pub ReplayTold : List ℤ → List ℕ → List ℕ → List ℕ → List ℕ → List ℕ → ℤ → List ℕ → List ℕ → List ℕ → Type 0
 ReplayTold settings bytes keep l place counts n m placed tally =
     let s = replaySettings settings in

@@ -1,4 +1,4 @@
--- What the entry of keep marks over a rectangle hands back and tells C.
+-- What the entry of keep marks over a rectangle tells C.
 -- Assumes nothing.
 use mathlib.Core.Bool.{Bool}
 use mathlib.Core.List.{List, [], _∷_}
@@ -9,7 +9,7 @@ use Rattle.rules.specs.declared.refusals.Refusal.the-variants.{Size}
 use Rattle.rules.specs.declared.refusals.Answer.{Answer}
 use Rattle.rules.specs.Refusals.{orElse, unless}
 use Rattle.rules.specs.Keep.{keepCheck, keptOf}
-use Rattle.answers.specs.Told.{listed, Handed, Reported}
+use Rattle.answers.specs.Told.{listed, Reported}
 use Rattle.numbers.specs.Settings.{numberAt, isCount, rectangleOf}
 
 -- the rectangle's first row and column, and how many rows and columns it has, are not negative
@@ -23,10 +23,6 @@ rectangleCheck settings = listed 6 settings (unless (rectangleOk settings) Size)
 unfoldable pub cRectangleCheck : List ℤ → List ℕ → Answer
 cRectangleCheck settings k = orElse (rectangleCheck settings) (keepCheck (rectangleOf settings) k)
 
--- what is handed back of keep marks k: the answer a and the keep marks n
-abbrev pub RectangleHanded : List ℤ → List ℕ → Answer → List ℕ → Type 0
-RectangleHanded settings k a n = Handed (cRectangleCheck settings k) k (keptOf (rectangleOf settings) k) a n
-
--- the same told to C
+-- what C is told of keep marks k: the answer r and the keep marks n
 abbrev pub RectangleTold : List ℤ → List ℕ → List ℕ → ℤ → List ℕ → List ℕ → Type 0
 RectangleTold settings k place r n placed = Reported (cRectangleCheck settings k) k (keptOf (rectangleOf settings) k) place r n placed

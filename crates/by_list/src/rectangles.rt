@@ -1,13 +1,11 @@
-// Keep marks over a rectangle of cells, by its settings as a list of numbers.
+// A kept rectangle's settings as a list of six numbers.
 use numbers::is_count;
-use numbers::rectangle_of;
-use rectangle::keep_rectangle;
 use rules::refusals::Answer;
 use rules::refusals::Refusal;
 ghost use mathlib.Core.Path.{_≡_};
 ghost use Prim.Native.Nat.{_≤_};
 ghost use lib.ListN.{length};
-ghost use Rattle.by_list.specs.Rectangles.{rectangleOk, rectangleCheck, RectangleHanded};
+ghost use Rattle.by_list.specs.Rectangles.{rectangleOk, rectangleCheck};
 
 // Whether none of the rectangle's own four numbers is negative.
 fn rectangle_ok(settings: &[i32]) -> bool
@@ -27,7 +25,7 @@ fn rectangle_ok(settings: &[i32]) -> bool
 }
 
 // The first refusal that the list of settings itself gives: too few numbers, and then a negative row, column or size.
-fn rectangle_check(settings: &[i32]) -> Answer
+pub fn rectangle_check(settings: &[i32]) -> Answer
     ensures { λ a. ⌜ a ≡ rectangleCheck (now (settings .entry)) ⌝ }
 {
     if settings.len() < 6 {
@@ -37,16 +35,4 @@ fn rectangle_check(settings: &[i32]) -> Answer
         return Answer::Refused(Refusal::Size);
     }
     Answer::Accepted
-}
-
-// Marks the rectangle's cells as kept, or refuses and leaves all marks as lent.
-pub fn mark(keep: &mut [u8], settings: &[i32]) -> Answer
-    ensures { λ a. ⌜ RectangleHanded (now (settings .entry)) (now (keep .entry)) a (now (keep .exit)) ⌝ }
-{
-    let a = rectangle_check(settings);
-    if let Answer::Refused(r) = a {
-        return Answer::Refused(r);
-    }
-    let s = rectangle_of(settings);
-    keep_rectangle(keep, s)
 }

@@ -1,6 +1,9 @@
 // The gated CCSO offsets for C: their answer as a number, with the place of a refusal.
 use answers::told;
-use by_list::gated_offsets::apply;
+use ccso::apply::apply_edge_gated;
+use numbers::offsets_of;
+use rules::refusals::Answer;
+use rules::refusals::Refusal;
 ghost use Rattle.rules.specs.Ccso.{ccsoCheck, ccsoOf};
 ghost use Rattle.answers.specs.Told.{listed, Reported};
 ghost use Rattle.numbers.specs.Settings.{offsetsOf};
@@ -24,6 +27,10 @@ pub extern "C" fn bihargesh_ccso(
         (now (target .exit))
         (now (place .exit)) ⌝ }
 {
-    let a = apply(luma, target, flags, offsets, settings);
+    if settings.len() < 16 {
+        return told(Answer::Refused(Refusal::Length), place);
+    }
+    let s = offsets_of(settings);
+    let a = apply_edge_gated(luma, target, flags, offsets, s);
     told(a, place)
 }

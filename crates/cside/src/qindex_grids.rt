@@ -1,6 +1,9 @@
 // A qindex grid for C: its answer as a number, with the place of a refusal.
 use answers::told;
-use by_list::qindex_grids::fill;
+use numbers::qindex_grid_of;
+use qindex::qindex_grid::build_qindex_grid;
+use rules::refusals::Answer;
+use rules::refusals::Refusal;
 ghost use Rattle.rules.specs.QindexGrid.{qGridCheck, qGridOf};
 ghost use Rattle.answers.specs.Told.{listed, Reported};
 ghost use Rattle.numbers.specs.Settings.{qindexGridOf};
@@ -22,6 +25,10 @@ pub extern "C" fn bihargesh_qindex_grid(
         (now (qindex .exit))
         (now (place .exit)) ⌝ }
 {
-    let a = fill(sbq, qindex, settings);
+    if settings.len() < 5 {
+        return told(Answer::Refused(Refusal::Length), place);
+    }
+    let s = qindex_grid_of(settings);
+    let a = build_qindex_grid(sbq, qindex, s);
     told(a, place)
 }

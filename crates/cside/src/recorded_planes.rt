@@ -1,6 +1,10 @@
 // A plane whose edges are recorded, for C: the record's bytes as the answer, or a refusal's number with its place, and both counts.
 use answers::told_record;
-use by_list::recorded_planes::write_record;
+use answers::told_refusal;
+use by_list::planes::list_check;
+use numbers::plane_of;
+use recorded::record_plane;
+use rules::refusals::Answer;
 ghost use Rattle.rules.specs.Plane.{keeping};
 ghost use Rattle.by_list.specs.Planes.{RecordTold};
 
@@ -35,7 +39,12 @@ pub extern "C" fn bihargesh_record_plane(
         (now (place .exit))
         (now (counts .exit)) ⌝ }
 {
-    let a = write_record(
+    let lists = list_check(settings);
+    if let Answer::Refused(r) = lists {
+        return told_refusal(r, place, counts);
+    }
+    let s = plane_of(settings);
+    let a = record_plane(
         plane,
         buffer,
         vedge,
@@ -46,7 +55,7 @@ pub extern "C" fn bihargesh_record_plane(
         tiles,
         keep,
         steps,
-        settings,
+        s,
     );
     told_record(a, place, counts)
 }

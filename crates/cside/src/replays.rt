@@ -1,6 +1,9 @@
 // A record that is run again, for C: its answer as a number, with the place of a refusal and both counts.
 use answers::told_counts;
-use by_list::replays::run_again;
+use answers::told_refusal;
+use numbers::replay_of;
+use replay::replay_plane;
+use rules::refusals::Refusal;
 ghost use Rattle.by_list.specs.Planes.{ReplayTold};
 
 // 0, or minus the refusal number with its place in the first entry of `place`; stored and changed samples in `counts`.
@@ -15,6 +18,10 @@ pub extern "C" fn bihargesh_replay(
 ) -> i32
     ensures { λ r. ⌜ ReplayTold (now (settings .entry)) (now (bytes .entry)) (now (keep .entry)) (now (plane .entry)) (now (place .entry)) (now (counts .entry)) r (now (plane .exit)) (now (place .exit)) (now (counts .exit)) ⌝ }
 {
-    let a = run_again(plane, bytes, keep, settings);
+    if settings.len() < 4 {
+        return told_refusal(Refusal::Length, place, counts);
+    }
+    let s = replay_of(settings);
+    let a = replay_plane(plane, bytes, keep, s);
     told_counts(a, place, counts)
 }

@@ -1,6 +1,9 @@
 // A TU grid for C: its answer as a number, with the place of a refusal.
 use answers::told;
-use by_list::tx_grids::build;
+use grid::tx_grid::build_tx_grid;
+use numbers::tu_grid_of;
+use rules::refusals::Answer;
+use rules::refusals::Refusal;
 ghost use Rattle.rules.specs.TuGrid.{marks};
 ghost use Rattle.by_list.specs.Grids.{GridTold};
 
@@ -29,6 +32,10 @@ pub extern "C" fn bihargesh_tx_grid(
         (now (keep .exit))
         (now (place .exit)) ⌝ }
 {
-    let a = build(leaves, skips, vedge, hedge, sqw, sqh, keep, settings);
+    if settings.len() < 6 {
+        return told(Answer::Refused(Refusal::Length), place);
+    }
+    let s = tu_grid_of(settings);
+    let a = build_tx_grid(leaves, skips, vedge, hedge, sqw, sqh, keep, s);
     told(a, place)
 }

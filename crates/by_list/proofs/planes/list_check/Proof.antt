@@ -1,5 +1,5 @@
 -- `list_check` asks for the length, the depth and the flag, in this order. Assumes nothing.
-use Rattle.by_list.proofs.Done.{list-short, list-depth, list-kind, list-good}
+use Rattle.by_list.proofs.Lists.{list-short, list-depth, list-kind, list-good}
 use borrow.Author.Needs.{needs}
 use native.Mathlib.Omega.{arith}
 use Rattle.by_list.proofs.planes.list_check.Statement.{statement}

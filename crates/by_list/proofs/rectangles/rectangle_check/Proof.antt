@@ -1,5 +1,5 @@
 -- `rectangle_check` asks for the length and then the signs. Assumes nothing.
-use Rattle.by_list.proofs.Done.{rectangle-short, rectangle-below, rectangle-good}
+use Rattle.by_list.proofs.Lists.{rectangle-short, rectangle-below, rectangle-good}
 use borrow.Author.Needs.{needs}
 use Rattle.by_list.proofs.rectangles.rectangle_check.Statement.{statement}
 use Rattle.by_list.proofs.rectangles.rectangle_check.Tie as tie

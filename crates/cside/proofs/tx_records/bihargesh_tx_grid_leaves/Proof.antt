@@ -49,7 +49,7 @@ use Rattle.leaves.proofs.records.Leaf as T
 use Rattle.leaves.proofs.tx_grid.build_tx_grid.Symbol as build-def
 use Rattle.leaves.proofs.tx_grid.build_tx_grid.Symbol.{name as #build}
 use Rattle.leaves.proofs.tx_grid.build_tx_grid.Met as build-thm
-use Rattle.by_list.proofs.Records.{records-told}
+use Rattle.cside.proofs.Leaves.{records-told}
 use Rattle.by_list.proofs.tx_records.read.Symbol as read-def
 use Rattle.by_list.proofs.tx_records.read.Symbol.{name as #read}
 use Rattle.by_list.proofs.tx_records.read.Met as read-thm
