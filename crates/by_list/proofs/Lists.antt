@@ -5,53 +5,75 @@ use mathlib.Core.Bool.{Bool, true, false, not}
 use mathlib.Core.List.{List}
 use Prim.Native.Nat.{ℕ, _≤_, _<_}
 use borrow.Author.Tests.{leb-true}
+use lib.Dec.{leb}
 use lib.ListN.{length}
 use lib.IntN.{ℤ}
-use Rattle.laws.specs.Choose.{is-le, not-le, told-yes-not, told-no-not}
+use Rattle.laws.specs.Choose.{is-le, not-le, told-yes-not, told-no-not, both}
 use Rattle.rules.specs.declared.refusals.Refusal.the-variants.{Depth, Size, Length}
 use Rattle.rules.specs.declared.refusals.Answer.{Answer}
 use Rattle.rules.specs.declared.refusals.Answer.the-variants.{Accepted, Refused}
 use Rattle.rules.specs.Numbers.{depthOk}
+use Rattle.rules.specs.Refusals.{orElse, unless}
 use Rattle.checks.proofs.Checks.{stop, go-on, unless-bad, unless-good, unless-true, else-parts}
 use Rattle.answers.specs.Told.{listed}
 use Rattle.numbers.specs.Settings.{countAt}
+use Rattle.answers.proofs.Numbers.{short-is, long-is}
 use Rattle.by_list.specs.Planes.{listCheck}
+use Rattle.by_list.specs.Frames.{flagsOk, listCheck as frameCheck}
 use Rattle.by_list.specs.Rectangles.{rectangleOk, rectangleCheck}
 
--- ---- a plane
+-- ---- a list of n numbers whose depth is number i, with flags that are asked for after it
 
-module _ (settings : List ℤ) where
-  pub list-short : length settings < 11 → Refused Length ≡ listCheck settings
-  unfolding listCheck listed
-  list-short h = stop _ _ (unless-bad _ _ (not-le 11 (length settings) h))
+module _ (n i : ℕ) (flags : Bool) (settings : List ℤ) where
+  abbrev check : Answer
+  check = listed n settings (orElse (unless (depthOk (countAt settings i)) Depth) (unless flags Size))
 
-  module _ (enough : 11 ≤ length settings) {depth : ℕ} (read : depth ≡ countAt settings 8) {u : Bool} (asked : u ≡ depthOk depth) where
-    depth-is : u ≡ depthOk (countAt settings 8)
+  pub list-short : length settings < n → Refused Length ≡ check
+  list-short h = short-is n settings _ h
+
+  module _ (enough : n ≤ length settings) {depth : ℕ} (read : depth ≡ countAt settings i) {u : Bool} (asked : u ≡ depthOk depth) where
+    depth-is : u ≡ depthOk (countAt settings i)
     depth-is = asked ∙ ap depthOk read
 
-    -- no depth
-    pub list-depth : not u ≡ true → Refused Depth ≡ listCheck settings
-    unfolding listCheck listed
-    list-depth f = go-on _ _ _ (unless-good _ _ (is-le 11 (length settings) enough)) (stop _ _ (unless-bad _ _ (told-no-not _ _ depth-is f)))
+    pub list-depth : not u ≡ true → Refused Depth ≡ check
+    list-depth f = stop _ _ (unless-bad _ _ (told-no-not _ _ depth-is f)) ∙ long-is n settings _ enough
 
-    module _ (yes : not u ≡ false) {n : ℕ} (counted : n ≡ countAt settings 7) where
-      -- a chroma that is neither 0 nor 1
-      pub list-kind : 1 < n → Refused Size ≡ listCheck settings
-      unfolding listCheck listed
-      list-kind h =
-          go-on _ _ _ (unless-good _ _ (is-le 11 (length settings) enough))
-          (go-on _ _ _ (unless-good _ _ (told-yes-not _ _ depth-is yes)) (unless-bad _ _ (not-le _ 1 (rw counted at h))))
+    module _ (yes : not u ≡ false) where
+      pub list-flags : false ≡ flags → Refused Size ≡ check
+      list-flags f = go-on _ _ _ (unless-good _ _ (told-yes-not _ _ depth-is yes)) (unless-bad _ _ f) ∙ long-is n settings _ enough
 
-      pub list-good : n ≤ 1 → Accepted ≡ listCheck settings
-      unfolding listCheck listed
-      list-good h =
-          go-on _ _ _ (unless-good _ _ (is-le 11 (length settings) enough))
-          (go-on _ _ _ (unless-good _ _ (told-yes-not _ _ depth-is yes)) (unless-good _ _ (is-le _ 1 (rw counted at h))))
+      pub list-good : true ≡ flags → Accepted ≡ check
+      list-good f = go-on _ _ _ (unless-good _ _ (told-yes-not _ _ depth-is yes)) (unless-good _ _ f) ∙ long-is n settings _ enough
 
-  -- a list that passes has its eleven numbers
-  pub list-long : {a : Answer} → a ≡ listCheck settings → a ≡ Accepted → 11 ≤ length settings
-  unfolding listCheck listed
-  list-long is e = leb-true 11 (length settings) (unless-true _ Length (else-parts _ _ (sym is ∙ e) .0))
+  -- a list that passes has its numbers
+  list-long : {a : Answer} → a ≡ check → a ≡ Accepted → n ≤ length settings
+  unfolding listed
+  list-long is e = leb-true n (length settings) (unless-true _ Length (else-parts _ _ (sym is ∙ e) .0))
+
+-- a flag that is neither 0 nor 1, and one that is
+pub one-more : (m : ℕ) {n : ℕ} → n ≡ m → 1 < n → false ≡ leb m 1
+one-more m e h = not-le m 1 (rw e at h)
+
+pub one-most : (m : ℕ) {n : ℕ} → n ≡ m → n ≤ 1 → true ≡ leb m 1
+one-most m e h = is-le m 1 (rw e at h)
+
+pub plane-long : (settings : List ℤ) {a : Answer} → a ≡ listCheck settings → a ≡ Accepted → 11 ≤ length settings
+unfolding listCheck
+plane-long settings is e = list-long 11 8 _ settings is e
+
+pub frame-long : (settings : List ℤ) {a : Answer} → a ≡ frameCheck settings → a ≡ Accepted → 15 ≤ length settings
+unfolding frameCheck
+frame-long settings is e = list-long 15 6 _ settings is e
+
+-- ---- both flags of a frame
+
+pub no-flag : (l : List ℤ) {n : ℕ} → n ≡ countAt l 4 → 1 < n → false ≡ flagsOk l
+unfolding flagsOk both
+no-flag l e h = rw (← not-le (countAt l 4) 1 (rw e at h))
+
+pub second-flag : (l : List ℤ) {n m : ℕ} → n ≡ countAt l 4 → n ≤ 1 → m ≡ countAt l 5 → leb m 1 ≡ flagsOk l
+unfolding flagsOk both
+second-flag l e h f = rw (← is-le (countAt l 4) 1 (rw e at h)) (ap (λ (k : ℕ). leb k 1) f)
 
 -- ---- keep marks over a rectangle
 

@@ -2,3 +2,5 @@ pub mod Planes
 pub mod Grids
 pub mod Records
 pub mod Rectangles
+pub mod Rows
+pub mod Frames

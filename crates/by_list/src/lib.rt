@@ -3,6 +3,12 @@
 // A plane's.
 pub mod planes;
 
+// A call's state on filled rows, beside them.
+pub mod filled_rows;
+
+// A frame's.
+pub mod frames;
+
 // Those of keep marks over a rectangle of cells.
 pub mod rectangles;
 

@@ -3,6 +3,8 @@ pub mod Windows
 pub mod Table
 pub mod Telling
 pub mod Recorded
+pub mod Filled
+pub mod Frames
 pub mod Leaves
 pub mod Records
 pub mod Unique

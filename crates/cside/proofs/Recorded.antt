@@ -27,7 +27,7 @@ use Rattle.answers.specs.Told.{Counted, Told, Few, refusalIn, bytesIn, tallied}
 use Rattle.answers.proofs.Numbers.{refused-by, counted-by}
 use Rattle.numbers.specs.Settings.{planeOf}
 use Rattle.by_list.specs.Planes.{listCheck, cRecordCheck, recordLength, cRecordPlane, cRecordBuffer, cRecordStored, cRecordChanged, RecordTold}
-use Rattle.by_list.proofs.Lists.{list-long}
+use Rattle.by_list.proofs.Lists.{plane-long}
 
 -- bytes are answered by an accepted check alone
 from-bytes : (check : Answer) (k : ℕ) {n : ℕ} → answerBytes check k ≡ Bytes n → (check ≡ Accepted) × (n ≡ k)
@@ -74,4 +74,4 @@ module _ (settings : List ℤ) (steps : List ℕ) (g : Grid) (l b : List ℕ) {a
             ∙ ap₂ (λ (s c : ℕ). tallied s c k) (w .stored ∙ ap (λ (x : Answer). settle x 0 (runStored (planeOf settings) steps g l)) own) (w .changed ∙ ap (λ (x : Answer). settle x 0 (runChanged (planeOf settings) steps g l)) own);
       }
 
-pub ruleset recordings = (needs, list-long, record-refused, record-told)
+pub ruleset recordings = (needs, plane-long, record-refused, record-told)

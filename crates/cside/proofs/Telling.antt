@@ -38,7 +38,7 @@ use Rattle.numbers.specs.Settings.{planeOf, replaySettings, tuGridOf, qindexGri
 use Rattle.by_list.specs.Planes.{listCheck, cPlaneCheck, PlaneTold, ReplayTold}
 use Rattle.by_list.specs.Grids.{GridTold}
 use Rattle.by_list.specs.Rectangles.{rectangleCheck, cRectangleCheck, RectangleTold}
-use Rattle.by_list.proofs.Lists.{list-long, rectangle-long}
+use Rattle.by_list.proofs.Lists.{plane-long, rectangle-long}
 
 -- ---- a plane
 
@@ -54,7 +54,7 @@ module _ (settings : List ℤ) (steps : List ℕ) (g : Grid) (l : List ℕ) {a :
       let w : «PlaneStated» (planeOf settings) steps g l x m = rw read at d in
       filter-on l _ _ _ (go-on-by _ _ _ _ is e refl) (w .answer) (w .plane) (w .stored) (w .changed) u
 
-pub ruleset planes = (needs, list-long, plane-refused, plane-told)
+pub ruleset planes = (needs, plane-long, plane-refused, plane-told)
 
 -- ---- a record that is run again
 

@@ -18,10 +18,10 @@ use Rattle.by_list.specs.Grids.{GridTold}
 use Rattle.by_list.specs.Rectangles.{RectangleTold}
 use Rattle.leaves.specs.declared.records.Leaf.{Leaf}
 use Rattle.leaves.specs.Records.{flat}
-use Rattle.frame_by_list.specs.ByList.{FrameTold}
-use Rattle.frame_by_list.proofs.Unique.{frame-unique}
-use Rattle.rows_by_list.specs.ByList.{RowsTold}
-use Rattle.rows_by_list.proofs.Handed.{told-once}
+use Rattle.by_list.specs.Frames.{FrameTold}
+use Rattle.by_list.specs.Rows.{RowsTold}
+use Rattle.cside.proofs.Filled.{told-once}
+use Rattle.cside.proofs.Frames.{frame-unique}
 use Rattle.cside.specs.Segment.{SegmentTold}
 use Rattle.cside.specs.Steps.{StepsTold}
 

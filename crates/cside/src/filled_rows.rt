@@ -1,8 +1,14 @@
 // A call on filled rows for C: how many rows are final, with the place of a refusal, both counts and the state for the next call.
+use answers::told_refusal;
 use answers::told_rows;
-use rows_by_list::call_rows;
+use by_list::filled_rows::hold;
+use by_list::filled_rows::lists_check;
+use numbers::plane_of;
+use rows::deblock_rows;
+use rules::refusals::Answer;
+use rules::rows::RowState;
 ghost use Rattle.rules.specs.Plane.{keeping};
-ghost use Rattle.rows_by_list.specs.ByList.{RowsTold};
+ghost use Rattle.by_list.specs.Rows.{RowsTold};
 
 // How many rows are final, or minus the refusal number with its place in the first entry of `place`; stored and changed samples in `counts`; the state for the next call in `state`.
 #[no_mangle]
@@ -37,7 +43,17 @@ pub extern "C" fn bihargesh_rows(
         (now (place .exit))
         (now (counts .exit)) ⌝ }
 {
-    let a = call_rows(
+    let lists = lists_check(settings, state);
+    if let Answer::Refused(r) = lists {
+        return told_refusal(r, place, counts);
+    }
+    let s = plane_of(settings);
+    let held = state[0];
+    let was = RowState {
+        held: held,
+        spent: false,
+    };
+    let a = deblock_rows(
         plane,
         vedge,
         hedge,
@@ -47,9 +63,11 @@ pub extern "C" fn bihargesh_rows(
         tiles,
         keep,
         steps,
-        settings,
+        s,
+        was,
         filled,
-        state,
     );
+    let next = a.state;
+    hold(state, next);
     told_rows(a, place, counts)
 }

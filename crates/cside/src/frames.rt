@@ -1,9 +1,13 @@
 // A whole frame for C: its answer as a number, with the place of a refusal and both counts.
 use answers::told_counts;
-use frame_by_list::frames::filter;
+use answers::told_refusal;
+use by_list::frames::frame_of;
+use by_list::frames::list_check;
+use frame::frame::deblock_frame;
+use rules::refusals::Answer;
 ghost use Rattle.rules.specs.Plane.{keeping};
 ghost use Rattle.rules.specs.Frame.{planes, grids, lent, given};
-ghost use Rattle.frame_by_list.specs.ByList.{FrameTold};
+ghost use Rattle.by_list.specs.Frames.{FrameTold};
 
 // 0, or minus the refusal number with its place in the first entry of `place`; stored and changed samples in `counts`.
 #[no_mangle]
@@ -53,7 +57,12 @@ pub extern "C" fn bihargesh_frame(
         (now (place .exit))
         (now (counts .exit)) ⌝ }
 {
-    let a = filter(
+    let lists = list_check(settings);
+    if let Answer::Refused(r) = lists {
+        return told_refusal(r, place, counts);
+    }
+    let f = frame_of(settings);
+    let a = deblock_frame(
         y,
         u,
         v,
@@ -76,7 +85,8 @@ pub extern "C" fn bihargesh_frame(
         chromatiles,
         keep,
         chromakeep,
-        settings,
+        f,
+        false,
     );
     told_counts(a, place, counts)
 }

@@ -1,8 +1,8 @@
 -- `flags_ok` tests both flags. Assumes nothing.
-use Rattle.frame_by_list.proofs.Given.{no-flag, second-flag}
+use Rattle.by_list.proofs.Lists.{no-flag, second-flag}
 use borrow.Author.Needs.{needs}
-use Rattle.frame_by_list.proofs.settings.flags_ok.Statement.{statement}
-use Rattle.frame_by_list.proofs.settings.flags_ok.Tie as tie
+use Rattle.by_list.proofs.frames.flags_ok.Statement.{statement}
+use Rattle.by_list.proofs.frames.flags_ok.Tie as tie
 
 count-requires : tie.Need-count-requires
 count-requires c κs = search needs

@@ -1,15 +1,14 @@
--- What the entry of a call on filled rows hands back and tells C, with its settings and its state as lists of numbers.
+-- What the entry of a call on filled rows tells C, with its settings and its state as lists of numbers.
 -- Assumes nothing.
 use mathlib.Core.Path.{_≡_}
 use mathlib.Core.Bool.{false}
 use mathlib.Core.List.{List}
-use Prim.Native.Nat.{ℕ, _≤_}
+use Prim.Native.Nat.{ℕ}
 use lib.Dec.{leb, eqb}
 use lib.ListN.{length, getD, set}
 use lib.IntN.{ℤ}
 use Rattle.laws.specs.Choose.{pick}
 use Rattle.rules.specs.declared.rows.RowState.{RowState}
-use Rattle.rules.specs.declared.rows.RowsAnswer.{RowsAnswer}
 use Rattle.rules.specs.declared.refusals.Refusal.the-variants.{Length, Spent}
 use Rattle.rules.specs.declared.refusals.Answer.{Answer}
 use Rattle.rules.specs.declared.refusals.Answer.the-variants.{Accepted, Refused}
@@ -57,17 +56,7 @@ unfoldable pub stateLeft : Answer → List ℕ → ℕ → List ℕ
 stateLeft Accepted st filled = set st 0 filled
 stateLeft (Refused r) st filled = pick (eqb (numberOf r) 8) (set st 1 1) st
 
--- what is handed back: the answer a, the plane m and the state's list t
-pub record RowsHanded (settings : List ℤ) (steps : List ℕ) (g : Grid) (st : List ℕ) (filled : ℕ) (l : List ℕ) (a : RowsAnswer) (m t : List ℕ) : Type 0 where
-  pub answer : a .answer ≡ cRowsCheck settings steps g st filled l
-  pub final-rows : a .finalrows ≡ cRowsFinal settings steps g st filled l
-  pub few : a .finalrows ≤ 4096
-  pub plane : m ≡ cRowsPlane settings steps g st filled l
-  pub stored : a .stored ≡ cRowsStored settings steps g st filled l
-  pub changed : a .changed ≡ cRowsChanged settings steps g st filled l
-  pub state : t ≡ stateLeft (cRowsCheck settings steps g st filled l) st filled
-
--- the same told to C: how many rows from the top are final, or minus the refusal number
+-- what C is told: how many rows from the top are final, or minus the refusal number
 pub record RowsTold (settings : List ℤ) (steps : List ℕ) (g : Grid) (st : List ℕ) (filled : ℕ) (l place counts : List ℕ) (n : ℤ) (m t placed tally : List ℕ) : Type 0 where
   pub told : Counted (cRowsCheck settings steps g st filled l) (cRowsFinal settings steps g st filled l) place n placed
   pub plane : m ≡ cRowsPlane settings steps g st filled l

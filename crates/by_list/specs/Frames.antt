@@ -10,7 +10,6 @@ use Rattle.laws.specs.Choose.{both}
 use Rattle.rules.specs.declared.settings.Frame.{Frame}
 use Rattle.rules.specs.declared.refusals.Refusal.the-variants.{Depth, Size}
 use Rattle.rules.specs.declared.refusals.Answer.{Answer}
-use Rattle.rules.specs.declared.refusals.PlaneAnswer.{PlaneAnswer}
 use Rattle.rules.specs.Numbers.{depthOk}
 use Rattle.rules.specs.Refusals.{orElse, unless, settle}
 use Rattle.rules.specs.Frame.{Given, Lent, Done, orDone, frameOf, frameStored, frameChanged}
@@ -54,14 +53,7 @@ cFrameStored settings n l = settle (listCheck settings) 0 (frameStored (frameSet
 unfoldable pub cFrameChanged : List ℤ → Given → Lent → ℕ
 cFrameChanged settings n l = settle (listCheck settings) 0 (frameChanged (frameSettings settings) n l)
 
--- what is handed back: the answer a with the counts, and the lent lists afterwards
-pub record FrameHanded (settings : List ℤ) (n : Given) (l : Lent) (a : PlaneAnswer) (left : Lent) : Type 0 where
-  pub answer : a .answer ≡ cFrameOf settings n l .answer
-  pub lists-are : left ≡ cFrameOf settings n l .lists
-  pub stored-is : a .stored ≡ cFrameStored settings n l
-  pub changed-is : a .changed ≡ cFrameChanged settings n l
-
--- the same told to C
+-- what C is told: the answer r, and the lent lists and the counts afterwards
 pub record FrameTold (settings : List ℤ) (n : Given) (l : Lent) (place counts : List ℕ) (r : ℤ) (left : Lent) (placed tally : List ℕ) : Type 0 where
   pub told : Told (cFrameOf settings n l .answer) place r placed
   pub lists-are : left ≡ cFrameOf settings n l .lists

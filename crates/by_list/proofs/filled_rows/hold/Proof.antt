@@ -1,8 +1,8 @@
 -- `hold` puts the held count, and a 1 where the state is spent. Assumes nothing.
-use Rattle.rows_by_list.proofs.Handed.{held-spent, held-unspent}
+use Rattle.by_list.proofs.States.{held-spent, held-unspent}
 use borrow.Author.Needs.{needs}
-use Rattle.rows_by_list.proofs.hold.Statement.{statement}
-use Rattle.rows_by_list.proofs.hold.Tie as tie
+use Rattle.by_list.proofs.filled_rows.hold.Statement.{statement}
+use Rattle.by_list.proofs.filled_rows.hold.Tie as tie
 
 slice-write-state : tie.Need-slice-write-state
 slice-write-state c = search needs

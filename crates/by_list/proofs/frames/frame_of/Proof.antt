@@ -1,9 +1,9 @@
 -- `frame_of` is a frame's settings, number by number. Assumes nothing.
 use Rattle.numbers.proofs.Listed.{number-kept}
-use Rattle.frame_by_list.specs.ByList.{frameSettings}
+use Rattle.by_list.specs.Frames.{frameSettings}
 use borrow.Author.Needs.{needs}
-use Rattle.frame_by_list.proofs.settings.frame_of.Statement.{statement}
-use Rattle.frame_by_list.proofs.settings.frame_of.Tie as tie
+use Rattle.by_list.proofs.frames.frame_of.Statement.{statement}
+use Rattle.by_list.proofs.frames.frame_of.Tie as tie
 
 size-requires : tie.Need-size-requires
 size-requires c κs = search needs

@@ -1,9 +1,9 @@
 -- `lists_check` asks for the state's length, whether it is spent, and then for what the settings give. Assumes nothing.
-use Rattle.rows_by_list.proofs.Handed.{state-short, state-spent, state-good}
+use Rattle.by_list.proofs.States.{state-short, state-spent, state-good}
 use borrow.Author.Needs.{needs}
 use native.Mathlib.Omega.{arith}
-use Rattle.rows_by_list.proofs.lists_check.Statement.{statement}
-use Rattle.rows_by_list.proofs.lists_check.Tie as tie
+use Rattle.by_list.proofs.filled_rows.lists_check.Statement.{statement}
+use Rattle.by_list.proofs.filled_rows.lists_check.Tie as tie
 
 returns : tie.Need-returns
 returns c = state-short _ _ (c .if1 .taken)

@@ -10,7 +10,7 @@ use rules::settings::Frame;
 ghost use mathlib.Core.Path.{_≡_};
 ghost use Prim.Native.Nat.{_≤_};
 ghost use lib.ListN.{length};
-ghost use Rattle.frame_by_list.specs.ByList.{frameSettings, flagsOk, listCheck};
+ghost use Rattle.by_list.specs.Frames.{frameSettings, flagsOk, listCheck};
 
 // Whether has_chroma and chroma_deblock are 0 or 1.
 fn flags_ok(list: &[i32]) -> bool
