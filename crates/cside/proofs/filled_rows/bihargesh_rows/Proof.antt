@@ -1,4 +1,6 @@
 -- `bihargesh_rows` answers by the rules of a call on filled rows. Assumes nothing.
+use native.Mathlib.Omega.{arith}
+use Rattle.by_list.proofs.States.{state-long}
 use Rattle.cside.proofs.Filled.{fillings as needs}
 use Rattle.cside.proofs.filled_rows.bihargesh_rows.Statement.{statement}
 use Rattle.cside.proofs.filled_rows.bihargesh_rows.Tie as tie
@@ -31,7 +33,7 @@ plane-of-requires : tie.Need-plane-of-requires
 plane-of-requires c κs = search needs
 
 slice-read-held : tie.Need-slice-read-held
-slice-read-held c = search needs
+slice-read-held c = omega (arith, state-long _ _ (c .before .before .before .before .lists-check .ensures) (c .before .before .enum-told .given .1))
 
 deblock-rows-requires : tie.Need-deblock-rows-requires
 deblock-rows-requires c κs = search needs
