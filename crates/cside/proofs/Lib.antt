@@ -4,7 +4,7 @@ pub mod Table
 pub mod Telling
 pub mod Recorded
 pub mod Filled
-pub mod Frames
+pub mod WholeFrame
 pub mod Leaves
 pub mod Records
 pub mod Unique

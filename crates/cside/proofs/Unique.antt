@@ -21,7 +21,7 @@ use Rattle.leaves.specs.Records.{flat}
 use Rattle.by_list.specs.Frames.{FrameTold}
 use Rattle.by_list.specs.Rows.{RowsTold}
 use Rattle.cside.proofs.Filled.{told-once}
-use Rattle.cside.proofs.Frames.{frame-unique}
+use Rattle.cside.proofs.WholeFrame.{frame-unique}
 use Rattle.cside.specs.Segment.{SegmentTold}
 use Rattle.cside.specs.Steps.{StepsTold}
 

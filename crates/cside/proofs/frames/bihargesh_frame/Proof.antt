@@ -1,6 +1,6 @@
 -- `bihargesh_frame` answers by a frame's rules. Assumes nothing.
 use Rattle.by_list.proofs.Lists.{frame-long}
-use Rattle.cside.proofs.Frames.{frame-refused, frame-told}
+use Rattle.cside.proofs.WholeFrame.{frame-refused, frame-told}
 use borrow.Author.Needs.{needs}
 use Rattle.cside.proofs.frames.bihargesh_frame.Statement.{statement}
 use Rattle.cside.proofs.frames.bihargesh_frame.Tie as tie
