@@ -1,14 +1,12 @@
 -- `settings_check` meets its contract. Assumes nothing.
 use mathlib.Core.List.{[]}
-use mir.Syntax.{w32}
-use mir.Facts.{toZ-ofZ}
 use borrow.Author.Needs.{needs}
 use Rattle.laws.specs.Choose.{told-yes-not, told-no-not}
 use Rattle.checks.proofs.Checks.{stop, stop-by, go-on, accepted-by, unless-bad, unless-good}
 use Rattle.rules.specs.Rows.{settingsCheck}
 use Rattle.plane_checks.proofs.Accepted.{sizes-by}
-use Rattle.plane.specs.Checked.{gridCheck}
 use Rattle.plane.proofs.Accepting.{sized-by}
+use Rattle.plane.proofs.Settings.{deltas-read, past-lengths, past-deltas}
 use Rattle.plane.proofs.check.settings_check.Statement.{statement}
 use Rattle.plane.proofs.check.settings_check.Tie as tie
 
@@ -40,13 +38,11 @@ enum-known-table : tie.Need-enum-known-table
 enum-known-table c = search needs
 
 returns-4 : tie.Need-returns-4
-unfolding settingsCheck
 returns-4 c =
-    go-on _ _ _
-    (unless-good _ _ (told-yes-not _ _ (c .before .before .before .before .before .before .before .before .before .is .ensures) (c .before .before .before .before .before .before .before .before .if1 .left)))
-    (go-on _ _ _
-    (unless-good _ _ (told-yes-not _ _ (c .before .before .before .before .before .before .before .sizes-ok .ensures) (c .before .before .before .before .before .before .if2 .left)))
-    (go-on _ _ _ (unless-good _ _ (told-yes-not _ _ (c .before .before .before .before .before .lengths-ok .ensures _) (c .before .before .before .before .if3 .left))) (stop-by _ _ _ (c .before .before .before .steps-check .ensures) (search needs))))
+    past-lengths _ _ _ _ (c .before .before .before .before .before .before .before .before .before .is .ensures) (c .before .before .before .before .before .before .before .before .if1 .left)
+    (c .before .before .before .before .before .before .before .sizes-ok .ensures) (c .before .before .before .before .before .before .if2 .left)
+    (c .before .before .before .before .before .lengths-ok .ensures _) (c .before .before .before .before .if3 .left)
+    (stop-by _ _ _ (c .before .before .before .steps-check .ensures) (search needs))
 
 enum-told : tie.Need-enum-told
 enum-told c = search needs
@@ -58,24 +54,12 @@ enum-known-deltas : tie.Need-enum-known-deltas
 enum-known-deltas c = search needs
 
 returns-5 : tie.Need-returns-5
-unfolding settingsCheck
 returns-5 c =
-    go-on _ _ _
-    (unless-good _ _ (told-yes-not _ _ (c .before .before .before .before .before .before .before .before .before .before .before .before .before .before .is .ensures) (c .before .before .before .before .before .before .before .before .before .before .before .before .before .if1 .left)))
-    (go-on _ _ _
-    (unless-good _ _ (told-yes-not _ _ (c .before .before .before .before .before .before .before .before .before .before .before .before .sizes-ok .ensures) (c .before .before .before .before .before .before .before .before .before .before .before .if2 .left)))
-    (go-on _ _ _
-    (unless-good _ _ (told-yes-not _ _ (c .before .before .before .before .before .before .before .before .before .before .lengths-ok .ensures _) (c .before .before .before .before .before .before .before .before .before .if3 .left)))
-    (go-on _ _ _
-    (accepted-by _ _ (c .before .before .before .before .before .before .before .before .steps-check .ensures) (search needs))
-    (stop-by _ _ _
-    (rw (
-      toZ-ofZ {w = w32} {z = c .before .before .before .before .before .before .before .before .before .before .before .before .before .before .before .before .before .before .before .before .before .before .before .before .args .s .deltaq} (record { sfits = c .before .before .before .before .struct-told2 .given .1 .1 .1 .1 .1 .1 .1 .1 .1 .0 .1 }),
-      toZ-ofZ {w = w32} {z = c .before .before .before .before .before .before .before .before .before .before .before .before .before .before .before .before .before .before .before .before .before .before .before .before .args .s .deltaside} (record { sfits = c .before .before .before .before .struct-told2 .given .1 .1 .1 .1 .1 .1 .1 .1 .1 .1 .0 .1 }),
-    )
-    at
-    (c .before .before .before .deltas-check .ensures))
-    (search needs)))))
+    past-lengths _ _ _ _ (c .before .before .before .before .before .before .before .before .before .before .before .before .before .before .is .ensures) (c .before .before .before .before .before .before .before .before .before .before .before .before .before .if1 .left)
+    (c .before .before .before .before .before .before .before .before .before .before .before .before .sizes-ok .ensures) (c .before .before .before .before .before .before .before .before .before .before .before .if2 .left)
+    (c .before .before .before .before .before .before .before .before .before .before .lengths-ok .ensures _) (c .before .before .before .before .before .before .before .before .before .if3 .left)
+    (go-on _ _ _ (accepted-by _ _ (c .before .before .before .before .before .before .before .before .steps-check .ensures) (search needs)) (stop-by _ _ _ (deltas-read (record { sfits = c .before .before .before .before .struct-told2 .given .1 .1 .1 .1 .1 .1 .1 .1 .1 .0 .1 })
+    (record { sfits = c .before .before .before .before .struct-told2 .given .1 .1 .1 .1 .1 .1 .1 .1 .1 .1 .0 .1 }) (c .before .before .before .deltas-check .ensures)) (search needs)))
 
 enum-told-2 : tie.Need-enum-told-2
 enum-told-2 c = search needs
@@ -87,27 +71,13 @@ enum-known-starts : tie.Need-enum-known-starts
 enum-known-starts c = search needs
 
 returns-6 : tie.Need-returns-6
-unfolding settingsCheck
 returns-6 c =
-    let s0 = c .before .before .before .before .before .before .before in
-    go-on _ _ _
-    (unless-good _ _ (told-yes-not _ _ (c .before .before .before .before .before .before .before .before .before .before .before .before .before .before .before .before .before .is .ensures) (c .before .before .before .before .before .before .before .before .before .before .before .before .before .before .before .before .if1 .left)))
-    (go-on _ _ _
-    (unless-good _ _ (told-yes-not _ _ (c .before .before .before .before .before .before .before .before .before .before .before .before .before .before .before .sizes-ok .ensures) (c .before .before .before .before .before .before .before .before .before .before .before .before .before .before .if2 .left)))
-    (go-on _ _ _
-    (unless-good _ _ (told-yes-not _ _ (c .before .before .before .before .before .before .before .before .before .before .before .before .before .lengths-ok .ensures _) (c .before .before .before .before .before .before .before .before .before .before .before .before .if3 .left)))
-    (go-on _ _ _
-    (accepted-by _ _ (c .before .before .before .before .before .before .before .before .before .before .before .steps-check .ensures) (search needs))
-    (go-on _ _ _
-    (accepted-by _ _
-    (rw (
-      toZ-ofZ {w = w32} {z = s0 .before .before .before .before .before .before .before .before .before .before .before .before .before .before .before .before .before .before .before .before .args .s .deltaq} (record { sfits = s0 .struct-told2 .given .1 .1 .1 .1 .1 .1 .1 .1 .1 .0 .1 }),
-      toZ-ofZ {w = w32} {z = s0 .before .before .before .before .before .before .before .before .before .before .before .before .before .before .before .before .before .before .before .before .args .s .deltaside} (record { sfits = s0 .struct-told2 .given .1 .1 .1 .1 .1 .1 .1 .1 .1 .1 .0 .1 }),
-    )
-    at
-    (c .before .before .before .before .before .before .deltas-check .ensures))
-    (search needs))
-    (stop-by _ _ _ (c .before .before .before .tiles-check .ensures) (search needs))))))
+    past-deltas _ _ _ _ (c .before .before .before .before .before .before .before .before .before .before .before .before .before .before .before .before .before .is .ensures) (c .before .before .before .before .before .before .before .before .before .before .before .before .before .before .before .before .if1 .left)
+    (c .before .before .before .before .before .before .before .before .before .before .before .before .before .before .before .sizes-ok .ensures) (c .before .before .before .before .before .before .before .before .before .before .before .before .before .before .if2 .left)
+    (c .before .before .before .before .before .before .before .before .before .before .before .before .before .lengths-ok .ensures _) (c .before .before .before .before .before .before .before .before .before .before .before .before .if3 .left)
+    (c .before .before .before .before .before .before .before .before .before .before .before .steps-check .ensures) (search needs)
+    (deltas-read (record { sfits = c .before .before .before .before .before .before .before .struct-told2 .given .1 .1 .1 .1 .1 .1 .1 .1 .1 .0 .1 }) (record { sfits = c .before .before .before .before .before .before .before .struct-told2 .given .1 .1 .1 .1 .1 .1 .1 .1 .1 .1 .0 .1 }) (c .before .before .before .before .before .before .deltas-check .ensures)) (search needs)
+    (stop-by _ _ _ (c .before .before .before .tiles-check .ensures) (search needs))
 
 enum-told-3 : tie.Need-enum-told-3
 enum-told-3 c = search needs
@@ -124,28 +94,13 @@ grid-check-requires c κs =
     (z .sizes-ok, z .lists-long)
 
 returns-7 : tie.Need-returns-7
-unfolding settingsCheck gridCheck
 returns-7 c =
-    go-on _ _ _
-    (unless-good _ _ (told-yes-not _ _ (c .before .before .before .before .before .before .before .before .before .before .before .before .before .before .before .before .before .is .ensures) (c .before .before .before .before .before .before .before .before .before .before .before .before .before .before .before .before .if1 .left)))
-    (go-on _ _ _
-    (unless-good _ _ (told-yes-not _ _ (c .before .before .before .before .before .before .before .before .before .before .before .before .before .before .before .sizes-ok .ensures) (c .before .before .before .before .before .before .before .before .before .before .before .before .before .before .if2 .left)))
-    (go-on _ _ _
-    (unless-good _ _ (told-yes-not _ _ (c .before .before .before .before .before .before .before .before .before .before .before .before .before .lengths-ok .ensures _) (c .before .before .before .before .before .before .before .before .before .before .before .before .if3 .left)))
-    (go-on _ _ _
-    (accepted-by _ _ (c .before .before .before .before .before .before .before .before .before .before .before .steps-check .ensures) (search needs))
-    (go-on _ _ _
-    (accepted-by _ _
-    (rw (
-      toZ-ofZ {w = w32} {z = c .before .before .before .before .before .before .before .before .before .before .before .before .before .before .before .before .before .before .before .before .before .before .before .before .before .before .before .args .s .deltaq} (record { sfits = c .before .before .before .before .before .before .before .struct-told2 .given .1 .1 .1 .1 .1 .1 .1 .1 .1 .0 .1 }),
-      toZ-ofZ {w = w32} {z = c .before .before .before .before .before .before .before .before .before .before .before .before .before .before .before .before .before .before .before .before .before .before .before .before .before .before .before .args .s .deltaside} (record { sfits = c .before .before .before .before .before .before .before .struct-told2 .given .1 .1 .1 .1 .1 .1 .1 .1 .1 .1 .0 .1 }),
-    )
-    at
-    (c .before .before .before .before .before .before .deltas-check .ensures))
-    (search needs))
-    (go-on _ _ _
-    (accepted-by _ _ (c .before .before .before .tiles-check .ensures) (search needs))
-    (c .grid-check .ensures _))))))
+    past-deltas _ _ _ _ (c .before .before .before .before .before .before .before .before .before .before .before .before .before .before .before .before .before .is .ensures) (c .before .before .before .before .before .before .before .before .before .before .before .before .before .before .before .before .if1 .left)
+    (c .before .before .before .before .before .before .before .before .before .before .before .before .before .before .before .sizes-ok .ensures) (c .before .before .before .before .before .before .before .before .before .before .before .before .before .before .if2 .left)
+    (c .before .before .before .before .before .before .before .before .before .before .before .before .before .lengths-ok .ensures _) (c .before .before .before .before .before .before .before .before .before .before .before .before .if3 .left)
+    (c .before .before .before .before .before .before .before .before .before .before .before .steps-check .ensures) (search needs)
+    (deltas-read (record { sfits = c .before .before .before .before .before .before .before .struct-told2 .given .1 .1 .1 .1 .1 .1 .1 .1 .1 .0 .1 }) (record { sfits = c .before .before .before .before .before .before .before .struct-told2 .given .1 .1 .1 .1 .1 .1 .1 .1 .1 .1 .0 .1 }) (c .before .before .before .before .before .before .deltas-check .ensures)) (search needs)
+    (go-on _ _ _ (accepted-by _ _ (c .before .before .before .tiles-check .ensures) (search needs)) (c .grid-check .ensures _))
 
 pub settings-check-spec : {M : Type 1} → statement M
 settings-check-spec =
