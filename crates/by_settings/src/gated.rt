@@ -60,15 +60,15 @@ pub fn offset_plane(
 }
 
 // Offsets luma, U and V by luma as it was, up to the first that is refused.
-pub fn offset_planes<'a>(
+pub fn offset_planes(
     y: &mut [u16],
     u: &mut [u16],
     v: &mut [u16],
     luma: &[u16],
-    numbers: &'a [i32],
-    flags: &'a [u8],
-    offsets: &'a [i8],
-    places: &'a [usize],
+    numbers: &[i32],
+    flags: &[u8],
+    offsets: &[i8],
+    places: &[usize],
     f: Frame,
 ) -> Applied
     requires { ⌜ OffsetsLong (length (now numbers)) (length (now flags)) (length (now offsets)) (length (now places)) ⌝ }

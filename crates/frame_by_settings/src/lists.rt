@@ -81,15 +81,15 @@ fn deblock_given(
 }
 
 // The same by the lists among the settings' numbers, and the keep marks that they ask for.
-pub fn deblock_asked<'a>(
+pub fn deblock_asked(
     y: &mut [u16],
     u: &mut [u16],
     v: &mut [u16],
     shorts: &[u16],
-    steps: &'a [u32],
+    steps: &[u32],
     keep: &[u8],
     chromakeep: &[u8],
-    places: &'a [usize],
+    places: &[usize],
     f: Frame,
     plain: bool,
 ) -> Outcome
