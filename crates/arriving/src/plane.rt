@@ -147,11 +147,11 @@ fn deblocked(
 }
 
 // A plane of luma or of chroma, by whether the settings have it deblocked.
-pub fn pass_plane<'a>(
+pub fn pass_plane(
     plane: &mut [u16],
     shorts: &[u16],
-    steps: &'a [u32],
-    places: &'a [usize],
+    steps: &[u32],
+    places: &[usize],
     f: Frame,
     chroma: bool,
     way: Way,
