@@ -54,7 +54,7 @@ word z h p q = rw (to_z-of_z (fits z h p q)) h
 
 -- what a call gave or was passed, by its range
 pub back : (z : ℤ) → mag z < 2147483648 → to_z w32 (of_z w32 z) ≡ z
-back z h = to_z-of_z (record { sfits = h })
+back z h = to_z-of_z {w = w32} (record { sfits = h })
 
 -- a u16 cast to an i32
 pub short : (n : ℕ) → n < 65536 → Is (to_z w32 n) n 0
