@@ -1,4 +1,6 @@
 // The published table of AC steps.
+#![tactic(auto)]
+
 ghost use Rattle.std.specs.Prelude.{◌≡◌, ◌≤◌, ◌<◌, length};
 ghost use Rattle.ac_steps.specs.Steps.{step_at, step_table, tabled, StepsTo};
 

@@ -1,4 +1,6 @@
 // What C is answered: a number, or minus the number of a refusal, with its place and the counts of stored and changed samples beside it.
+#![tactic(auto)]
+
 ghost use Rattle.std.specs.Prelude.{◌≡◌, ◌+◌, ◌*◌, ◌≤◌, ◌<◌, pos, neg_ℤ, set};
 ghost use Rattle.rules.specs.declared.refusals.Answer.TheVariants.{Refused};
 ghost use Rattle.rules.specs.Refusals.{number_of};

@@ -1,4 +1,5 @@
 // A picture's plane as its rows arrive: read, filtered and written band by band.
+#![tactic(auto)]
 
 // Rows from one file and to another.
 pub mod carry;

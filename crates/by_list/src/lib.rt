@@ -1,4 +1,5 @@
 // Settings that C lends as a list of numbers: what the list itself is refused by, before an entry is called.
+#![tactic(auto)]
 
 // A plane's.
 pub mod planes;

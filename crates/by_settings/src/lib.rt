@@ -1,4 +1,5 @@
 // What the settings of a picture ask for: the filters' own settings, CCSO over the planes, the cells that are kept, and where a refusal stands.
+#![tactic(auto)]
 
 // The kinds of settings.
 pub mod kinds;

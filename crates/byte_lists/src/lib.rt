@@ -1,4 +1,5 @@
 // The byte lists that C lends: the step table, and the window of one segment.
+#![tactic(auto)]
 
 // The step table.
 pub mod table;

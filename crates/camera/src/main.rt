@@ -1,5 +1,6 @@
 // Deblocks a picture or a stream as its rows arrive: `camera SETTINGS` reads YUV4MPEG2 from standard input and a settings file, and writes each row to descriptor 3 as soon as it is final.
 // It answers on standard output. `bin/camera` makes descriptor 3 the standard output that it was started with.
+#![tactic(auto)]
 
 // The answer.
 mod say;

@@ -1,4 +1,5 @@
 // A stream of cases: whole lines, read from standard input into memory that the caller lends, and what several kinds of case read and compare.
+#![tactic(auto)]
 
 // Whole lines in a lent buffer.
 mod lines;

@@ -1,4 +1,5 @@
 // The gated CCSO offsets of a plane.
+#![tactic(auto)]
 
 // The rows of the target.
 pub mod rows;

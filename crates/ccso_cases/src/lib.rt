@@ -1,4 +1,5 @@
 // The cases of CCSO: each line's picture through `apply_edge_gated`, and whether answer and target are the line's.
+#![tactic(auto)]
 
 // One picture of the stream.
 mod case;

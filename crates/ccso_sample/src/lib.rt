@@ -1,4 +1,5 @@
 // One sample of the gated CCSO offsets: the settings as counts, its taps and their classes, and the sample with its offset.
+#![tactic(auto)]
 
 // The signed settings and offsets as counts.
 pub mod counts;

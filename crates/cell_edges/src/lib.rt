@@ -1,4 +1,5 @@
 // What an edge is, as far as its plane's grid alone says.
+#![tactic(auto)]
 
 // Whether a column starts a tile.
 pub mod starts;

@@ -1,4 +1,5 @@
 // Searches for document 01's first bad place, the test of a range, and (in proofs/) the laws by which any search or list of checks is shown to give the answer of the rules.
+#![tactic(auto)]
 
 // Samples over top, in a row and in a box of a plane.
 mod over;

@@ -1,5 +1,6 @@
 // Compares two records of edges: `compare_records A [B]` reads both, B from standard input where it is not named, prints the first edge that differs in words, and how many edges each has.
 // Its first byte is the outcome, before any name: 0 equal, 1 different, 2 a bad file.
+#![tactic(auto)]
 
 // What is printed.
 mod say;

@@ -1,4 +1,5 @@
 // Two records of edges side by side, for the support desk: the first edge that differs, or which record goes on.
+#![tactic(auto)]
 
 // The search, and what it says of both records.
 mod beside;

@@ -1,4 +1,5 @@
 // What C and Rust call: document 01's two exported functions, and the entries.
+#![tactic(auto)]
 
 // The published AC steps.
 pub mod steps;

@@ -1,6 +1,7 @@
 // Writes a picture's records of edges: `edge_record PICTURE SETTINGS Y C` reads a picture's header and its settings as the program `filter` does, and writes luma's record to
 // Y and, where chroma is deblocked, chroma's to C. No entry depends on a sample, so no sample is read. `bin/filter` runs it after a picture was filtered.
 // It prints the outcome as one digit: 0 luma's alone is written, 1 luma's and chroma's, 2 there are no such files, 3 a record could not be written.
+#![tactic(auto)]
 
 // The record of luma or of chroma.
 mod entries;

@@ -1,6 +1,7 @@
 // Filters a picture or a stream: `filter PICTURE SETTINGS OUT [plain]` reads a YUV4MPEG2 file and a settings file, deblocks each frame, applies the CCSO offsets
 // that the settings ask for, writes the frames to OUT, and answers on standard output. A fourth word asks for the plain engine, which gives the same.
 // `bin/filter` keeps OUT as it was where a frame is not filtered.
+#![tactic(auto)]
 
 // The answer.
 mod say;

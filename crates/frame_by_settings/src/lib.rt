@@ -1,4 +1,5 @@
 // A frame deblocked by what the settings of a picture ask for, and where it was refused.
+#![tactic(auto)]
 
 // Over grids of its own.
 pub mod deblocking;

@@ -1,4 +1,5 @@
 // The cases of frames: each line's frame through `deblock_frame`, and whether answer, counts, planes and grids are the line's.
+#![tactic(auto)]
 
 // The numbers and lists of a line.
 mod read;

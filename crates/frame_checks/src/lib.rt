@@ -1,4 +1,5 @@
 // A frame's settings, plane by plane, and document 01's checks of a frame before its grids are built.
+#![tactic(auto)]
 
 // The settings of a frame's planes and grids.
 pub mod parts;

@@ -1,4 +1,5 @@
 // The planes of a frame whose early checks are accepted: their grids built, checked and used, where they are filtered.
+#![tactic(auto)]
 
 // The grid of luma or of chroma from the leaves and the superblocks.
 pub mod build;

@@ -1,4 +1,5 @@
 // The TU grid of a plane, and its entry.
+#![tactic(auto)]
 
 // Painting leaves into the four lists.
 pub mod paint;

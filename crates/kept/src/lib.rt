@@ -1,4 +1,5 @@
 // Document 02, ticket 7: one edge of a plane with kept cells. The rules stand in rules' Segment.
+#![tactic(auto)]
 
 // Which samples lie in kept cells.
 mod marks;

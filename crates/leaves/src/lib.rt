@@ -1,4 +1,5 @@
 // The TU grid from lent lists of leaf records, through the same rules as from four numbers a leaf.
+#![tactic(auto)]
 
 // A leaf record, how many good ones a list starts with, and painting a list of them.
 pub mod records;

@@ -1,4 +1,5 @@
 // Document 01's "Lengths": which pair of lengths an edge has, what each pair allows, and whether an edge may be filtered at all.
+#![tactic(auto)]
 
 // The length ladder: size index, plane kind and shortening to a pair number.
 pub mod ladder;

@@ -1,4 +1,6 @@
 // Numbers of two and of four bytes, low byte first: read at a place of a list, and put there.
+#![tactic(auto)]
+
 ghost use Rattle.std.specs.Prelude.{◌≡◌, ◌+◌, ◌*◌, ◌%◌, ◌≤◌, length};
 ghost use Rattle.std.proofs.lemmas.List.Edits.{sets};
 ghost use Rattle.low_first.specs.Bytes.{number_in, low_first};

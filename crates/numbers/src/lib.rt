@@ -1,4 +1,6 @@
 // Settings as C lends them: a list of numbers, in the order of the settings' fields.
+#![tactic(auto)]
+
 ghost use Rattle.std.specs.Prelude.{◌≡◌, ◌≤◌, ◌<◌, eqb, length};
 ghost use Rattle.numbers.specs.Settings.{number_at, count_of, is_count, count_at, plane_of, replay_settings, tu_grid_of, qindex_grid_of, rectangle_of, offsets_of};
 

@@ -1,4 +1,5 @@
 // Document 01's plane: its checks, and its edges in their order.
+#![tactic(auto)]
 
 // What is made once and read at each edge.
 mod table;

@@ -1,4 +1,5 @@
 // The cases of planes: planes, recorded planes, records that are run again, and planes whose rows are filled call by call.
+#![tactic(auto)]
 
 // Whether a plane's answer is the line's.
 mod answered;

@@ -1,4 +1,5 @@
 // Document 01's checks 2, 3, 6, 7 and 8 of a plane, with document 02's check of its tile starts.
+#![tactic(auto)]
 
 // Sizes and lengths: refusals 2 and 3.
 pub mod sizes;

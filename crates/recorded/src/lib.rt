@@ -1,4 +1,5 @@
 // Ticket 1: a plane's run that writes a record of its edges into a lent buffer.
+#![tactic(auto)]
 
 // How many edges are marked.
 mod count;

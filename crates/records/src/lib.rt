@@ -1,4 +1,5 @@
 // Tickets 1 and 2: the entries of a record of edges. The record's form stands in rules' Record.
+#![tactic(auto)]
 
 // One entry: put at a place, and read there.
 mod entry;

@@ -1,4 +1,5 @@
 // Ticket 7: keep marks set over a rectangle of cells. The rules stand in rules' Keep.
+#![tactic(auto)]
 
 // The rectangle, cut to the plane.
 mod cut;

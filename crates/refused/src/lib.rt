@@ -1,4 +1,5 @@
 // What is said of settings or of a frame that is refused: number, meaning, place and the settings' line.
+#![tactic(auto)]
 
 // The lines of the answer.
 pub mod say;

@@ -1,4 +1,6 @@
 // A size as rules' Frame counts it: shifted or halved by a subsampling, rounded up to 8, and in superblocks.
+#![tactic(auto)]
+
 ghost use Rattle.std.specs.Prelude.{◌≡◌, ◌≤◌};
 ghost use Rattle.rules.specs.Numbers.{down};
 ghost use Rattle.rules.specs.Frame as Frame;

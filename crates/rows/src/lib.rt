@@ -1,4 +1,5 @@
 // Ticket 8: a plane's rows as they are filled. Each call is told how many rows are filled now, runs the edges that no later row reaches, and says which rows are final.
+#![tactic(auto)]
 
 // What the counts of filled rows say.
 mod counts;

@@ -1,4 +1,5 @@
 // The cases of rows: a plane whose rows are filled call by call, once its settings and grid are read, and whether answers and samples are the line's.
+#![tactic(auto)]
 
 // Samples moved and compared.
 mod samples;

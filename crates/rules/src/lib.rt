@@ -1,4 +1,5 @@
 // Document 01: the types that its rules speak of. The rules themselves stand in specs/, one file a section.
+#![tactic(auto)]
 
 // Depths 8, 10 and 12: top sample, highest qindex, side offset and shift.
 pub mod depth;

@@ -1,4 +1,5 @@
 // Replays streams of cases, one part after the other, and prints a line for each part: how many there were, how they came out, and how many differ.
+#![tactic(auto)]
 
 ghost use Rattle.std.specs.Prelude.{◌≡◌, length};
 

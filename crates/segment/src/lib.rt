@@ -1,4 +1,5 @@
 // Document 01, "Segment": one edge of a lent plane, in either direction. The rules stand in rules' Segment.
+#![tactic(auto)]
 
 // What filtering an edge answers.
 pub mod outcome;

@@ -1,4 +1,5 @@
 // A settings file: lines of a name and numbers, read into lists. docs/SETTINGS.md says what each name means.
+#![tactic(auto)]
 
 // The names, and where the numbers of each go.
 pub mod names;

@@ -1,4 +1,5 @@
 // A stream of frames in its file, as every program over pictures has it: the header, the settings, the frames' planes in and out, and what is said of a bad one.
+#![tactic(auto)]
 
 // The lines that tell of a bad file.
 pub mod say;

@@ -1,4 +1,6 @@
 // What a replay of recorded cases counts, and what it prints: the programs run_* speak through it, and oracle/compare reads it.
+#![tactic(auto)]
+
 ghost use Rattle.std.specs.Prelude.{◌≡◌};
 ghost use Rattle.tally.specs.Counts.{next_of, no_counts, unread_more, no_case, number_more, case_more, width_more, is_refusal, is_answer, is_counted};
 

@@ -1,4 +1,5 @@
 // Document 01, "Taps": the edge difference D of a line, and how far it moves each sample. The rules stand in rules' Taps and Ramp.
+#![tactic(auto)]
 
 // M and W, read at a width less one.
 pub mod tables;

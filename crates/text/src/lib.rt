@@ -1,6 +1,7 @@
 // A text's lines, words and decimal numbers: where they end, a word as one number, and numbers read into memory that the caller lends.
 //
 // Nothing public has a `requires`. A cursor that is not good stays so: a program reads a whole line and looks once.
+#![tactic(auto)]
 
 // The end of a line, of its content, of a run of spaces, of a word.
 pub mod place;

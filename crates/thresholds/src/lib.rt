@@ -1,4 +1,5 @@
 // Document 01's thresholds: q and side of an edge from the qindex of its two blocks.
+#![tactic(auto)]
 
 // The index of a block, and its limits.
 pub mod index;

@@ -1,4 +1,5 @@
 // Document 01's "Width choice": how many samples of an edge are filtered.
+#![tactic(auto)]
 
 // Distances between two numbers, and the larger of them.
 pub mod sizes;

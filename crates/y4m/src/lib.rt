@@ -1,4 +1,5 @@
 // A YUV4MPEG2 picture: what its header line says, and its samples as bytes.
+#![tactic(auto)]
 
 // The header line and the line before a frame.
 pub mod header;
