@@ -6,12 +6,12 @@ use Rattle.rules.proofs.depth.Depth.offset.Goals as goal
 
 pub returns-in-8 : goal.returns-in-8
 unfolding offset_of pick
-returns-in-8 c = rw c.in-8.keys1
+returns-in-8 c = rw c.in-8.is
 
 pub returns-in-10 : goal.returns-in-10
 unfolding offset_of pick
-returns-in-10 c = rw c.in-10.keys2
+returns-in-10 c = rw c.in-10.is
 
 pub returns-in_default : goal.returns-in_default
 unfolding offset_of pick
-returns-in_default c = rw (last _ c.requires c.in_default.rest.0.1 c.in_default.rest.1)
+returns-in_default c = rw (last _ c.requires c.in_default.in_default-own.rest.0.1 c.in_default.in_default-own.rest.1)
