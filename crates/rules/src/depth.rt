@@ -2,7 +2,7 @@
 ghost use Rattle.std.specs.Prelude.{◌≡◌, true};
 ghost use Rattle.rules.specs.Numbers.{depth_ok, top_of, highest_of, offset_of, shift_of};
 
-#[derive(Drop)]
+#[derive(Clone, Copy)]
 pub struct Depth8;
 
 impl Depth8 {
@@ -15,7 +15,7 @@ impl Depth8 {
     pub const SHIFT: u32 = 5;
 }
 
-#[derive(Drop)]
+#[derive(Clone, Copy)]
 pub struct Depth10;
 
 impl Depth10 {
@@ -28,7 +28,7 @@ impl Depth10 {
     pub const SHIFT: u32 = 3;
 }
 
-#[derive(Drop)]
+#[derive(Clone, Copy)]
 pub struct Depth12;
 
 impl Depth12 {
@@ -42,7 +42,7 @@ impl Depth12 {
 }
 
 // A depth of 8, 10 or 12 bits.
-#[derive(Drop)]
+#[derive(Clone, Copy)]
 pub struct Depth {
     pub bits: u32,
 }

@@ -1,7 +1,7 @@
 // How long the lists are that a frame is lent.
 
 // The six lists of a grid that have an entry for each cell: two marks, two size indices, the qindex and the keep mark.
-#[derive(Drop)]
+#[derive(Clone, Copy)]
 pub struct GridLengths {
     pub vedge: usize,
     pub hedge: usize,
@@ -12,7 +12,7 @@ pub struct GridLengths {
 }
 
 // The planes, both grids, the superblocks' qindex entries and the leaf lists.
-#[derive(Drop)]
+#[derive(Clone, Copy)]
 pub struct FrameLengths {
     pub y: usize,
     pub u: usize,

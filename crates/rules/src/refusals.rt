@@ -3,7 +3,7 @@ ghost use Rattle.std.specs.Prelude.{◌≡◌};
 ghost use Rattle.rules.specs.Refusals.{number_of, place_refused};
 
 // Why an input is refused; a place counts from 0.
-#[derive(Drop)]
+#[derive(Clone, Copy)]
 pub enum Refusal {
     Depth,
     Size,
@@ -23,35 +23,35 @@ pub enum Refusal {
 }
 
 // What a check, or an entry that gives back nothing but the lent lists, answers.
-#[derive(Drop)]
+#[derive(Clone, Copy)]
 pub enum Answer {
     Accepted,
     Refused(Refusal),
 }
 
 // Both thresholds of an edge, q and side, or why there are none.
-#[derive(Drop)]
+#[derive(Clone, Copy)]
 pub enum Thresholds {
     Both(u32, u32),
     Refused(Refusal),
 }
 
 // How many bytes a recorded plane's record takes, or why there is none.
-#[derive(Drop)]
+#[derive(Clone, Copy)]
 pub enum Recorded {
     Bytes(usize),
     Refused(Refusal),
 }
 
 // How many samples after the edge a lone segment filtered, or why it did not.
-#[derive(Drop)]
+#[derive(Clone, Copy)]
 pub enum Width {
     Samples(usize),
     Refused(Refusal),
 }
 
 // A lone segment's width or refusal, how many samples it stored, and how many of those differ from before.
-#[derive(Drop)]
+#[derive(Clone, Copy)]
 pub struct LoneAnswer {
     pub width: Width,
     pub stored: usize,
@@ -59,7 +59,7 @@ pub struct LoneAnswer {
 }
 
 // A plane's or a frame's answer, how many samples it stored, and how many of those differ from before.
-#[derive(Drop)]
+#[derive(Clone, Copy)]
 pub struct PlaneAnswer {
     pub answer: Answer,
     pub stored: usize,
@@ -67,7 +67,7 @@ pub struct PlaneAnswer {
 }
 
 // The same of a recorded plane, with its record's length or refusal.
-#[derive(Drop)]
+#[derive(Clone, Copy)]
 pub struct RecordAnswer {
     pub record: Recorded,
     pub stored: usize,
@@ -75,7 +75,7 @@ pub struct RecordAnswer {
 }
 
 // What a search for the first bad place found.
-#[derive(Drop)]
+#[derive(Clone, Copy)]
 pub enum Found {
     At(usize),
     Nothing,
