@@ -43,7 +43,7 @@ fn put_open(
     }
 }
 
-// The s samples p of a line before the edge, moved by D.W of this sign and size.
+// The s samples p of a line before the edge, moved by D·W of this sign and size.
 fn before_open(
     plane: &mut [u16],
     keep: &[u8],

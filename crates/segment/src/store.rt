@@ -9,7 +9,7 @@ use taps::difference::limited;
 use taps::moves::{move_after, move_before, move_pair};
 use taps::tables::weighted;
 
-// The s samples of a line before the edge, moved by D.W of this sign and size; how many changed, with those so far.
+// The s samples of a line before the edge, moved by D·W of this sign and size; how many changed, with those so far.
 fn side_before(
     plane: &mut [u16],
     at: usize,

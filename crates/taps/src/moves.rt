@@ -1,4 +1,4 @@
-// One sample moved by n/2048, n = D.W[s]·(s-i) given as a sign and a size: the code's form of rules' before and after. With it goes whether that
+// One sample moved by n/2048, n = D·W[s]·(s-i) given as a sign and a size: the code's form of rules' before and after. With it goes whether that
 // changes it. And a pair of samples that one move takes, where no limit is met.
 ghost use Rattle.std.specs.Prelude.{◌≡◌, ◌+◌, ◌-◌, ◌*◌, ◌/◌, ◌≤◌, min, max, true};
 ghost use Rattle.laws.specs.Changes.{differ};

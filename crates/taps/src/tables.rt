@@ -12,7 +12,7 @@ fn wide(x: u8) -> u32
     x as u32
 }
 
-// typeof.q.M[w]: how far D of an edge with after-width w may go either way.
+// q·M[w]: how far D of an edge with after-width w may go either way.
 pub fn limit_of(q: u32, w: usize) -> u32
     requires { (q ≤ 2048) × (1 ≤ w) × (w ≤ 8) }
     ensures { (result ≡ q * most_of w) × (result ≤ 65536) }
