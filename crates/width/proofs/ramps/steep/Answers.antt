@@ -1,0 +1,10 @@
+-- `ramps::steep` meets its contract: either ramp by the larger sum of two slopes against twice the limit.
+-- Assumes nothing.
+use Rattle.rules.specs.Width.{steep_of}
+use Rattle.width.proofs.Averages.{larger_is}
+use borrow.Author.Rules.{rules}
+use Rattle.width.proofs.ramps.steep.Goals as goal
+
+pub returns : goal.returns
+unfolding steep_of
+returns c = larger_is _ _ _ _ _ _ c.slopes_after.ensures c.slopes_counted.ensures c.larger.ensures
