@@ -1,0 +1,37 @@
+-- `is_size` tells the seven sizes from all other numbers. Assumes nothing.
+use borrow.Author.Tests.{ne_eqb}
+use Rattle.laws.specs.Choose.{either}
+use Rattle.rules.specs.TuGrid.{is_size}
+use Rattle.tiles.proofs.leaf.is_size.Goals as goal
+
+pub returns-in-1 : goal.returns-in-1
+unfolding is_size either
+returns-in-1 c = rw c.in-1.is
+
+pub returns-in-2 : goal.returns-in-2
+unfolding is_size either
+returns-in-2 c = rw c.in-2.is
+
+pub returns-in-4 : goal.returns-in-4
+unfolding is_size either
+returns-in-4 c = rw c.in-4.is
+
+pub returns-in-8 : goal.returns-in-8
+unfolding is_size either
+returns-in-8 c = rw c.in-8.is
+
+pub returns-in-16 : goal.returns-in-16
+unfolding is_size either
+returns-in-16 c = rw c.in-16.is
+
+pub returns-in-32 : goal.returns-in-32
+unfolding is_size either
+returns-in-32 c = rw c.in-32.is
+
+pub returns-in-64 : goal.returns-in-64
+unfolding is_size either
+returns-in-64 c = rw c.in-64.is
+
+pub returns-in_default : goal.returns-in_default
+unfolding is_size either
+returns-in_default c = rw (ne_eqb _ _ c.in_default.in_default-own.rest.0.0.0.0.0.0.1, ne_eqb _ _ c.in_default.in_default-own.rest.0.0.0.0.0.1, ne_eqb _ _ c.in_default.in_default-own.rest.0.0.0.0.1, ne_eqb _ _ c.in_default.in_default-own.rest.0.0.0.1, ne_eqb _ _ c.in_default.in_default-own.rest.0.0.1, ne_eqb _ _ c.in_default.in_default-own.rest.0.1, ne_eqb _ _ c.in_default.in_default-own.rest.1)
