@@ -1,7 +1,7 @@
 // What each entry is told beside the lent lists. Any numbers: the checks say which are accepted.
 
 // One segment alone: the plane's size in samples, the depth, and the edge.
-#[derive(Drop)]
+#[derive(Clone, Copy)]
 pub struct Lone {
     pub columns: usize,
     pub rows: usize,
@@ -16,7 +16,7 @@ pub struct Lone {
 }
 
 // A plane: cells each way, stride, the size of the border test, superblock size in cells, and how it is filtered.
-#[derive(Drop)]
+#[derive(Clone, Copy)]
 pub struct Plane {
     pub cols: usize,
     pub rows: usize,
@@ -32,7 +32,7 @@ pub struct Plane {
 }
 
 // A record to be run again: the plane's cells each way, its stride and its depth.
-#[derive(Drop)]
+#[derive(Clone, Copy)]
 pub struct Replay {
     pub cols: usize,
     pub rows: usize,
@@ -41,7 +41,7 @@ pub struct Replay {
 }
 
 // A TU grid: cells each way, subsampling, and the largest TU in cells.
-#[derive(Drop)]
+#[derive(Clone, Copy)]
 pub struct TuGrid {
     pub cols: usize,
     pub rows: usize,
@@ -52,7 +52,7 @@ pub struct TuGrid {
 }
 
 // One leaf on a plane's cells, cut into TUs of tw by th cells.
-#[derive(Drop)]
+#[derive(Clone, Copy)]
 pub struct Tile {
     pub row: usize,
     pub col: usize,
@@ -63,7 +63,7 @@ pub struct Tile {
 }
 
 // A qindex grid: cells each way, subsampling, and superblocks across.
-#[derive(Drop)]
+#[derive(Clone, Copy)]
 pub struct QindexGrid {
     pub cols: usize,
     pub rows: usize,
@@ -73,7 +73,7 @@ pub struct QindexGrid {
 }
 
 // A rectangle of cells to be kept: the plane's cells each way, and the rectangle's first row and column and its rows and columns.
-#[derive(Drop)]
+#[derive(Clone, Copy)]
 pub struct Keep {
     pub cols: usize,
     pub rows: usize,
@@ -84,7 +84,7 @@ pub struct Keep {
 }
 
 // A whole frame: the luma size, subsampling, strides, depth, deltas and caps.
-#[derive(Drop)]
+#[derive(Clone, Copy)]
 pub struct Frame {
     pub width: usize,
     pub height: usize,
@@ -104,7 +104,7 @@ pub struct Frame {
 }
 
 // CCSO: the luma size, subsampling, depth, scale, both cuts, the class numbers below, within and above them, two taps and the band log2.
-#[derive(Drop)]
+#[derive(Clone, Copy)]
 pub struct Ccso {
     pub width: usize,
     pub height: usize,
