@@ -1,4 +1,4 @@
-# Sourced by bin/camera, bin/compare_records and bin/replay, with $name its program's crate: messages, building, the start under the kit's loader, and OUT.
+# Sourced by bin/camera, bin/compare_records and bin/replay, with $name its program's crate: messages, building, the start, and OUT.
 # A signal ends what runs, with all that it started, and leaves nothing behind.
 top=$(dirname "$(dirname "$(readlink -f -- "${BASH_SOURCE[0]}")")")
 program=$top/target/bin/$name
@@ -84,7 +84,7 @@ end_out() {
   part=
 }
 
-stale() { [ ! -x "$program" ] || [ -n "$(find "$top/crates" "$top/crates.txt" -newer "$program" -print -quit)" ]; }
+stale() { [ ! -x "$program" ] || [ -n "$(find "$top/crates.txt" "$top/crates" -name out -prune -o -type f -newer "$program" -print -quit)" ]; }
 
 # Proves and builds the program where it is missing or older than a source file; a second start waits for the first.
 build() {
@@ -96,7 +96,7 @@ build() {
   flock 8 & await
   if stale; then
     tell "bin/$script: proving and building the program, which takes minutes; $log has what the prover says" >&2
-    (cd "$top" && exec setsid rt check "$name") >"$log" 2>&1 8<&- &
+    setsid "$top/tools/build" "$name" >"$log" 2>&1 8<&- &
     await || stop "the program was not built; $log says why"
     touch "$program"
   fi
@@ -105,17 +105,16 @@ build() {
 
 # Runs the program with the words given: its answer's first byte is $outcome, written before any name, and the rest $said. Descriptor 3 is standard output.
 start() {
-  local kit tools emulator
+  local emulator
   ulimit -s "$stack" 2>/dev/null || stop "the stack can't be raised to $stack KiB here (its hard limit is $(ulimit -Hs) KiB)"
-  kit=${RATTLE_HOME:-$(dirname "$(dirname "$(readlink -f "$(command -v rt)")")")}
-  tools=$kit/on/$(uname -m)/toolchain
-  emulator=$tools/bin/qemu-x86_64
-  [ -x "$emulator" ] || emulator=
+  # programs are x86-64 code
+  emulator=
+  [ "$(uname -m)" = x86_64 ] || emulator=$(command -v qemu-x86_64) || stop "the program is x86-64 code, and no emulator is here (Debian: qemu-user)"
   answer=$(mktemp) || stop "no temporary file can be made"
   exec 6>"$answer" 7<"$answer" 5<&0
   rm -f -- "$answer"
   answer=
-  setsid ${emulator:+"$emulator"} "$tools/lib/ld-linux-x86-64.so.2" --library-path "$tools/lib" "$program" "$@" <&5 3>&1 >&6 5<&- 6>&- 7<&- &
+  setsid ${emulator:+"$emulator"} "$program" "$@" <&5 3>&1 >&6 5<&- 6>&- 7<&- &
   await
   [ ! -t 2 ] || printf '\r\033[K' >&2
   IFS= read -r -d '' said <&7
