@@ -70,7 +70,7 @@ lowered_most d z ok h =
 
 -- an entry passed on as the machine holds it
 pub short : (z : ℤ) → InRange z → to_z w16 (of_z w16 z) ≡ z
-short z r = to_z-of_z (record { sfits = small z r })
+short z r = to_z-of_z {w = w16} (record { sfits = small z r })
   where
     small : (z : ℤ) → InRange z → mag z < 32768
     small (pos n) r = omega arith
