@@ -3,6 +3,6 @@ pub mod Seeking
 pub mod Spelling
 pub mod Counting
 pub mod Runs
-pub mod Signed
+pub mod Signs
 pub mod Filled
 pub mod Holding

@@ -1,0 +1,10 @@
+-- `hold_u16s` holds one entry after the other. Assumes nothing.
+use Prim.Native.Nat.{◌-◌}
+use Rattle.text.proofs.Holding.{HeldTo, holding as needs}
+use Rattle.text.proofs.lists.hold_u16s.Given as goal
+
+abbrev pub invariant-loop-i : goal.invariant-loop-i
+invariant-loop-i l = HeldTo 65535 l.text l.list l.initial.h l.i-end l.i l.h
+
+abbrev pub decreases-loop-i : goal.decreases-loop-i
+decreases-loop-i l = l.i-end - l.i

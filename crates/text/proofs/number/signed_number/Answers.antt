@@ -1,0 +1,8 @@
+-- `signed_number` is `signedAt` by what its three calls ensure. Assumes nothing.
+use Rattle.text.specs.Numbers.{signed_at}
+use borrow.Author.Rules.{rules}
+use Rattle.text.proofs.number.signed_number.Goals as goal
+
+pub returns : goal.returns
+unfolding signed_at
+returns c = cc
