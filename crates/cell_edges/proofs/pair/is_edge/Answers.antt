@@ -1,0 +1,9 @@
+-- `is_edge` meets its contract. Assumes nothing.
+use Rattle.cell_edges.proofs.Places.{places as needs}
+use Rattle.cell_edges.proofs.pair.is_edge.Goals as goal
+
+pub returns-then-by_dir-eq0 : goal.returns-then-by_dir-eq0
+returns-then-by_dir-eq0 c = search needs
+
+pub returns : goal.returns
+returns c = search needs
