@@ -1,0 +1,12 @@
+-- `lacks_horz` meets its contract. Assumes nothing.
+use Rattle.plane_checks.proofs.Reach.{ends as needs}
+use Rattle.plane_checks.proofs.room.lacks_horz.Goals as goal
+
+pub returns-then-rows-lt2 : goal.returns-then-rows-lt2
+returns-then-rows-lt2 c = search needs
+
+pub returns-in-At : goal.returns-in-At
+returns-in-At c = search needs
+
+pub returns : goal.returns
+returns c = search needs
