@@ -1,0 +1,39 @@
+// Bytes from what reads, to the front of a buffer, and bytes to what writes. What can't be read has ended; what can't be written is told by a false answer.
+ghost use Rattle.std.specs.Prelude.{◌≡◌, ◌≤◌, length};
+
+use std::io::{Read, Write};
+
+// One read to the front of a buffer: how many bytes came, and none where the input has ended or can't be read.
+pub fn read_some<R: Read>(from: &mut R, buf: &mut [u8]) -> usize
+    ensures { result ≤ length buf.new }
+{
+    match from.read(buf) {
+        Ok(n) => n,
+        Err(_) => 0,
+    }
+}
+
+// Reads until a buffer is full, the input ends or it can't be read: how many bytes stand at the buffer's front.
+pub fn read_full<R: Read>(from: &mut R, buf: &mut [u8]) -> usize
+    ensures { result ≤ length buf.new }
+{
+    let mut done = 0;
+    while done < buf.len() {
+        let n = read_some(from, &mut buf[done..]);
+        if n == 0 {
+            return done;
+        }
+        done += n;
+    }
+    done
+}
+
+// Writes all of some bytes; false where they can't be written whole.
+pub fn write_all<W: Write>(to: &mut W, bytes: &[u8]) -> bool {
+    to.write_all(bytes).is_ok()
+}
+
+// Writes a number's decimal digits; false where they can't be written whole.
+pub fn print_decimal<W: Write>(to: &mut W, n: u64) -> bool {
+    write!(to, "{n}").is_ok()
+}

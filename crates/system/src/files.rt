@@ -1,0 +1,208 @@
+// Files by their names, the three ends that a program starts with, its words, and whether somebody watches.
+ghost use Rattle.std.specs.Prelude.{◌≤◌, length};
+ghost use Rattle.std.specs.Io.{ReadsAtMost, WritesAtMost};
+
+use crate::bytes;
+use std::fs::{File, OpenOptions};
+use std::io;
+use std::io::{IsTerminal, Read, Write};
+use std::os::fd::AsFd;
+use std::rt::{Env, Files, Stderr, Stdin, Stdout};
+use std::str::from_utf8;
+
+// What a program starts with: standard input, standard output and standard error.
+#[derive(Clone, Copy)]
+pub struct Ends {
+    pub input: Stdin,
+    pub output: Stdout,
+    pub errors: Stderr,
+}
+
+// What is read: standard input, or a file.
+#[derive(Drop)]
+pub enum Source {
+    Input(Stdin),
+    File(File),
+}
+
+// What is written: standard output, standard error, or a file.
+#[derive(Drop)]
+pub enum Target {
+    Output(Stdout),
+    Errors(Stderr),
+    File(File),
+}
+
+fn read_input(input: Stdin, buf: &mut [u8]) -> io::Result<usize>
+    ensures { ReadsAtMost result buf.new }
+{
+    let mut from = input;
+    from.read(buf)
+}
+
+fn read_file(file: &File, buf: &mut [u8]) -> io::Result<usize>
+    ensures { ReadsAtMost result buf.new }
+{
+    let mut from = file;
+    from.read(buf)
+}
+
+fn read_source(from: &Source, buf: &mut [u8]) -> io::Result<usize>
+    ensures { ReadsAtMost result buf.new }
+{
+    match from {
+        Source::Input(input) => read_input(*input, buf),
+        Source::File(file) => read_file(file, buf),
+    }
+}
+
+fn write_output(output: Stdout, bytes: &[u8]) -> io::Result<usize>
+    ensures { WritesAtMost result bytes.now }
+{
+    let mut to = output;
+    to.write(bytes)
+}
+
+fn write_errors(errors: Stderr, bytes: &[u8]) -> io::Result<usize>
+    ensures { WritesAtMost result bytes.now }
+{
+    let mut to = errors;
+    to.write(bytes)
+}
+
+fn write_file(file: &File, bytes: &[u8]) -> io::Result<usize>
+    ensures { WritesAtMost result bytes.now }
+{
+    let mut to = file;
+    to.write(bytes)
+}
+
+fn write_target(to: &Target, bytes: &[u8]) -> io::Result<usize>
+    ensures { WritesAtMost result bytes.now }
+{
+    match to {
+        Target::Output(output) => write_output(*output, bytes),
+        Target::Errors(errors) => write_errors(*errors, bytes),
+        Target::File(file) => write_file(file, bytes),
+    }
+}
+
+impl Read for &Source {
+    fn read(&mut self, buf: &mut [u8]) -> io::Result<usize> {
+        read_source(*self, buf)
+    }
+}
+
+impl Write for &Target {
+    fn write(&mut self, bytes: &[u8]) -> io::Result<usize> {
+        write_target(*self, bytes)
+    }
+
+    // Nothing waits to be written.
+    fn flush(&mut self) -> io::Result<()> {
+        Ok(())
+    }
+}
+
+// Reads until a buffer is full, the input ends or it can't be read: how many bytes stand at the buffer's front.
+pub fn read_full(from: &Source, buf: &mut [u8]) -> usize
+    ensures { result ≤ length buf.new }
+{
+    let mut source = from;
+    bytes::read_full(&mut source, buf)
+}
+
+// Writes all of some bytes; false where they can't be written whole.
+pub fn write_all(to: &Target, text: &[u8]) -> bool {
+    let mut target = to;
+    bytes::write_all(&mut target, text)
+}
+
+// Writes a number's decimal digits; false where they can't be written whole.
+pub fn print_decimal(to: &Target, n: u64) -> bool {
+    let mut target = to;
+    bytes::print_decimal(&mut target, n)
+}
+
+// A file by its name, opened so; none where it can't be opened, or where its name is no text.
+fn by_name<R: Files<File = File>>(rt: &R, how: &OpenOptions, name: &[u8]) -> Option<File> {
+    let Ok(path) = from_utf8(name) else {
+        return None;
+    };
+    match how.open(rt, path) {
+        Ok(file) => Some(file),
+        Err(_) => None,
+    }
+}
+
+// Whether a name is '-', which stands for what is open already.
+fn is_dash(name: &[u8]) -> bool {
+    if name.len() != 1 {
+        return false;
+    }
+    name[0] == 45
+}
+
+// A file to read: standard input for '-'.
+pub fn open_in<R: Files<File = File>>(rt: &R, ends: Ends, name: &[u8]) -> Option<Source> {
+    if is_dash(name) {
+        return Some(Source::Input(ends.input));
+    }
+    let mut how = OpenOptions::new();
+    how.read(true);
+    Some(Source::File(by_name(rt, &how, name)?))
+}
+
+// A file to write, emptied or made: standard output for '-'.
+pub fn open_out<R: Files<File = File>>(rt: &R, ends: Ends, name: &[u8]) -> Option<Target> {
+    if is_dash(name) {
+        return Some(Target::Output(ends.output));
+    }
+    let mut how = OpenOptions::new();
+    how.write(true).create(true).truncate(true);
+    Some(Target::File(by_name(rt, &how, name)?))
+}
+
+// Where the answer goes: standard output; descriptor 3 where '-', the name of what is written, has standard output, and standard error where that is not open.
+pub fn answers<R: Files<File = File>>(rt: &R, ends: Ends, out: &[u8]) -> Target {
+    if !is_dash(out) {
+        return Target::Output(ends.output);
+    }
+    let mut how = OpenOptions::new();
+    how.write(true);
+    match by_name(rt, &how, b"/dev/fd/3") {
+        Some(file) => Target::File(file),
+        None => Target::Errors(ends.errors),
+    }
+}
+
+// Whether all that was written to a regular file is on its disk; what is none has no disk.
+fn is_kept(file: &File) -> bool {
+    match file.metadata() {
+        Ok(m) => !m.is_file() || file.sync_data().is_ok(),
+        Err(_) => false,
+    }
+}
+
+// Closes what was written; false where a file is not whole on its disk.
+pub fn close(to: Target) -> bool {
+    match to {
+        Target::Output(_) | Target::Errors(_) => true,
+        Target::File(file) => is_kept(&file),
+    }
+}
+
+// Word k that the program was started with, to the front of a buffer; how long it is, 0 where there is none or it does not fit.
+pub fn word<R: Env>(rt: &R, k: usize, buf: &mut [u8]) -> usize
+    ensures { result ≤ length buf.new }
+{
+    match rt.arg(k, buf) {
+        Ok(n) => n,
+        Err(_) => 0,
+    }
+}
+
+// Whether standard error is a terminal.
+pub fn is_watched(ends: Ends) -> bool {
+    ends.errors.as_fd().is_terminal()
+}
