@@ -6,10 +6,12 @@ ghost use Rattle.tally.specs.Counts.{next_of, no_counts, unread_more, no_case, n
 
 use rules::refusals;
 use rules::refusals::{Answer, PlaneAnswer, Refusal};
+use std::io::Write;
 use std::num::wrapping_add_u64;
+use system::bytes::{print_decimal, write_all};
 
 // Cases by the refusal number that the stream gives them, 0 for none; accepted segments by their width; cases that differ; lines that can't be read.
-#[derive(Drop)]
+#[derive(Clone, Copy)]
 pub struct Tally {
     pub numbers: [u64; 21],
     pub widths: [u64; 9],
@@ -129,48 +131,48 @@ pub fn same_counted(
 }
 
 // A number after its name.
-fn part(name: &[u8], value: u64) {
-    io::write_all(1, name);
-    io::print_decimal(1, value);
+fn part<W: Write>(to: &mut W, name: &[u8], value: u64) {
+    write_all(to, name);
+    print_decimal(to, value);
 }
 
 // A refusal number and its count: document 01's always, a ticket's where it was given.
-fn print_number(k: usize, n: u64) {
+fn print_number<W: Write>(to: &mut W, k: usize, n: u64) {
     if 9 < k && n == 0 {
         return;
     }
-    part(b", by ", k as u64);
-    part(b": ", n);
+    part(to, b", by ", k as u64);
+    part(to, b": ", n);
 }
 
-fn print_numbers(n: [u64; 21]) {
-    part(b"accepted ", n[0]);
-    part(b", refused by 1: ", n[1]);
+fn print_numbers<W: Write>(to: &mut W, n: [u64; 21]) {
+    part(to, b"accepted ", n[0]);
+    part(to, b", refused by 1: ", n[1]);
     for k in 2..21 {
-        print_number(k, n[k]);
+        print_number(to, k, n[k]);
     }
 }
 
 // How the cases came out, in one line.
-pub fn print(t: Tally) {
+pub fn print<W: Write>(to: &mut W, t: Tally) {
     let n = t.numbers;
-    print_numbers(n);
-    part(b"; different ", t.different);
-    part(b", unread ", t.unread);
-    io::write_all(1, b"\n");
+    print_numbers(to, n);
+    part(to, b"; different ", t.different);
+    part(to, b", unread ", t.unread);
+    write_all(to, b"\n");
 }
 
 // How often each width was reached, in one line.
-pub fn print_widths(t: Tally) {
+pub fn print_widths<W: Write>(to: &mut W, t: Tally) {
     let w = t.widths;
-    part(b"width 0: ", w[0]);
-    part(b", 1: ", w[1]);
-    part(b", 2: ", w[2]);
-    part(b", 3: ", w[3]);
-    part(b", 4: ", w[4]);
-    part(b", 5: ", w[5]);
-    part(b", 6: ", w[6]);
-    part(b", 7: ", w[7]);
-    part(b", 8: ", w[8]);
-    io::write_all(1, b"\n");
+    part(to, b"width 0: ", w[0]);
+    part(to, b", 1: ", w[1]);
+    part(to, b", 2: ", w[2]);
+    part(to, b", 3: ", w[3]);
+    part(to, b", 4: ", w[4]);
+    part(to, b", 5: ", w[5]);
+    part(to, b", 6: ", w[6]);
+    part(to, b", 7: ", w[7]);
+    part(to, b", 8: ", w[8]);
+    write_all(to, b"\n");
 }
