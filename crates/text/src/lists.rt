@@ -8,7 +8,7 @@ use crate::number::{Cursor, ended};
 use crate::typed::{read_signed, read_unsigned};
 
 // A list that is being read: its length, the entry that was read last, and what follows it.
-#[derive(Drop)]
+#[derive(Clone, Copy)]
 pub struct Reading {
     pub length: usize,
     pub entry: usize,
@@ -16,14 +16,14 @@ pub struct Reading {
 }
 
 // How many entries a list has, and what follows it.
-#[derive(Drop)]
+#[derive(Clone, Copy)]
 pub struct Listed {
     pub length: usize,
     pub rest: Cursor,
 }
 
 // How many entries two lists have, and what follows them.
-#[derive(Drop)]
+#[derive(Clone, Copy)]
 pub struct Two {
     pub a: usize,
     pub b: usize,
@@ -31,14 +31,14 @@ pub struct Two {
 }
 
 // How many steps a line sets, and whether it was read whole.
-#[derive(Drop)]
+#[derive(Clone, Copy)]
 pub struct Steps {
     pub length: usize,
     pub whole: bool,
 }
 
 // Whether the next entries are those of a list, the first place that differs, and what follows.
-#[derive(Drop)]
+#[derive(Clone, Copy)]
 pub struct Held {
     pub same: bool,
     pub place: usize,

@@ -4,7 +4,7 @@ ghost use Rattle.text.specs.Digits.{goes_on, read_digits};
 ghost use Rattle.text.specs.Numbers.{nothing, past, blank_of, ends, closed, signed_at, whole_line, number_at};
 
 // A place in a line: its next byte, the line's end, and whether every number so far was there.
-#[derive(Drop)]
+#[derive(Clone, Copy)]
 pub struct Cursor {
     pub at: usize,
     pub end: usize,
@@ -12,7 +12,7 @@ pub struct Cursor {
 }
 
 // A number as it is written, and what follows it.
-#[derive(Drop)]
+#[derive(Clone, Copy)]
 pub struct Number {
     pub negative: bool,
     pub size: usize,
@@ -20,7 +20,7 @@ pub struct Number {
 }
 
 // What a run of digits says, and the place after it.
-#[derive(Drop)]
+#[derive(Clone, Copy)]
 pub struct Run {
     pub value: usize,
     pub next: usize,

@@ -5,7 +5,7 @@ ghost use Rattle.text.specs.Words.{goes_on, read_letters, word_at};
 use crate::place::blank;
 
 // What a word says, and the place after it.
-#[derive(Drop)]
+#[derive(Clone, Copy)]
 pub struct Word {
     pub value: usize,
     pub next: usize,

@@ -5,20 +5,20 @@ ghost use Rattle.text.specs.Typed.{failed, unsigned_of, below_zero, from_zero, s
 
 use crate::number::{Cursor, next_number};
 
-#[derive(Drop)]
+#[derive(Clone, Copy)]
 pub struct Unsigned {
     pub value: usize,
     pub rest: Cursor,
 }
 
-#[derive(Drop)]
+#[derive(Clone, Copy)]
 pub struct Signed {
     pub value: i32,
     pub rest: Cursor,
 }
 
 // The answer that a line gives its case: the refusal's number, 0 for none, its place, and how many samples are stored and changed, 0 where the line counts none.
-#[derive(Drop)]
+#[derive(Clone, Copy)]
 pub struct Answered {
     pub number: usize,
     pub place: usize,
