@@ -3,7 +3,7 @@ ghost use Rattle.std.specs.Prelude.{◌≡◌};
 ghost use Rattle.y4m.specs.Formats.{form, layout_of};
 
 // Subsampling each way, whether there is chroma, and the depth; a depth of 0 is no format.
-#[derive(Drop)]
+#[derive(Clone, Copy)]
 pub struct Layout {
     pub ssx: usize,
     pub ssy: usize,

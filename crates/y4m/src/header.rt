@@ -9,7 +9,7 @@ use text::Cursor;
 use text::spell::read_word;
 
 // What a header line says; a size of 0 is missing, bad or above 4096.
-#[derive(Drop)]
+#[derive(Clone, Copy)]
 pub struct Header {
     pub opens: bool,
     pub width: usize,
