@@ -1,4 +1,4 @@
-// A stream of cases: whole lines, read from standard input into memory that the caller lends, and what several kinds of case read and compare.
+// A stream of cases: whole lines, read from an input into memory that the caller lends, and what several kinds of case read and compare.
 #![tactic(auto)]
 
 // Whole lines in a lent buffer.

@@ -1,12 +1,13 @@
-// Whole lines of standard input, in a buffer that the caller lends.
+// Whole lines of an input, in a buffer that the caller lends.
 ghost use Rattle.std.specs.Prelude.{◌≡◌, ◌+◌, ◌≤◌, length};
 ghost use Rattle.cases.specs.Lines.{Stands, Absent};
 
-use libc::STDIN_FILENO;
+use std::io::Read;
+use system::bytes;
 use text::Cursor;
 
 // The line that stands in the buffer, what of the buffer is filled, and whether there is a line.
-#[derive(Drop)]
+#[derive(Clone, Copy)]
 pub struct Lines {
     pub from: usize,
     pub end: usize,
@@ -18,7 +19,7 @@ pub struct Lines {
 }
 
 // What a buffer holds after reading: the next line's end, or where the filled part ends.
-#[derive(Drop)]
+#[derive(Clone, Copy)]
 struct More {
     end: usize,
     filled: usize,
@@ -89,32 +90,31 @@ fn move_down(buf: &mut [u8], from: usize, to: usize) -> usize
 }
 
 // One read into the buffer from a place on: how many bytes came.
-fn read_some(buf: &mut [u8], to: usize) -> usize
+fn read_some<R: Read>(input: &mut R, buf: &mut [u8], to: usize) -> usize
     requires { to ≤ length buf.old }
     ensures { (to + result ≤ length buf.new) × (length buf.new ≡ length buf.old) }
 {
-    let got = libc::read(STDIN_FILENO, &mut buf[to..]);
-    io::count(got, &buf[to..])
+    bytes::read_some(input, &mut buf[to..])
 }
 
 // Reads until a newline comes, the buffer is full or the input ends.
-fn read_on(buf: &mut [u8], kept: usize) -> More
+fn read_on<R: Read>(input: &mut R, buf: &mut [u8], kept: usize) -> More
     requires { kept ≤ length buf.old }
     ensures end_le_filled { (result.end ≤ result.filled) × (result.filled ≤ length buf.new) }
     ensures buf_len_unchanged { length buf.new ≡ length buf.old }
 {
     let mut filled = kept;
     while filled < buf.len() {
-        let got = read_some(buf, filled);
+        let got = read_some(input, buf, filled);
         if got == 0 {
             return More {
                 end: filled,
                 filled,
             };
         }
-        let from = filled;
+        let start = filled;
         filled += got;
-        let end = newline(buf, from, filled);
+        let end = newline(buf, start, filled);
         if end < filled {
             return More { end, filled };
         }
@@ -126,13 +126,13 @@ fn read_on(buf: &mut [u8], kept: usize) -> More
 }
 
 // The line at the buffer's front, once no whole one was left.
-fn refill(buf: &mut [u8], from: usize, to: usize) -> Lines
+fn refill<R: Read>(input: &mut R, buf: &mut [u8], from: usize, to: usize) -> Lines
     requires { (from ≤ to) × (to ≤ length buf.old) }
     ensures stands { Stands result buf.new }
     ensures buf_len_unchanged { length buf.new ≡ length buf.old }
 {
     let kept = move_down(buf, from, to);
-    let more = read_on(buf, kept);
+    let more = read_on(input, buf, kept);
     let end = more.end;
     let filled = more.filled;
     if end < filled {
@@ -162,7 +162,7 @@ fn refill(buf: &mut [u8], from: usize, to: usize) -> Lines
 }
 
 // The next line, which then stands in the buffer.
-pub fn next_line(buf: &mut [u8], l: Lines) -> Lines
+pub fn next_line<R: Read>(input: &mut R, buf: &mut [u8], l: Lines) -> Lines
     ensures stands { Stands result buf.new }
     ensures buf_len_unchanged { length buf.new ≡ length buf.old }
 {
@@ -185,5 +185,5 @@ pub fn next_line(buf: &mut [u8], l: Lines) -> Lines
             long: false,
         };
     }
-    refill(buf, next, filled)
+    refill(input, buf, next, filled)
 }
