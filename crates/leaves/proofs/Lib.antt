@@ -3,8 +3,4 @@ pub mod Flat
 pub mod Entry
 pub mod Unique
 pub mod While
-pub mod Again
-pub mod Four
-pub mod Relent
-pub mod Asks
 pub mod Exactly

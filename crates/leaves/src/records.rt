@@ -11,7 +11,7 @@ use tiles::leaf::leaf_good;
 
 // A leaf: its first row and column and its size, in luma cells; bit 4096 as in a list of numbers. C's `struct bihargesh_leaf`.
 #[repr(C)]
-#[derive(Drop)]
+#[derive(Clone, Copy)]
 pub struct Leaf {
     pub row: u16,
     pub col: u16,
