@@ -33,7 +33,7 @@ module _ (xs : List ℕ) (c : Cursor) where
   skip_past h g = rw (le-ltb _ _ h, lt-ltb _ _ g)
 
   pub skip_within : (at : ℕ) → c.end ≤ length xs → c.at ≤ c.end → at ≡ seek (ink_at xs) c.at (c.end - c.at)
-      → record { at = at; end = c.end; good = c.well-formed } ≡ skipped xs c
+      → record { at = at; end = c.end; good = c.good } ≡ skipped xs c
   unfolding skipped pick
   skip_within at h g e = rw (le-ltb _ _ h, le-ltb _ _ g, ← e)
 

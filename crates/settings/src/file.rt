@@ -12,7 +12,7 @@ use text::place::{content_end, line_end, spaces};
 use text::spell::read_word;
 
 // The line, the kind of setting that was expected there, and the place where the line starts; kind 0 is no fault, 24 is any name.
-#[derive(Drop)]
+#[derive(Clone, Copy)]
 pub struct Fault {
     pub line: usize,
     pub kind: usize,

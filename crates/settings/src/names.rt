@@ -7,7 +7,7 @@ use laws::least;
 
 // Which list the numbers go to: 0 signed numbers, 1 short ones, 2 steps, 3 flags, 4 offsets, 5 short ones of a setting of one line; the first place and the one
 // after the last; and how many numbers a line has, 0 for any.
-#[derive(Drop)]
+#[derive(Clone, Copy)]
 pub struct Rule {
     pub list: usize,
     pub from: usize,

@@ -8,7 +8,7 @@ use text::place::spaces;
 use text::{Cursor, Number};
 
 // The place after the last number, and what is left of the line.
-#[derive(Drop)]
+#[derive(Clone, Copy)]
 pub struct Taken {
     pub at: usize,
     pub rest: Cursor,
