@@ -8,7 +8,7 @@ use laws::least;
 use rules::settings::Plane;
 
 // So many rows from a row, and so many columns from a column.
-#[derive(Drop)]
+#[derive(Clone, Copy)]
 pub struct Part {
     pub row: usize,
     pub rows: usize,
