@@ -8,7 +8,7 @@ use rules::depth::Depth;
 use rules::settings::Ccso;
 
 // What the run asks of the settings: cuts raised by 4095, taps by 16, luma samples a target sample each way, and the top sample.
-#[derive(Drop)]
+#[derive(Clone, Copy)]
 pub struct Counts {
     pub lo: u32,
     pub hi: u32,
@@ -22,7 +22,7 @@ pub struct Counts {
 }
 
 // Sizes of the target: samples each way, a block's samples each way, and blocks across.
-#[derive(Drop)]
+#[derive(Clone, Copy)]
 pub struct Sizes {
     pub width: usize,
     pub height: usize,

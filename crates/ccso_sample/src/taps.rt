@@ -8,7 +8,7 @@ use crate::counts::Counts;
 use rules::settings::Ccso;
 
 // Row y of the target: where it starts, where its luma rows start (its own and both taps'), and where its flags do.
-#[derive(Drop)]
+#[derive(Clone, Copy)]
 pub struct Row {
     pub y: usize,
     pub at: usize,
