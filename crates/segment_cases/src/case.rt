@@ -9,7 +9,7 @@ use tally::Tally;
 use text::{Answered, Cursor};
 
 // The segment, its plane's length, where the plane's samples stand as lent, and what the stream answers: an accepted case's place is its width.
-#[derive(Drop)]
+#[derive(Clone, Copy)]
 struct Case {
     s: Lone,
     length: usize,
@@ -18,14 +18,14 @@ struct Case {
 }
 
 // A coordinate, and what follows it.
-#[derive(Drop)]
+#[derive(Clone, Copy)]
 struct Coordinate {
     value: u16,
     rest: Cursor,
 }
 
 // The segment's settings, and what follows them.
-#[derive(Drop)]
+#[derive(Clone, Copy)]
 struct Settings {
     s: Lone,
     rest: Cursor,
@@ -128,13 +128,18 @@ fn compare(text: &[u8], c: Case, plane: &mut [u16], t: Tally) -> Tally
     counted
 }
 
+// Room for the most samples that a case may lend.
+fn room() -> [u16; 524288] {
+    [0; 524288]
+}
+
 // A line, of the one kind: the plane has room for the most samples that a case may lend.
 pub fn replay(text: &[u8], c: Cursor, t: Tally) -> Tally {
     let kind = text::read_unsigned(text, c, 1);
     if kind.value != 1 {
         return tally::unread(t);
     }
-    let mut plane = [0u16; 524288];
+    let mut plane = room();
     let one = read(text, kind.rest, &mut plane);
     let n = one.length;
     compare(text, one, &mut plane[..n], t)

@@ -5,7 +5,7 @@ use text::Cursor;
 use thresholds::combine::combine_thresholds;
 
 // The entry's numbers, the refusal's number or 0, and the answer's two numbers.
-#[derive(Drop)]
+#[derive(Clone, Copy)]
 struct Case {
     curr: u16,
     prev: u16,
@@ -19,7 +19,7 @@ struct Case {
 }
 
 // A qindex, and what follows it.
-#[derive(Drop)]
+#[derive(Clone, Copy)]
 struct Qindex {
     value: u16,
     rest: Cursor,
