@@ -7,7 +7,7 @@ use tally::Tally;
 use text::{Answered, Cursor};
 
 // The settings, where the list starts, how long both lists are, and the answer.
-#[derive(Drop)]
+#[derive(Clone, Copy)]
 struct Case {
     s: QindexGrid,
     entries: usize,

@@ -2,7 +2,7 @@
 use text::Cursor;
 
 // The numbers in the line's order, and what follows them.
-#[derive(Drop)]
+#[derive(Clone, Copy)]
 pub struct Six {
     pub a: usize,
     pub b: usize,

@@ -26,7 +26,7 @@ fn entries(text: &[u8], c: Cursor, counted: bool) -> Cursor {
 }
 
 // The lists held against the stream's: whether they are the same, and what follows them.
-#[derive(Drop)]
+#[derive(Clone, Copy)]
 struct Matched {
     same: bool,
     rest: Cursor,
