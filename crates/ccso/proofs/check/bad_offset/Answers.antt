@@ -1,0 +1,17 @@
+-- `bad_offset`'s loop: no offset so far is bad. Assumes nothing.
+use mathlib.Core.Path.{◌≡◌}
+use Prim.Native.Nat.{ℕ, ◌+◌, ◌-◌, ◌≤◌}
+use Rattle.rules.specs.declared.refusals.Found.TheVariants.{Nothing}
+use Rattle.rules.specs.Refusals.{first, found_unless}
+use Rattle.rules.specs.Ccso.{offset_ok}
+use Rattle.ccso.proofs.Lengths.{offsets_first as needs}
+use Rattle.ccso.proofs.check.bad_offset.Goals as goal
+
+pub loop-k-init : goal.loop-k-init
+loop-k-init c = search needs
+
+pub returns-then-not-in_range : goal.returns-then-not-in_range
+returns-then-not-in_range c = search needs
+
+pub loop-k-preserved : goal.loop-k-preserved
+loop-k-preserved c = search needs

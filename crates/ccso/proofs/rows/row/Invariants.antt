@@ -1,0 +1,18 @@
+-- `row`'s loop: each block so far has its columns. Assumes nothing.
+use Rattle.ccso.proofs.Blocks.{row_blocks, fit_same, blocks_more, blocks_end, row_at}
+use mathlib.Core.Path.{◌≡◌, ◌∙◌}
+use Prim.Native.Nat.{◌-◌, ◌≤◌}
+use native.Mathlib.Omega.{arith}
+use borrow.Author.Rules.{rules}
+use lib.ListN.{length}
+use Rattle.laws.specs.Loops.{turns}
+use Rattle.rules.specs.Ccso.{ccso_cell}
+use Rattle.ccso.specs.Lists.{columns_to}
+use Rattle.ccso_sample.proofs.Places.{blocks_most}
+use Rattle.ccso.proofs.rows.row.Given as goal
+
+abbrev pub invariant-loop-b : goal.invariant-loop-b
+invariant-loop-b l = (l.b ≤ l.blocks) × (l.target ≡ turns (columns_to l.s l.b) (λ x. ccso_cell l.s l.luma l.flags l.offsets l.r.y x) l.initial.target) × (length l.target ≡ length l.initial.target)
+
+abbrev pub decreases-loop-b : goal.decreases-loop-b
+decreases-loop-b l = l.blocks - l.b
