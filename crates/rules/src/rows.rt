@@ -2,14 +2,14 @@
 use crate::refusals::Answer;
 
 // How many rows of samples the last accepted call was told are filled, and whether a bad sample has spent the state.
-#[derive(Drop)]
+#[derive(Clone, Copy)]
 pub struct RowState {
     pub held: usize,
     pub spent: bool,
 }
 
 // A call's answer, how many samples it stored, how many of those differ from before, the state for the next call, and how many rows from the top are final.
-#[derive(Drop)]
+#[derive(Clone, Copy)]
 pub struct RowsAnswer {
     pub answer: Answer,
     pub stored: usize,
