@@ -1,0 +1,25 @@
+-- `frame_given` leaves at the first check that refuses: steps, deltas and caps, tile starts, leaves. Assumes nothing.
+use Rattle.rules.specs.Frame.{frame_given, frame_leaves}
+use Rattle.checks.proofs.Checks.{stop_by, go_on_by}
+use borrow.Author.Rules.{rules}
+use Rattle.frame_checks.proofs.early.frame_given.Goals as goal
+
+pub returns-in-Refused : goal.returns-in-Refused
+unfolding frame_given
+returns-in-Refused c = λ q. stop_by _ _ _ c.steps_check-a.ensures c.in-Refused.is
+
+pub returns-in-Refused-b : goal.returns-in-Refused-b
+unfolding frame_given
+returns-in-Refused-b c = λ q. go_on_by _ _ _ _ c.steps_check-a.ensures c.in_default.is (stop_by _ _ _ c.frame_settings-b.ensures c.in-Refused-b.is)
+
+pub returns-in-Refused-d : goal.returns-in-Refused-d
+unfolding frame_given
+returns-in-Refused-d c =
+    λ q. go_on_by _ _ _ _ c.steps_check-a.ensures c.in_default.is
+    (go_on_by _ _ _ _ c.frame_settings-b.ensures c.in_default-b.is (stop_by _ _ _ c.frame_tiles-d.ensures c.in-Refused-d.is))
+
+pub returns : goal.returns
+unfolding frame_given frame_leaves
+returns c =
+    λ q. go_on_by _ _ _ _ c.steps_check-a.ensures c.in_default.is
+    (go_on_by _ _ _ _ c.frame_settings-b.ensures c.in_default-b.is (go_on_by _ _ _ _ c.frame_tiles-d.ensures c.in_default-d.is c.frame_leaves.ensures))

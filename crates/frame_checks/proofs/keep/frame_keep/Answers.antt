@@ -1,0 +1,14 @@
+-- `frame_keep` is luma's marks, then chroma's. Assumes nothing.
+use Rattle.rules.specs.Refusals.{only_if}
+use Rattle.rules.specs.Frame.{frame_keep}
+use Rattle.checks.proofs.Checks.{stop_by, go_on_by}
+use borrow.Author.Rules.{rules}
+use Rattle.frame_checks.proofs.keep.frame_keep.Goals as goal
+
+pub returns-in-Refused : goal.returns-in-Refused
+unfolding frame_keep only_if
+returns-in-Refused c = stop_by _ _ _ c.kind_keep-a.ensures c.in-Refused.is
+
+pub returns : goal.returns
+unfolding frame_keep only_if
+returns c = go_on_by _ _ _ _ c.kind_keep-a.ensures c.in_default.is c.kind_keep.ensures
