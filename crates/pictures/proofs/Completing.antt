@@ -4,7 +4,7 @@ use mathlib.Core.List.{List}
 use Prim.Native.Nat.{ℕ}
 use borrow.Author.Rules.{rules}
 use lib.ListN.{get_or, set}
-use Rattle.laws.specs.Choose.{pick, pick_yes, pick_no, is_eq, not_eq}
+use Rattle.laws.specs.Choose.{pick_yes, pick_no, is_eq, not_eq}
 use Rattle.rules.specs.Frame.{superblocks}
 use Rattle.pictures.specs.Defaults.{last_repeated, tiled, tiled_end, complete_shorts, complete_places}
 

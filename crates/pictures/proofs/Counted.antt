@@ -1,6 +1,6 @@
 -- A picture's planes are padded as a frame counts: their rows are as long, and as many, as the samples of the frame's cells. Assumes nothing.
-use mathlib.Core.Path.{◌≡◌, refl}
-use Prim.Native.Nat.{ℕ, ◌+◌, ◌*◌, ◌/◌, ◌≤◌}
+use mathlib.Core.Path.{◌≡◌}
+use Prim.Native.Nat.{ℕ, ◌+◌, ◌*◌, ◌/◌}
 use native.Mathlib.Omega.{arith}
 use Rattle.rules.specs.declared.settings.Frame.{Frame}
 use Rattle.rules.specs.Numbers.{down}

@@ -1,14 +1,14 @@
 -- Leaves as code stores them: number by number, leaf by leaf, row by row. Assumes nothing.
-use mathlib.Core.Path.{◌≡◌, refl, sym, ap, ◌∙◌}
+use mathlib.Core.Path.{◌≡◌, refl, ap, ◌∙◌}
 use mathlib.Core.List.{List, [], ◌∷◌}
-use Prim.Native.Nat.{ℕ, suc, ◌+◌, ◌*◌, ◌≤◌, ◌<◌}
+use Prim.Native.Nat.{ℕ, suc, ◌+◌, ◌*◌}
 use native.Mathlib.Numerals.{add-one}
 use native.Mathlib.Omega.{arith}
 use borrow.Author.Rules.{rules}
 use lib.ListN.{length, set}
 use Rattle.laws.specs.Loops.{each}
 use Rattle.pictures.specs.Storing.{stored}
-use Rattle.pictures.specs.Defaults.{leaf, leaf_row, leaves, tiled, tiled_end}
+use Rattle.pictures.specs.Defaults.{leaf, leaf_row}
 use Rattle.pictures.proofs.Places.{row_place, first_place, last_place}
 use Rattle.pictures.proofs.Storing.{stored_long, pieces_none, pieces_more, pieces_end, pieces_length}
 

@@ -1,13 +1,12 @@
 -- A last entry repeated, as a loop does it that reads the entry before each place. Assumes nothing.
-use mathlib.Core.Path.{◌≡◌, refl, sym, ap, ◌∙◌}
+use mathlib.Core.Path.{◌≡◌, refl, ap, ◌∙◌}
 use mathlib.Core.List.{List}
 use Prim.Native.Nat.{ℕ, ◌+◌, ◌-◌, ◌≤◌, ◌<◌, max}
 use native.Mathlib.Omega.{arith}
 use borrow.Author.Rules.{rules}
-use lib.Dec.{eqb}
 use lib.ListN.{length, get_or, set, replicate}
 use lib.Seq.{get_or-set_same}
-use Rattle.laws.specs.Choose.{pick, pick_yes, pick_no, is_eq, not_eq}
+use Rattle.laws.specs.Choose.{pick_yes, pick_no, is_eq, not_eq}
 use Rattle.pictures.specs.Storing.{stored}
 use Rattle.pictures.specs.Defaults.{last_repeated}
 use Rattle.pictures.proofs.Storing.{again_none, again_more, again_end}

@@ -1,12 +1,11 @@
 -- A list stored into another one: in pieces, as a loop does it, and what stands in the list afterwards.
 -- Assumes nothing.
 use mathlib.Core.Path.{◌≡◌, refl, sym, ap, ◌∙◌}
-use mathlib.Core.List.{List, [], ◌∷◌, ◌++◌, append-nil}
+use mathlib.Core.List.{List, [], ◌∷◌, ◌++◌}
 use Prim.Native.Nat.{ℕ, zero, suc, ◌+◌, ◌-◌, ◌*◌, ◌≤◌, ◌<◌}
 use native.Mathlib.Nat.{add-zero, le_refl, le_step, mul-suc, le_antisymm}
 use native.Mathlib.Numerals.{add-one}
 use native.Mathlib.Omega.{arith}
-use borrow.Author.Rules.{rules}
 use lib.ListN.{length, get_or, take, drop, set, replicate, length-set, length-take, take-append-drop, length-append, length-replicate, replicate-append-replicate}
 use lib.Seq.{take_all, take-suc, set_out, sets, length-sets, sets-eq, drop-set-lt, get_or-set_other}
 use Rattle.laws.specs.Loops.{each, filled, singles_length}

@@ -1,6 +1,6 @@
 -- What holds where the settings do not say: numbers, a qindex for every superblock, a leaf for every superblock.
 -- Assumes nothing.
-use Rattle.std.specs.Prelude.{◌≡◌, List, [], ◌∷◌, ℕ, ◌+◌, ◌-◌, ◌*◌, eqb, ℤ, pos, get_or, set, replicate}
+use Rattle.std.specs.Prelude.{List, [], ◌∷◌, ℕ, ◌+◌, ◌-◌, ◌*◌, eqb, ℤ, pos, get_or, set, replicate}
 use Rattle.laws.specs.Choose.{pick}
 use Rattle.laws.specs.Loops.{each}
 use Rattle.rules.specs.Frame.{superblocks}

@@ -2,29 +2,10 @@
 ghost use Rattle.std.specs.Prelude.{◌≡◌, ◌≤◌, length};
 ghost use Rattle.pictures.specs.Texts.{Line};
 
-// Whether a name is '-', which stands for a descriptor that is open already.
-fn is_dash(name: &[u8]) -> bool {
-    if name.len() != 1 {
-        return false;
-    }
-    name[0] == 45
-}
-
-// A file to read: standard input for '-'.
-pub fn open_in(name: &[u8]) -> i32 {
-    if is_dash(name) {
-        return 0;
-    }
-    os::open_read(name)
-}
-
-// A file to write: descriptor 3 for '-', since standard output has the answer.
-pub fn open_out(name: &[u8]) -> i32 {
-    if is_dash(name) {
-        return 3;
-    }
-    os::open_overwrite(name)
-}
+use std::fs::File;
+use std::rt::Files;
+pub use system::files::{open_in, open_out};
+use system::files::{Ends, Source, read_full};
 
 // How many bytes a settings text may have.
 pub fn text_room() -> [u8; 33554432] {
@@ -32,38 +13,38 @@ pub fn text_room() -> [u8; 33554432] {
 }
 
 // What was read of a file: whether it could be opened, and how many bytes.
-#[derive(Drop)]
+#[derive(Clone, Copy)]
 pub struct Whole {
     pub opened: bool,
     pub n: usize,
 }
 
 // A file's bytes to the front of a buffer; one that has as many as the buffer may have more.
-pub fn read_whole(name: &[u8], buf: &mut [u8]) -> Whole
+pub fn read_whole<R: Files<File = File>>(rt: &R, ends: Ends, name: &[u8], buf: &mut [u8]) -> Whole
     ensures { result.n ≤ length buf.new }
 {
-    let fd = open_in(name);
-    if fd < 0 {
-        return Whole {
+    match open_in(rt, ends, name) {
+        Some(from) => Whole {
+            opened: true,
+            n: read_full(&from, buf),
+        },
+        None => Whole {
             opened: false,
             n: 0,
-        };
+        },
     }
-    let n = io::read_full(fd, buf);
-    libc::close(fd);
-    Whole { opened: true, n }
 }
 
 // The next byte of a file, where there is one.
-#[derive(Drop)]
+#[derive(Clone, Copy)]
 enum Next {
     Byte(u8),
     End,
 }
 
-fn next_byte(fd: i32) -> Next {
+fn next_byte(from: &Source) -> Next {
     let mut one = [0u8; 1];
-    let n = io::read_full(fd, &mut one);
+    let n = read_full(from, &mut one);
     if n == 0 {
         return Next::End;
     }
@@ -71,19 +52,19 @@ fn next_byte(fd: i32) -> Next {
 }
 
 // How many bytes a line has, and whether the file ended before its first one.
-#[derive(Drop)]
+#[derive(Clone, Copy)]
 pub struct Told {
     pub n: usize,
     pub end: bool,
 }
 
 // Reads a line without its newline; one that does not fit, or that the file ends, has the buffer's length.
-pub fn read_line(fd: i32, buf: &mut [u8]) -> Told
+pub fn read_line(from: &Source, buf: &mut [u8]) -> Told
     ensures { Line buf.old buf.new result.n }
 {
     let mut n: usize = 0;
     while n < buf.len() {
-        let next = next_byte(fd);
+        let next = next_byte(from);
         let Next::Byte(b) = next else {
             return Told {
                 n: buf.len(),

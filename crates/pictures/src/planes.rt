@@ -7,10 +7,11 @@ ghost use Rattle.pictures.specs.Rows.{row_bytes, NextRow, row_put, FilePlane, pa
 
 use laws::least;
 use rounding::{halved, up_to_eight};
+use system::files::{Source, Target, read_full, write_all};
 use y4m::samples::{to_bytes, to_samples};
 
 // A plane's size, and the same rounded up to 8.
-#[derive(Drop)]
+#[derive(Clone, Copy)]
 pub struct Shape {
     pub width: usize,
     pub height: usize,
@@ -53,7 +54,7 @@ pub fn large_room() -> [u16; 16777216] {
 }
 
 // What was read of a plane: whether it is whole, and how many bytes there were.
-#[derive(Drop)]
+#[derive(Clone, Copy)]
 pub struct Got {
     pub whole: bool,
     pub bytes: usize,
@@ -69,14 +70,14 @@ pub fn row_bytes(width: usize, wide: bool) -> usize
 }
 
 // The next row's bytes to the front of the buffer, where the plane has another row; how many of them there are.
-pub fn read_row(fd: i32, bytes: &mut [u8], n: usize, more: bool) -> usize
+pub fn read_row(from: &Source, bytes: &mut [u8], n: usize, more: bool) -> usize
     requires { n ≤ length bytes.old }
     ensures { NextRow more n bytes.old bytes.new result }
 {
     if !more {
         return n;
     }
-    io::read_full(fd, &mut bytes[..n])
+    read_full(from, &mut bytes[..n])
 }
 
 // One row of a plane from the buffer; false where the plane has no such row.
@@ -105,7 +106,7 @@ pub fn sum_up(whole: bool, rows: usize, n: usize, bytes: usize) -> Got
 }
 
 // A plane from a file; rows past the last one repeat it. Promised is how bytes make the plane, not which the file has.
-pub fn read_plane(fd: i32, plane: &mut [u16], s: Shape, wide: bool) -> Got
+pub fn read_plane(from: &Source, plane: &mut [u16], s: Shape, wide: bool) -> Got
     requires { ShapeFits s }
     ensures { result.whole ≡ true → FilePlane wide s plane.old plane.new }
 {
@@ -114,7 +115,7 @@ pub fn read_plane(fd: i32, plane: &mut [u16], s: Shape, wide: bool) -> Got
     let mut at: usize = 0;
     let mut r: usize = 0;
     while r < s.rows {
-        let k = read_row(fd, &mut bytes, n, r < s.height);
+        let k = read_row(from, &mut bytes, n, r < s.height);
         if k < n {
             return sum_up(false, r, n, k);
         }
@@ -159,16 +160,16 @@ pub fn pack(plane: &mut [u16], s: Shape)
 }
 
 // One row of a packed plane to a file; promised are the bytes that are handed on.
-pub fn write_row(fd: i32, row: &[u16], bytes: &mut [u8], n: usize, wide: bool) -> bool
+pub fn write_row(to: &Target, row: &[u16], bytes: &mut [u8], n: usize, wide: bool) -> bool
     requires { n ≤ length bytes.old }
     ensures { bytes.new ≡ row_out wide row.now n bytes.old }
 {
     to_bytes(row, &mut bytes[..n], wide);
-    io::write_all(fd, &bytes[..n])
+    write_all(to, &bytes[..n])
 }
 
 // A packed plane to a file; false where a row can't be written. Promised is that a plane that was written whole was there whole.
-pub fn write_plane(fd: i32, plane: &[u16], s: Shape, wide: bool) -> bool
+pub fn write_plane(to: &Target, plane: &[u16], s: Shape, wide: bool) -> bool
     requires { ShapeFits s }
     ensures { result ≡ true → s.width * s.height ≤ length plane.now }
 {
@@ -181,7 +182,7 @@ pub fn write_plane(fd: i32, plane: &[u16], s: Shape, wide: bool) -> bool
         if plane.len() < end {
             return false;
         }
-        if !write_row(fd, &plane[at..end], &mut bytes, n, wide) {
+        if !write_row(to, &plane[at..end], &mut bytes, n, wide) {
             return false;
         }
         at = end;
