@@ -25,12 +25,13 @@ pub enum Source {
     File(File),
 }
 
-// What is written: standard output, standard error, or a file.
+// What is written: standard output, standard error, or a file; of a file that can't be opened nothing can be written.
 #[derive(Drop)]
 pub enum Target {
     Output(Stdout),
     Errors(Stderr),
     File(File),
+    Shut,
 }
 
 fn read_input(input: Stdin, buf: &mut [u8]) -> io::Result<usize>
@@ -84,6 +85,7 @@ fn write_target(to: &Target, bytes: &[u8]) -> io::Result<usize>
         Target::Output(output) => write_output(*output, bytes),
         Target::Errors(errors) => write_errors(*errors, bytes),
         Target::File(file) => write_file(file, bytes),
+        Target::Shut => Err(io::Error::from(io::ErrorKind::NotFound)),
     }
 }
 
@@ -154,13 +156,16 @@ pub fn open_in<R: Files<File = File>>(rt: &R, ends: Ends, name: &[u8]) -> Option
 }
 
 // A file to write, emptied or made: standard output for '-'.
-pub fn open_out<R: Files<File = File>>(rt: &R, ends: Ends, name: &[u8]) -> Option<Target> {
+pub fn open_out<R: Files<File = File>>(rt: &R, ends: Ends, name: &[u8]) -> Target {
     if is_dash(name) {
-        return Some(Target::Output(ends.output));
+        return Target::Output(ends.output);
     }
     let mut how = OpenOptions::new();
     how.write(true).create(true).truncate(true);
-    Some(Target::File(by_name(rt, &how, name)?))
+    match by_name(rt, &how, name) {
+        Some(file) => Target::File(file),
+        None => Target::Shut,
+    }
 }
 
 // Where the answer goes: standard output; descriptor 3 where '-', the name of what is written, has standard output, and standard error where that is not open.
@@ -189,6 +194,7 @@ pub fn close(to: Target) -> bool {
     match to {
         Target::Output(_) | Target::Errors(_) => true,
         Target::File(file) => is_kept(&file),
+        Target::Shut => false,
     }
 }
 
