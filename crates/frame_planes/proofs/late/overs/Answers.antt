@@ -1,0 +1,15 @@
+-- `overs` is luma's refusal 8, else U's, else V's. Assumes nothing.
+use mathlib.Core.Path.{sym, ◌∙◌}
+use Rattle.checks.proofs.Checks.{stop_by, go_on_by}
+use Rattle.frame_planes.proofs.Parts.{samples_is}
+use borrow.Author.Rules.{rules}
+use Rattle.frame_planes.proofs.late.overs.Goals as goal
+
+pub returns-in-Refused : goal.returns-in-Refused
+returns-in-Refused c = stop_by _ _ _ c.over-a.ensures c.in-Refused.is ∙ sym (samples_is _ _)
+
+pub returns-in-Refused-b : goal.returns-in-Refused-b
+returns-in-Refused-b c = go_on_by _ _ _ _ c.over-a.ensures c.in_default.is (stop_by _ _ _ c.over-b.ensures c.in-Refused-b.is) ∙ sym (samples_is _ _)
+
+pub returns : goal.returns
+returns c = go_on_by _ _ _ _ c.over-a.ensures c.in_default.is (go_on_by _ _ _ _ c.over-b.ensures c.in_default-b.is c.over.ensures) ∙ sym (samples_is _ _)
