@@ -1,13 +1,12 @@
 -- A plane whose record is computed from the rules: two cells, 100 | 108, with a marked vertical edge between them. Its record takes 15 bytes.
 -- Assumes nothing.
-use mathlib.Core.Path.{◌≡◌, refl, sym, ap, ◌∙◌}
+use mathlib.Core.Path.{◌≡◌, refl, ap, ◌∙◌}
 use mathlib.Core.List.{List, [], ◌∷◌}
 use Prim.Native.Nat.{ℕ}
 use Rattle.laws.specs.Choose.{pick, both}
 use Rattle.laws.specs.Loops.{each}
 use Rattle.laws.specs.Sums.{sum}
 use Rattle.low_first.specs.Bytes.{low_first}
-use Rattle.rules.specs.declared.edge.Edge.{Edge}
 use Rattle.rules.specs.declared.refusals.Refusal.TheVariants.{Buffer}
 use Rattle.rules.specs.declared.refusals.Answer.{Answer}
 use Rattle.rules.specs.declared.refusals.Answer.TheVariants.{Accepted, Refused}
@@ -16,7 +15,7 @@ use Rattle.rules.specs.Numbers.{highest_of, offset_of, shift_of}
 use Rattle.rules.specs.Refusals.{or_else, unless, settle}
 use Rattle.rules.specs.Thresholds.{index_of, step_of, quant_of, lowered, side_of, both_of, q_threshold, side_threshold}
 use Rattle.rules.specs.Lengths.{pair_of}
-use Rattle.rules.specs.Plane.{cell_of, cell_before, marks_of, indices_of, capped_of, index_at, shortened_at, edge_at, is_edge, visit_of, start_of, count_of, sb_cols, sweep_of, column_of, turn_of, edges_of, run_plane, run_stored, run_changed, plane_check, plane_after, plane_stored, plane_changed}
+use Rattle.rules.specs.Plane.{cell_of, cell_before, marks_of, indices_of, capped_of, index_at, shortened_at, edge_at, is_edge, visit_of, start_of, count_of, sb_cols, sweep_of, column_of, turn_of, edges_of, run_plane, run_stored, run_changed, plane_after, plane_stored, plane_changed}
 use Rattle.rules.specs.Record.{entry_of, entries_of, record_of, buffer_after, edge_count, recorded_check, answer_bytes, recorded_answer, recorded_plane, recorded_buffer, recorded_stored, recorded_changed}
 use Rattle.promises.proofs.Witness.{settings, steps, cells, four, samples, accepted, witness}
 use Rattle.recorded.specs.Stated.{Stated}

@@ -1,7 +1,7 @@
 -- Ticket 2: "A record written by Ticket 1 with its own input plane gives exactly the plane that run gave", of the rules and of both entries; and
 -- so it gives the counts that the run gave.
 -- Assumes nothing.
-use mathlib.Core.Path.{◌≡◌, refl, sym, ap, ◌∙◌}
+use mathlib.Core.Path.{◌≡◌, sym, ap, ◌∙◌}
 use mathlib.Core.Bool.{true}
 use mathlib.Core.List.{List}
 use Prim.Native.Nat.{ℕ, ◌*◌, ◌≤◌, ◌<◌}
