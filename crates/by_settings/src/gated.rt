@@ -12,7 +12,7 @@ use rules::refusals::Answer;
 use rules::settings::Frame;
 
 // The plane that was refused, and the answer.
-#[derive(Drop)]
+#[derive(Clone, Copy)]
 pub struct Applied {
     pub plane: usize,
     pub answer: Answer,

@@ -9,7 +9,7 @@ use rules::settings::Keep;
 use tiles::leaf::wide;
 
 // A plane's cells: so many columns and rows, and whether two of luma's columns or rows are one of them, 1 or 0.
-#[derive(Drop)]
+#[derive(Clone, Copy)]
 pub struct Cells {
     pub cols: usize,
     pub rows: usize,

@@ -8,7 +8,7 @@ use laws::{least, most};
 use settings::names::leaf_room;
 
 // Where the lists of short numbers begin and end.
-#[derive(Drop)]
+#[derive(Clone, Copy)]
 pub struct Lists {
     pub entries: usize,
     pub leaves: usize,

@@ -27,7 +27,7 @@ pub const STEPS: usize = 7;
 pub const FRAME: usize = 8;
 
 // A plane or list, and a row and a column there.
-#[derive(Drop)]
+#[derive(Clone, Copy)]
 pub struct Place {
     pub plane: usize,
     pub row: usize,
