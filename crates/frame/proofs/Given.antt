@@ -127,9 +127,9 @@ module _ (f : Frame) (k : FrameLengths) (ltiles ctiles lkeep ckeep : List ℕ) (
   pub early_sized : Sized f
   early_sized = frame_sized f shape.1
 
-  luma_long : (samples_long (luma_plane f) k.y ≡ true) × (grid_long (luma_plane f) k.luma ≡ true)
+  luma_long_holds : (samples_long (luma_plane f) k.y ≡ true) × (grid_long (luma_plane f) k.luma ≡ true)
   unfolding frame_lengths luma_long
-  luma_long = both_parts _ _ (unless_true _ Length (else_parts _ _ shape.2).0)
+  luma_long_holds = both_parts _ _ (unless_true _ Length (else_parts _ _ shape.2).0)
 
   chroma_long_holds : chroma_on f ≡ true → (samples_long (chroma_plane f) k.u ≡ true) × (samples_long (chroma_plane f) k.v ≡ true) × (grid_long (chroma_plane f) k.chroma ≡ true)
   unfolding frame_lengths chroma_long
@@ -172,7 +172,7 @@ module _ (f : Frame) (k : FrameLengths) (ltiles ctiles lkeep ckeep : List ℕ) (
   -- ticket 7: the lent marks are tested before the grids are built, and there is one for each cell
   pub luma_marks : ((luma_plane f).rows * (luma_plane f).cols ≤ k.luma.keep) × (bad_keep ((luma_plane f).rows * (luma_plane f).cols) lkeep ≡ Nothing)
   unfolding frame_keep
-  luma_marks = ((lists _ _ luma_long.1).keep, found_nothing _ Cell (else_parts _ _ marks).0)
+  luma_marks = ((lists _ _ luma_long_holds.1).keep, found_nothing _ Cell (else_parts _ _ marks).0)
 
   luma_deep : depth_ok (luma_plane f).depth ≡ true
   unfolding luma_plane
@@ -183,12 +183,12 @@ module _ (f : Frame) (k : FrameLengths) (ltiles ctiles lkeep ckeep : List ℕ) (
   chroma_deep = deep
 
   pub luma_sampled : Sampled f false k.y
-  luma_sampled = record { sized = early_sized; depth = luma_deep; sizes_ok = luma_sizes f shape.1; plane_long = leb-true _ _ luma_long.0 }
+  luma_sampled = record { sized = early_sized; depth = luma_deep; sizes_ok = luma_sizes f shape.1; plane_long = leb-true _ _ luma_long_holds.0 }
 
   pub luma_built : Buildable f false n.leaves n.skips k.sbq k.luma.vedge k.luma.hedge k.luma.sqw k.luma.sqh k.luma.qindex
   luma_built =
       let s = settings f rest.1 in
-      luma_buildable f n.leaves n.skips _ k.luma early_sized leaves.0 leaves.2 some (luma_sizes f shape.1) s.capw s.caph (lists _ _ luma_long.1)
+      luma_buildable f n.leaves n.skips _ k.luma early_sized leaves.0 leaves.2 some (luma_sizes f shape.1) s.capw s.caph (lists _ _ luma_long_holds.1)
 
   -- chroma's, where it is filtered
   module _ (on : chroma_on f ≡ true) where
