@@ -7,14 +7,14 @@ use tally::Tally;
 use text::{Answered, Cursor, Listed};
 
 // The settings and what follows them.
-#[derive(Drop)]
+#[derive(Clone, Copy)]
 struct Asked {
     s: Ccso,
     rest: Cursor,
 }
 
 // A tap's two numbers, or both cuts, and what follows them.
-#[derive(Drop)]
+#[derive(Clone, Copy)]
 struct Pair {
     a: i32,
     b: i32,
@@ -22,7 +22,7 @@ struct Pair {
 }
 
 // Three class numbers, and what follows them.
-#[derive(Drop)]
+#[derive(Clone, Copy)]
 struct Classes {
     below: u32,
     within: u32,

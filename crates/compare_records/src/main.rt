@@ -8,19 +8,28 @@ mod say;
 // The files, and the order of it all.
 mod run;
 
-fn main() {
-    let mut first = io::buffer();
-    let mut second = io::buffer();
-    let a = os::arg(1, &mut first);
-    let b = os::arg(2, &mut second);
+use system::bytes::buffer;
+use system::files::{Ends, Target, word};
+
+fn main(rt: HostRuntime) {
+    let ends = Ends {
+        input: rt.stdin(),
+        output: rt.stdout(),
+        errors: rt.stderr(),
+    };
+    let told = Target::Output(ends.output);
+    let mut first = buffer();
+    let mut second = buffer();
+    let a = word(&rt, 1, &mut first);
+    let b = word(&rt, 2, &mut second);
     if a == 0 {
-        say::usage();
+        say::usage(&told);
         return;
     }
     // Two calls: one alone would be compiled into main, whose stack would then be that of both records.
     if b == 0 {
-        run::run(&first[..a], b"-");
+        run::run(&rt, ends, &told, &first[..a], b"-");
         return;
     }
-    run::run(&first[..a], &second[..b]);
+    run::run(&rt, ends, &told, &first[..a], &second[..b]);
 }

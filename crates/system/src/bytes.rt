@@ -3,6 +3,16 @@ ghost use Rattle.std.specs.Prelude.{◌≡◌, ◌≤◌, length};
 
 use std::io::{Read, Write};
 
+// Room for a word or a name.
+pub fn buffer() -> [u8; 4096] {
+    [0; 4096]
+}
+
+// Room for the front of a file.
+pub fn large_buffer() -> [u8; 65536] {
+    [0; 65536]
+}
+
 // One read to the front of a buffer: how many bytes came, and none where the input has ended or can't be read.
 pub fn read_some<R: Read>(from: &mut R, buf: &mut [u8]) -> usize
     ensures { result ≤ length buf.new }

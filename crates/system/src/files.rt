@@ -189,11 +189,11 @@ fn is_kept(file: &File) -> bool {
     }
 }
 
-// Closes what was written; false where a file is not whole on its disk.
-pub fn close(to: Target) -> bool {
+// Whether all that was written is kept: a regular file's on its disk.
+pub fn kept(to: &Target) -> bool {
     match to {
         Target::Output(_) | Target::Errors(_) => true,
-        Target::File(file) => is_kept(&file),
+        Target::File(file) => is_kept(file),
         Target::Shut => false,
     }
 }
