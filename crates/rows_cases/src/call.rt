@@ -7,7 +7,7 @@ use rules::settings::Plane;
 use text::{Answered, Cursor};
 
 // What the caller does before a call: from a place up to another the picture's samples come, and beyond stands rubbish.
-#[derive(Drop)]
+#[derive(Clone, Copy)]
 struct Filling {
     from: usize,
     to: usize,
@@ -17,14 +17,14 @@ struct Filling {
 }
 
 // A state, and what follows it.
-#[derive(Drop)]
+#[derive(Clone, Copy)]
 struct Stood {
     state: RowState,
     rest: Cursor,
 }
 
 // A call: what is done before it; the state and the count that it is handed; the answer, the entries and the rows that are final, and the state, which are due.
-#[derive(Drop)]
+#[derive(Clone, Copy)]
 pub struct Call {
     filling: Filling,
     state: RowState,

@@ -5,7 +5,7 @@ use tally::Tally;
 use text::Cursor;
 
 // How the calls came out: the first refusal's number, 0 for none, whether each was answered as is due, and what follows them.
-#[derive(Drop)]
+#[derive(Clone, Copy)]
 struct Outcome {
     number: usize,
     same: bool,
