@@ -26,7 +26,11 @@ fn load<R: Files<File = File>>(
     };
     let n = read_full(&from, bytes);
     if n == bytes.len() {
-        say::bad(told, name, b"expected a record of fewer than 33554432 bytes");
+        say::bad(
+            told,
+            name,
+            b"expected a record of fewer than 33554432 bytes",
+        );
         return 0;
     }
     let a = record_check(&bytes[..n]);
@@ -68,13 +72,7 @@ fn tell(told: &Target, a: &[u8], b: &[u8]) -> bool
     true
 }
 
-pub fn run<R: Files<File = File>>(
-    rt: &R,
-    ends: Ends,
-    told: &Target,
-    first: &[u8],
-    second: &[u8],
-) {
+pub fn run<R: Files<File = File>>(rt: &R, ends: Ends, told: &Target, first: &[u8], second: &[u8]) {
     let mut a = files::text_room();
     let n = load(rt, ends, told, first, &mut a);
     if n < 5 {

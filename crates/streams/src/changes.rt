@@ -36,7 +36,7 @@ fn keep_plane(plane: &[u16], was: &mut [u16], s: Shape)
 }
 
 // The planes as they are, without their padding.
-pub fn keep(y: &[u16], u: &[u16], v: &[u16], was: &mut [u16], j: Job)
+pub fn keep(y: &[u16], u: &[u16], v: &[u16], was: &mut [u16], j: Job<'_>)
     requires { Shaped j }
 {
     let a = end_of(0, j.l, was.len());
@@ -54,7 +54,7 @@ fn changed_in(plane: &[u16], was: &[u16], s: Shape) -> usize
 }
 
 // How many samples of a frame are not as they were.
-pub fn changed(y: &[u16], u: &[u16], v: &[u16], was: &[u16], j: Job) -> usize
+pub fn changed(y: &[u16], u: &[u16], v: &[u16], was: &[u16], j: Job<'_>) -> usize
     requires { Shaped j }
 {
     let h = j.h;

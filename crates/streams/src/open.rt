@@ -4,6 +4,9 @@ ghost use Rattle.std.specs.Prelude.{◌≤◌, length};
 use crate::say;
 use pictures::files;
 use pictures::outside::twice;
+use std::fs::File;
+use std::rt::Files;
+use system::files::{Ends, Source, Target};
 use y4m::format::Layout;
 use y4m::header::{Header, read_header};
 
@@ -15,22 +18,23 @@ fn short_of(n: usize, room: usize) -> usize
 }
 
 // Whether a header's values are there; else after the answer that says what was expected.
-fn values_good(name: &[u8], h: Header) -> bool {
+fn values_good(told: &Target, name: &[u8], h: Header) -> bool {
     let layout = h.layout;
     if !h.opens {
-        say::expected(name, 1, b"'YUV4MPEG2'");
+        say::expected(told, name, 1, b"'YUV4MPEG2'");
         return false;
     }
     if h.width == 0 {
-        say::expected(name, 1, b"a width from 1 to 4096 after W");
+        say::expected(told, name, 1, b"a width from 1 to 4096 after W");
         return false;
     }
     if h.height == 0 {
-        say::expected(name, 1, b"a height from 1 to 4096 after H");
+        say::expected(told, name, 1, b"a height from 1 to 4096 after H");
         return false;
     }
     if layout.depth == 0 {
         say::expected(
+            told,
             name,
             1,
             b"420, 422, 444 or mono after C, of depth 8, 10 or 12",
@@ -41,14 +45,14 @@ fn values_good(name: &[u8], h: Header) -> bool {
 }
 
 // Whether a line has no value twice; else after the answer.
-fn once_each(name: &[u8], head: &[u8]) -> bool {
+fn once_each(told: &Target, name: &[u8], head: &[u8]) -> bool {
     let n = head.len();
     if n == 0 {
         return true;
     }
     let last = n - 1;
     if twice(head, 87, last) || twice(head, 72, last) || twice(head, 67, last) {
-        say::expected(name, 1, b"one width, one height and one format");
+        say::expected(told, name, 1, b"one width, one height and one format");
         return false;
     }
     true
@@ -70,10 +74,11 @@ fn none() -> Header {
 }
 
 // The header of a line; one that does not open is bad, after the answer.
-fn header_of(name: &[u8], head: &[u8]) -> Header {
+fn header_of(told: &Target, name: &[u8], head: &[u8]) -> Header {
     let n = head.len();
     if n == 0 {
         say::expected(
+            told,
             name,
             1,
             b"'YUV4MPEG2' and a header of fewer than 1024 bytes",
@@ -81,37 +86,46 @@ fn header_of(name: &[u8], head: &[u8]) -> Header {
         return none();
     }
     let h = read_header(head, n);
-    if values_good(name, h) && once_each(name, head) {
+    if values_good(told, name, h) && once_each(told, name, head) {
         return h;
     }
     none()
 }
 
-// A picture's file, the length of its first line, and its header.
+// A picture's file where it is open, the length of its first line, and its header.
 #[derive(Drop)]
 pub struct Opened {
-    pub fd: i32,
+    pub from: Option<Source>,
     pub n: usize,
     pub h: Header,
 }
 
 // Opens a picture and reads its first line; its header does not open after the answer that says why. One that is too long counts as none.
-pub fn open(name: &[u8], head: &mut [u8]) -> Opened
+pub fn open<R: Files<File = File>>(
+    rt: &R,
+    ends: Ends,
+    told: &Target,
+    name: &[u8],
+    head: &mut [u8],
+) -> Opened
     ensures { result.n ≤ length head.new }
 {
-    let fd = files::open_in(name);
-    if fd < 0 {
-        say::cannot(name, b"the picture can't be read");
+    let Some(from) = files::open_in(rt, ends, name) else {
+        say::cannot(told, name, b"the picture can't be read");
         return Opened {
-            fd,
+            from: None,
             n: 0,
             h: none(),
         };
-    }
-    let line = files::read_line(fd, head);
+    };
+    let line = files::read_line(&from, head);
     let n = short_of(line.n, head.len());
-    let h = header_of(name, &head[..n]);
-    Opened { fd, n, h }
+    let h = header_of(told, name, &head[..n]);
+    Opened {
+        from: Some(from),
+        n,
+        h,
+    }
 }
 
 // Whether no plane has more than 512 rows, or samples in a row.

@@ -8,10 +8,11 @@ use crate::say;
 use pictures::planes::Shape;
 use pictures::{files, planes};
 use std::num::wrapping_add_usize;
+use system::files::{Source, Target};
 use y4m::header::is_frame;
 
 // Whether all is well so far, whether a frame begins, and how long its line is.
-#[derive(Drop)]
+#[derive(Clone, Copy)]
 pub struct Mark {
     pub good: bool,
     pub more: bool,
@@ -19,10 +20,10 @@ pub struct Mark {
 }
 
 // The line before frame k, where there is one; the first must be there. Bad after the answer that says why.
-pub fn next_mark(name: &[u8], fd: i32, k: usize, mark: &mut [u8]) -> Mark
+pub fn next_mark(told: &Target, name: &[u8], from: &Source, k: usize, mark: &mut [u8]) -> Mark
     ensures { result.n ≤ length mark.new }
 {
-    let t = files::read_line(fd, mark);
+    let t = files::read_line(from, mark);
     if t.end && 0 < k {
         return Mark {
             good: true,
@@ -32,7 +33,7 @@ pub fn next_mark(name: &[u8], fd: i32, k: usize, mark: &mut [u8]) -> Mark
     }
     let n = t.n;
     if n == mark.len() || !is_frame(mark, n) {
-        say::no_frame(name, k);
+        say::no_frame(told, name, k);
         return Mark {
             good: false,
             more: false,
@@ -47,14 +48,14 @@ pub fn next_mark(name: &[u8], fd: i32, k: usize, mark: &mut [u8]) -> Mark
 }
 
 // Samples of a frame in bytes: what it has, and what it needs.
-#[derive(Drop)]
+#[derive(Clone, Copy)]
 struct Sum {
     has: usize,
     needs: usize,
 }
 
 // One more plane, where those before are whole.
-fn read_more(fd: i32, plane: &mut [u16], s: Shape, wide: bool, before: Sum) -> Sum
+fn read_more(from: &Source, plane: &mut [u16], s: Shape, wide: bool, before: Sum) -> Sum
     requires { ShapeFits s }
 {
     let n = planes::row_bytes(s.width, wide);
@@ -65,7 +66,7 @@ fn read_more(fd: i32, plane: &mut [u16], s: Shape, wide: bool, before: Sum) -> S
             needs,
         };
     }
-    let got = planes::read_plane(fd, plane, s, wide);
+    let got = planes::read_plane(from, plane, s, wide);
     Sum {
         has: wrapping_add_usize(before.has, got.bytes),
         needs,
@@ -73,18 +74,18 @@ fn read_more(fd: i32, plane: &mut [u16], s: Shape, wide: bool, before: Sum) -> S
 }
 
 // Whether frame k has all that it needs; else after the answer that says what is missing.
-fn is_whole(name: &[u8], k: usize, sum: Sum) -> bool {
+fn is_whole(told: &Target, name: &[u8], k: usize, sum: Sum) -> bool {
     if sum.has == sum.needs {
         return true;
     }
-    say::cut(name, k, sum.has, sum.needs);
+    say::cut(told, name, k, sum.has, sum.needs);
     false
 }
 
 // The planes of frame k; false after the answer that says what is missing.
 pub fn read_frame(
     name: &[u8],
-    j: Job,
+    j: Job<'_>,
     k: usize,
     y: &mut [u16],
     u: &mut [u16],
@@ -98,8 +99,8 @@ pub fn read_frame(
     let none = Sum { has: 0, needs: 0 };
     let luma = read_more(j.from, y, j.l, wide, none);
     if !layout.chroma {
-        return is_whole(name, k, luma);
+        return is_whole(j.told, name, k, luma);
     }
     let first = read_more(j.from, u, j.c, wide, luma);
-    is_whole(name, k, read_more(j.from, v, j.c, wide, first))
+    is_whole(j.told, name, k, read_more(j.from, v, j.c, wide, first))
 }

@@ -4,9 +4,10 @@ ghost use Rattle.streams.specs.Shaped.{Shaped};
 use crate::job::Job;
 use crate::say;
 use pictures::planes;
+use system::files::{Target, write_all};
 
 // Takes the padding out of the planes.
-pub fn pack(y: &mut [u16], u: &mut [u16], v: &mut [u16], j: Job)
+pub fn pack(y: &mut [u16], u: &mut [u16], v: &mut [u16], j: Job<'_>)
     requires { Shaped j }
 {
     planes::pack(y, j.l);
@@ -15,12 +16,12 @@ pub fn pack(y: &mut [u16], u: &mut [u16], v: &mut [u16], j: Job)
 }
 
 // A line and its newline to a file.
-pub fn write_line(fd: i32, line: &[u8]) -> bool {
-    io::write_all(fd, line) && io::write_all(fd, b"\n")
+pub fn write_line(to: &Target, line: &[u8]) -> bool {
+    write_all(to, line) && write_all(to, b"\n")
 }
 
 // The planes to the file.
-fn write_planes(j: Job, y: &[u16], u: &[u16], v: &[u16]) -> bool
+fn write_planes(j: Job<'_>, y: &[u16], u: &[u16], v: &[u16]) -> bool
     requires { Shaped j }
 {
     let h = j.h;
@@ -39,7 +40,15 @@ fn write_planes(j: Job, y: &[u16], u: &[u16], v: &[u16]) -> bool
 }
 
 // The lines and the planes of frame k; the first one has the header before it.
-fn write_frame(head: &[u8], mark: &[u8], j: Job, k: usize, y: &[u16], u: &[u16], v: &[u16]) -> bool
+fn write_frame(
+    head: &[u8],
+    mark: &[u8],
+    j: Job<'_>,
+    k: usize,
+    y: &[u16],
+    u: &[u16],
+    v: &[u16],
+) -> bool
     requires { Shaped j }
 {
     if k == 0 && !write_line(j.to, head) {
@@ -52,12 +61,12 @@ fn write_frame(head: &[u8], mark: &[u8], j: Job, k: usize, y: &[u16], u: &[u16],
 }
 
 // Writes frame k; false after the answer that it could not.
-pub fn save(head: &[u8], mark: &[u8], j: Job, k: usize, y: &[u16], u: &[u16], v: &[u16]) -> bool
+pub fn save(head: &[u8], mark: &[u8], j: Job<'_>, k: usize, y: &[u16], u: &[u16], v: &[u16]) -> bool
     requires { Shaped j }
 {
     if write_frame(head, mark, j, k, y, u, v) {
         return true;
     }
-    say::unwritten();
+    say::unwritten(j.told);
     false
 }

@@ -2,6 +2,7 @@
 ghost use Rattle.std.specs.Prelude.{◌≤◌, length};
 
 use crate::say::words;
+use system::files::Target;
 use text::place::line_end;
 
 // The place after the line that begins at a place of a table.
@@ -28,8 +29,8 @@ fn start_of(table: &[u8], k: usize) -> usize
 }
 
 // Says line k of a table, counted from 0.
-pub fn entry(table: &[u8], k: usize) {
+pub fn entry(told: &Target, table: &[u8], k: usize) {
     let at = start_of(table, k);
     let end = line_end(table, at, table.len());
-    words(&table[at..end]);
+    words(told, &table[at..end]);
 }

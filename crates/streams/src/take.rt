@@ -4,11 +4,13 @@ ghost use Rattle.std.specs.Prelude.{◌≤◌, length};
 use crate::say::{at_line, words};
 use crate::table::entry;
 use settings::file::{Fault, parse};
+use system::files::{Source, Target, read_full};
 use text::place::{line_end, spaces, word_end};
 
 // A setting by its name.
-pub fn setting(kind: usize) {
+pub fn setting(told: &Target, kind: usize) {
     entry(
+        told,
         b"
 settings
 qindex
@@ -55,8 +57,9 @@ fn sort_of(kind: usize) -> usize {
 }
 
 // The numbers of a setting.
-fn numbers_of(kind: usize) {
+fn numbers_of(told: &Target, kind: usize) {
     entry(
+        told,
         b"numbers from 0 to 65535, one for each superblock, 4096 at most
 numbers from 0 to 4294967295, 352 at most
 four numbers: row, column, width, height, in cells; 1048576 leaves at most
@@ -73,15 +76,15 @@ four numbers from 0 to 65535: row, column, rows, columns, in luma cells; 4096 re
 }
 
 // A line that begins with an unknown name.
-fn unknown(name: &[u8], line: usize, word: &[u8]) {
-    at_line(name, line);
-    words(b"the name of a setting, and not '");
-    words(word);
-    words(b"'\n");
+fn unknown(told: &Target, name: &[u8], line: usize, word: &[u8]) {
+    at_line(told, name, line);
+    words(told, b"the name of a setting, and not '");
+    words(told, word);
+    words(told, b"'\n");
 }
 
 // Says that the line from a place on begins with an unknown name.
-fn say_unknown(name: &[u8], text: &[u8], at: usize, line: usize) {
+fn say_unknown(told: &Target, name: &[u8], text: &[u8], at: usize, line: usize) {
     let n = text.len();
     if n < at {
         return;
@@ -89,38 +92,39 @@ fn say_unknown(name: &[u8], text: &[u8], at: usize, line: usize) {
     let end = line_end(text, at, n);
     let from = spaces(text, at, end);
     let stop = word_end(text, from, end);
-    unknown(name, line, &text[from..stop]);
+    unknown(told, name, line, &text[from..stop]);
 }
 
 // What the settings file should have said.
-fn expected_setting(name: &[u8], line: usize, kind: usize) {
-    at_line(name, line);
-    words(b"'");
-    setting(kind);
+fn expected_setting(told: &Target, name: &[u8], line: usize, kind: usize) {
+    at_line(told, name, line);
+    words(told, b"'");
+    setting(told, kind);
     if kind == 1 {
-        words(b" 1' before any other setting\n");
+        words(told, b" 1' before any other setting\n");
         return;
     }
-    words(b"' and ");
-    numbers_of(kind);
-    words(b"\n");
+    words(told, b"' and ");
+    numbers_of(told, kind);
+    words(told, b"\n");
 }
 
 // Whether a text has no fault; else after the answer that says what is wrong.
-fn faultless(name: &[u8], text: &[u8], fault: Fault) -> bool {
+fn faultless(told: &Target, name: &[u8], text: &[u8], fault: Fault) -> bool {
     if fault.kind == 0 {
         return true;
     }
     if fault.kind == 24 {
-        say_unknown(name, text, fault.at, fault.line);
+        say_unknown(told, name, text, fault.at, fault.line);
     } else {
-        expected_setting(name, fault.line, fault.kind);
+        expected_setting(told, name, fault.line, fault.kind);
     }
     false
 }
 
 // A text into the lists; false after the answer that says what is wrong.
 pub fn take(
+    told: &Target,
     name: &[u8],
     text: &[u8],
     numbers: &mut [i32],
@@ -131,14 +135,24 @@ pub fn take(
     places: &mut [usize; 24],
 ) -> bool {
     let fault = parse(text, numbers, shorts, steps, flags, offsets, places);
-    faultless(name, text, fault)
+    faultless(told, name, text, fault)
 }
 
-// A text whose front was read, and the rest of it from its file; how long it is.
-pub fn read_on(file: i32, front: &[u8], text: &mut [u8]) -> usize
+// The front of a text to where it is to stand; how long it is.
+fn put_front(front: &[u8], text: &mut [u8]) -> usize
     requires { length front.now ≤ length text.old }
     ensures { result ≤ length text.new }
 {
-    let m = bytes::copy(front, text);
-    m + io::read_full(file, &mut text[m..])
+    let n = front.len();
+    text[..n].copy_from_slice(front);
+    n
+}
+
+// A text whose front was read, and the rest of it from its file; how long it is.
+pub fn read_on(file: &Source, front: &[u8], text: &mut [u8]) -> usize
+    requires { length front.now ≤ length text.old }
+    ensures { result ≤ length text.new }
+{
+    let m = put_front(front, text);
+    m + read_full(file, &mut text[m..])
 }
