@@ -7,7 +7,7 @@ use tally::Tally;
 use text::{Answered, Cursor};
 
 // The settings and what follows them.
-#[derive(Drop)]
+#[derive(Clone, Copy)]
 struct Asked {
     s: Replay,
     rest: Cursor,

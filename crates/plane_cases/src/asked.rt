@@ -5,7 +5,7 @@ use tally::Tally;
 use text::Cursor;
 
 // What is done with a grid that is read.
-#[derive(Drop)]
+#[derive(Clone, Copy)]
 pub enum Work {
     Whole,
     Noted,
@@ -13,7 +13,7 @@ pub enum Work {
 }
 
 // The settings and what follows them.
-#[derive(Drop)]
+#[derive(Clone, Copy)]
 struct Asked {
     s: Plane,
     rest: Cursor,
