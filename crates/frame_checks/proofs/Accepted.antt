@@ -3,12 +3,12 @@
 use mathlib.Core.Path.{◌≡◌, refl, sym, ◌∙◌}
 use mathlib.Core.Bool.{Bool, true, false, not}
 use mathlib.Core.List.{List, [], ◌∷◌}
-use Prim.Native.Nat.{ℕ, ◌+◌, ◌*◌, ◌≤◌, ◌<◌}
+use Prim.Native.Nat.{ℕ, ◌*◌, ◌≤◌}
 use native.Mathlib.Omega.{arith}
 use borrow.Author.Tests.{leb-true}
 use mir.Val.{Fits}
 use mir.Syntax.{w64}
-use Rattle.laws.specs.Choose.{both, all, all_parts, both_parts, both_bad, both_ok, told_yes, told_yes_not}
+use Rattle.laws.specs.Choose.{both, all, all_parts, both_parts, both_bad, both_ok, told_yes_not}
 use Rattle.rules.specs.declared.settings.Frame.{Frame}
 use Rattle.rules.specs.declared.settings.Plane.{Plane}
 use Rattle.rules.specs.declared.lent.GridLengths.{GridLengths}
@@ -17,7 +17,6 @@ use Rattle.rules.specs.declared.refusals.Refusal.TheVariants.{Size, Length}
 use Rattle.rules.specs.declared.refusals.Answer.{Answer}
 use Rattle.rules.specs.declared.refusals.Answer.TheVariants.{Accepted}
 use Rattle.rules.specs.Numbers.{in_range, subsampling_ok}
-use Rattle.rules.specs.Refusals.{unless, only_if}
 use Rattle.rules.specs.Frame.{luma_plane, chroma_plane, chroma_on, stride_ok, grid_long, luma_long, chroma_long, frame_sizes, frame_lengths, frame_shape}
 use Rattle.checks.proofs.Checks.{else_parts, unless_true, only_part}
 use Rattle.tiles.proofs.Checked.{ssx_most, ssy_most}

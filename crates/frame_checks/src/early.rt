@@ -6,7 +6,7 @@ ghost use Rattle.frame_checks.specs.Settings.{Sized};
 use super::deltas::frame_settings;
 use super::keep::frame_keep;
 use super::leaves::frame_leaves;
-use super::lengths::frame_lengths;
+use super::list_lengths::frame_lengths;
 use super::sizes::frame_sizes;
 use super::starts::frame_tiles;
 use rules::depth::Depth;

@@ -8,7 +8,7 @@ pub mod parts;
 mod sizes;
 
 // Lengths of the lent lists: refusal 3.
-mod lengths;
+mod list_lengths;
 
 // Deltas and caps: refusal 5.
 mod deltas;

@@ -2,7 +2,6 @@
 use Rattle.rules.specs.Frame.{frame_early}
 use Rattle.checks.proofs.Checks.{stop_by, go_on_by}
 use Rattle.frame_checks.proofs.Accepted.{shape_sized, luma_keep, chroma_keep}
-use borrow.Author.Rules.{rules}
 use Rattle.frame_checks.proofs.early.frame_early.Goals as goal
 
 pub returns-in-Refused : goal.returns-in-Refused

@@ -1,7 +1,6 @@
 -- `frame_given` leaves at the first check that refuses: steps, deltas and caps, tile starts, leaves. Assumes nothing.
 use Rattle.rules.specs.Frame.{frame_given, frame_leaves}
 use Rattle.checks.proofs.Checks.{stop_by, go_on_by}
-use borrow.Author.Rules.{rules}
 use Rattle.frame_checks.proofs.early.frame_given.Goals as goal
 
 pub returns-in-Refused : goal.returns-in-Refused

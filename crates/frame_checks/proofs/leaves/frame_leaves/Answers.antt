@@ -1,6 +1,5 @@
 -- `frame_leaves` looks through luma's, chroma's and the skip leaves in turn. Assumes nothing.
 use Rattle.checks.proofs.Checks.{stop_by, go_on_by}
-use borrow.Author.Rules.{rules}
 use Rattle.frame_checks.proofs.leaves.frame_leaves.Goals as goal
 
 pub returns-in-Refused : goal.returns-in-Refused

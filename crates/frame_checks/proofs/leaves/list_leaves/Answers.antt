@@ -1,9 +1,8 @@
 -- `list_leaves` turns a list's first bad leaf into a refusal. Assumes nothing.
 use mathlib.Core.Path.{refl}
-use Rattle.checks.proofs.Checks.{found_bad_by, found_good_by}
+use Rattle.checks.proofs.Checks.{found_bad_by}
 use Rattle.rules.specs.declared.refusals.Refusal.TheVariants.{Leaf}
 use Rattle.checks.proofs.Checks.{checks}
-use borrow.Author.Rules.{rules}
 use Rattle.frame_checks.proofs.leaves.list_leaves.Goals as goal
 
 pub returns-in-At : goal.returns-in-At

@@ -2,7 +2,6 @@
 use mir.Syntax.{w32}
 use mir.Facts.{to_z-of_z}
 use Rattle.frame_checks.proofs.Ranges.{chroma_is, eighths_by, down_by}
-use borrow.Author.Rules.{rules}
 use Rattle.frame_checks.proofs.parts.chroma_plane.Goals as goal
 
 pub returns : goal.returns

@@ -2,7 +2,6 @@
 use mir.Syntax.{w32}
 use mir.Facts.{to_z-of_z}
 use Rattle.frame_checks.proofs.Ranges.{luma_is}
-use borrow.Author.Rules.{rules}
 use Rattle.frame_checks.proofs.parts.luma_plane.Goals as goal
 
 pub returns : goal.returns

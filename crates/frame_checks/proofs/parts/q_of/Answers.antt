@@ -1,6 +1,5 @@
 -- `q_of` is the rules' qindex grid settings, luma's or chroma's. Assumes nothing.
 use Rattle.rules.specs.Frame.{chroma_q, luma_q}
-use borrow.Author.Rules.{rules}
 use Rattle.frame_checks.proofs.parts.q_of.Goals as goal
 
 pub returns-then-chroma : goal.returns-then-chroma

@@ -1,6 +1,5 @@
 -- `tu_of` is the rules' TU grid settings, luma's or chroma's. Assumes nothing.
 use Rattle.rules.specs.Frame.{chroma_tu, luma_tu}
-use borrow.Author.Rules.{rules}
 use Rattle.frame_checks.proofs.parts.tu_of.Goals as goal
 
 pub returns-then-chroma : goal.returns-then-chroma

@@ -1,6 +1,5 @@
 -- `stride_ok` tests a plane's stride. Assumes nothing.
 use Rattle.frame_checks.proofs.Accepted.{four_cols_fit}
-use borrow.Author.Rules.{rules}
 use Rattle.frame_checks.proofs.sizes.stride_ok.Goals as goal
 
 pub overflow_mul-s : goal.overflow_mul-s

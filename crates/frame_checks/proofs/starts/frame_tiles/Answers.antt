@@ -2,7 +2,6 @@
 use Rattle.rules.specs.Refusals.{only_if}
 use Rattle.rules.specs.Frame.{frame_tiles}
 use Rattle.checks.proofs.Checks.{stop_by, go_on_by}
-use borrow.Author.Rules.{rules}
 use Rattle.frame_checks.proofs.starts.frame_tiles.Goals as goal
 
 pub returns-in-Refused : goal.returns-in-Refused

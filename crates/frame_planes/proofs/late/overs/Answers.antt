@@ -2,7 +2,6 @@
 use mathlib.Core.Path.{sym, ◌∙◌}
 use Rattle.checks.proofs.Checks.{stop_by, go_on_by}
 use Rattle.frame_planes.proofs.Parts.{samples_is}
-use borrow.Author.Rules.{rules}
 use Rattle.frame_planes.proofs.late.overs.Goals as goal
 
 pub returns-in-Refused : goal.returns-in-Refused

@@ -1,6 +1,5 @@
 -- `run_planes` leaves each plane as its run does, and adds what the three tell. Assumes nothing.
 use Rattle.frame_planes.proofs.Counted.{frame_run}
-use borrow.Author.Rules.{rules}
 use Rattle.frame_planes.proofs.run.run_planes.Goals as goal
 
 pub returns : goal.returns

@@ -1,8 +1,7 @@
 -- `chroma_lengths` counts only where chroma is filtered. Assumes nothing.
 use Rattle.frame_checks.proofs.Accepted.{frame_sized, chroma_by}
 use Rattle.checks.proofs.Checks.{checks}
-use borrow.Author.Rules.{rules}
-use Rattle.frame_checks.proofs.lengths.chroma_lengths.Goals as goal
+use Rattle.frame_checks.proofs.list_lengths.chroma_lengths.Goals as goal
 
 pub returns-then-not-chroma_on : goal.returns-then-not-chroma_on
 returns-then-not-chroma_on c = search checks

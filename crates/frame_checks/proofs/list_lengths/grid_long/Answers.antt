@@ -1,9 +1,7 @@
 -- `grid_long` tests the six lists of a grid; its cells' number fits. Assumes nothing.
-use Rattle.plane_checks.proofs.Accepted.{sizing}
 use Rattle.rules.specs.Frame.{grid_long}
 use Rattle.laws.specs.Choose.{tests}
-use borrow.Author.Rules.{rules}
-use Rattle.frame_checks.proofs.lengths.grid_long.Goals as goal
+use Rattle.frame_checks.proofs.list_lengths.grid_long.Goals as goal
 
 pub returns-then-g-cells : goal.returns-then-g-cells
 unfolding grid_long

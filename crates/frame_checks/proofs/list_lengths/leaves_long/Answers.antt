@@ -1,7 +1,6 @@
 -- `leaves_long` tests that each leaf list has four numbers a leaf. Assumes nothing.
 use Rattle.laws.specs.Choose.{tests}
-use borrow.Author.Rules.{rules}
-use Rattle.frame_checks.proofs.lengths.leaves_long.Goals as goal
+use Rattle.frame_checks.proofs.list_lengths.leaves_long.Goals as goal
 
 pub returns-then-not-fours : goal.returns-then-not-fours
 returns-then-not-fours c = search tests
