@@ -6,5 +6,4 @@ pub mod Recorded
 pub mod Filled
 pub mod WholeFrame
 pub mod Leaves
-pub mod Records
 pub mod Unique

@@ -1,0 +1,18 @@
+-- `bihargesh_segment` answers, leaves the window and counts as document 01's C side and ticket 4 say. Assumes nothing.
+use Rattle.cside.proofs.Windows.{windows as needs}
+use Rattle.cside.proofs.window.bihargesh_segment.Goals as goal
+
+pub returns-then-not-is : goal.returns-then-not-is
+returns-then-not-is c = search needs
+
+pub returns-then-window-ne144 : goal.returns-then-window-ne144
+returns-then-window-ne144 c = search needs
+
+pub count-requires : goal.count-requires
+count-requires c = search needs
+
+pub returns-in-Samples : goal.returns-in-Samples
+returns-in-Samples c = search needs
+
+pub returns-in-Refused : goal.returns-in-Refused
+returns-in-Refused c = search needs
