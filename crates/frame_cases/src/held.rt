@@ -2,7 +2,7 @@
 use text::{Answered, Cursor};
 
 // Whether the lists so far are the line's, where the next ones stand, and whether their lengths stand before them, as those of lent lists do.
-#[derive(Drop)]
+#[derive(Clone, Copy)]
 pub struct Matched {
     pub same: bool,
     pub counted: bool,

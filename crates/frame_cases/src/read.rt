@@ -7,14 +7,14 @@ use rules::settings::Frame;
 use text::Cursor;
 
 // The settings and what follows them.
-#[derive(Drop)]
+#[derive(Clone, Copy)]
 pub struct Asked {
     pub f: Frame,
     pub rest: Cursor,
 }
 
 // How long three lists are, and what follows them.
-#[derive(Drop)]
+#[derive(Clone, Copy)]
 pub struct Three {
     pub a: usize,
     pub b: usize,
@@ -23,7 +23,7 @@ pub struct Three {
 }
 
 // How long the five lists of a grid are, and what follows them.
-#[derive(Drop)]
+#[derive(Clone, Copy)]
 pub struct Five {
     pub vedge: usize,
     pub hedge: usize,
@@ -34,7 +34,7 @@ pub struct Five {
 }
 
 // The picture's numbers. They are read past 32 bits: the stream has refused ones of that size.
-#[derive(Drop)]
+#[derive(Clone, Copy)]
 struct Picture {
     width: usize,
     height: usize,
