@@ -6,7 +6,7 @@ ghost use Rattle.gridded.specs.Spans.{leaves_from, leaves_end, tiles_from, tiles
 use by_settings::lists::Lists;
 
 // Where a list of short numbers begins and ends.
-#[derive(Drop)]
+#[derive(Clone, Copy)]
 pub struct Span {
     pub from: usize,
     pub end: usize,
