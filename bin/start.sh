@@ -103,9 +103,9 @@ build() {
   exec 8<&-
 }
 
-# Runs the program with the words given: its answer's first byte is $outcome, written before any name, and the rest $said. Descriptor 3 is standard output.
+# Runs the program with the words given: its answer's first byte is $outcome, written before any name, and the rest $said. The answer goes to descriptor 1, and to 3 where the program writes to standard output.
 start() {
-  local emulator
+  local emulator output=6
   ulimit -s "$stack" 2>/dev/null || stop "the stack can't be raised to $stack KiB here (its hard limit is $(ulimit -Hs) KiB)"
   # programs are x86-64 code
   emulator=
@@ -114,7 +114,10 @@ start() {
   exec 6>"$answer" 7<"$answer" 5<&0
   rm -f -- "$answer"
   answer=
-  setsid ${emulator:+"$emulator"} "$program" "$@" <&5 3>&1 >&6 5<&- 6>&- 7<&- &
+  case $name:${to-} in
+  camera:* | *:-) output=1 ;;
+  esac
+  setsid ${emulator:+"$emulator"} "$program" "$@" <&5 3>&6 >&"$output" 5<&- 6>&- 7<&- &
   await
   [ ! -t 2 ] || printf '\r\033[K' >&2
   IFS= read -r -d '' said <&7
