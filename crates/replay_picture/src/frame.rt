@@ -14,16 +14,25 @@ use rules::settings::Replay;
 use streams::job::Job;
 use streams::read::{next_mark, read_frame};
 use streams::save::{pack, save};
+use system::files::Target;
 
 // Whether all is well so far, and whether a frame was there.
-#[derive(Drop)]
+#[derive(Clone, Copy)]
 pub struct Done {
     pub good: bool,
     pub more: bool,
 }
 
 // Plane p by its record and its keep marks, on the cells that were filtered; false after the answer that says why not.
-fn run_plane(plane: &mut [u16], bytes: &[u8], keep: &[u8], s: Shape, depth: u32, p: usize) -> bool
+fn run_plane(
+    told: &Target,
+    plane: &mut [u16],
+    bytes: &[u8],
+    keep: &[u8],
+    s: Shape,
+    depth: u32,
+    p: usize,
+) -> bool
     ensures { plane.new ≡ replay_after (settings_of s depth) bytes.now keep.now plane.old }
 {
     let a = replay_plane(
@@ -39,7 +48,7 @@ fn run_plane(plane: &mut [u16], bytes: &[u8], keep: &[u8], s: Shape, depth: u32,
     );
     let answer = a.answer;
     if let Answer::Refused(r) = answer {
-        say::refused(p, r, s);
+        say::refused(told, p, r, s);
         return false;
     }
     true
@@ -54,7 +63,7 @@ fn run_planes(
     at: Records,
     keep: &[u8],
     chromakeep: &[u8],
-    j: Job,
+    j: Job<'_>,
 ) -> bool
     requires { Held at (length bytes.now) }
 {
@@ -63,16 +72,16 @@ fn run_planes(
     let a = at.y;
     let b = at.u;
     let c = at.v;
-    if !run_plane(y, &bytes[0..a], keep, j.l, layout.depth, 0) {
+    if !run_plane(j.told, y, &bytes[0..a], keep, j.l, layout.depth, 0) {
         return false;
     }
     if !at.chroma {
         return true;
     }
-    if !run_plane(u, &bytes[a..b], chromakeep, j.c, layout.depth, 1) {
+    if !run_plane(j.told, u, &bytes[a..b], chromakeep, j.c, layout.depth, 1) {
         return false;
     }
-    run_plane(v, &bytes[b..c], chromakeep, j.c, layout.depth, 2)
+    run_plane(j.told, v, &bytes[b..c], chromakeep, j.c, layout.depth, 2)
 }
 
 // Frame k, whose line was read; false after the answer that says why not.
@@ -87,7 +96,7 @@ fn work(
     name: &[u8],
     head: &[u8],
     mark: &[u8],
-    j: Job,
+    j: Job<'_>,
     k: usize,
 ) -> bool
     requires { Shaped j × Held at (length bytes.now) }
@@ -113,13 +122,13 @@ pub fn next(
     chromakeep: &[u8],
     name: &[u8],
     head: &[u8],
-    j: Job,
+    j: Job<'_>,
     k: usize,
 ) -> Done
     requires { Shaped j × Held at (length bytes.now) }
 {
     let mut mark = [0u8; 1024];
-    let t = next_mark(name, j.from, k, &mut mark);
+    let t = next_mark(j.told, name, j.from, k, &mut mark);
     if !t.more {
         return Done {
             good: t.good,

@@ -3,10 +3,13 @@ ghost use Rattle.std.specs.Prelude.{◌≤◌, length};
 ghost use Rattle.replay_picture.specs.Held.{Held};
 
 use pictures::files;
+use std::fs::File;
+use std::rt::Files;
 use streams::say::cannot;
+use system::files::{Ends, Target};
 
 // Whether the files could be read, whether chroma has records, and where luma's record ends in the list, U's and V's.
-#[derive(Drop)]
+#[derive(Clone, Copy)]
 pub struct Records {
     pub good: bool,
     pub chroma: bool,
@@ -26,20 +29,27 @@ pub fn large_room() -> [u8; 67108864] {
 }
 
 // Whether a record could be read, and where it ends.
-#[derive(Drop)]
+#[derive(Clone, Copy)]
 struct Part {
     good: bool,
     end: usize,
 }
 
 // A record into the list from a place on; after the answer where it can't be read.
-fn add(name: &[u8], bytes: &mut [u8], from: usize) -> Part
+fn add<R: Files<File = File>>(
+    rt: &R,
+    ends: Ends,
+    told: &Target,
+    name: &[u8],
+    bytes: &mut [u8],
+    from: usize,
+) -> Part
     requires { from ≤ length bytes.old }
     ensures { (from ≤ result.end) × (result.end ≤ length bytes.new) }
 {
-    let w = files::read_whole(name, &mut bytes[from..]);
+    let w = files::read_whole(rt, ends, name, &mut bytes[from..]);
     if !w.opened {
-        cannot(name, b"the record can't be read");
+        cannot(told, name, b"the record can't be read");
     }
     Part {
         good: w.opened,
@@ -48,10 +58,18 @@ fn add(name: &[u8], bytes: &mut [u8], from: usize) -> Part
 }
 
 // The records by their names, where an empty name of U stands for no record of chroma. They fill the list where they don't fit.
-pub fn load(y: &[u8], u: &[u8], v: &[u8], bytes: &mut [u8]) -> Records
+pub fn load<R: Files<File = File>>(
+    rt: &R,
+    ends: Ends,
+    told: &Target,
+    y: &[u8],
+    u: &[u8],
+    v: &[u8],
+    bytes: &mut [u8],
+) -> Records
     ensures { Held result (length bytes.new) }
 {
-    let a = add(y, bytes, 0);
+    let a = add(rt, ends, told, y, bytes, 0);
     if u.len() == 0 || !a.good {
         return Records {
             good: a.good,
@@ -61,8 +79,8 @@ pub fn load(y: &[u8], u: &[u8], v: &[u8], bytes: &mut [u8]) -> Records
             v: a.end,
         };
     }
-    let b = add(u, bytes, a.end);
-    let c = add(v, bytes, b.end);
+    let b = add(rt, ends, told, u, bytes, a.end);
+    let c = add(rt, ends, told, v, bytes, b.end);
     Records {
         good: b.good && c.good,
         chroma: true,

@@ -1,5 +1,5 @@
 // Runs records of edges again on a picture or a stream: `replay_picture PICTURE OUT Y [U V [SETTINGS]]` reads a YUV4MPEG2 file, runs luma's record Y and, where they are named, chroma's records U and V
-// on each frame, with the cells kept that the settings keep, writes the frames to OUT, and answers on standard output. An empty name stands for none. `bin/replay` keeps OUT as it was where a frame is refused.
+// on each frame, with the cells kept that the settings keep, writes the frames to OUT, and answers on standard output, and on descriptor 3 where OUT is -. An empty name stands for none. `bin/replay` keeps OUT as it was where a frame is refused.
 #![tactic(auto)]
 
 // The answer.
@@ -17,24 +17,36 @@ mod frame;
 // The order of it all.
 mod run;
 
-fn main() {
-    let mut picture = io::buffer();
-    let mut out = io::buffer();
-    let mut y = io::buffer();
-    let mut u = io::buffer();
-    let mut v = io::buffer();
-    let mut settings = io::buffer();
-    let p = os::arg(1, &mut picture);
-    let o = os::arg(2, &mut out);
-    let a = os::arg(3, &mut y);
-    let b = os::arg(4, &mut u);
-    let c = os::arg(5, &mut v);
-    let d = os::arg(6, &mut settings);
+use system::bytes::buffer;
+use system::files::{Ends, answers, word};
+
+fn main(rt: HostRuntime) {
+    let ends = Ends {
+        input: rt.stdin(),
+        output: rt.stdout(),
+        errors: rt.stderr(),
+    };
+    let mut picture = buffer();
+    let mut out = buffer();
+    let mut y = buffer();
+    let mut u = buffer();
+    let mut v = buffer();
+    let mut settings = buffer();
+    let p = word(&rt, 1, &mut picture);
+    let o = word(&rt, 2, &mut out);
+    let a = word(&rt, 3, &mut y);
+    let b = word(&rt, 4, &mut u);
+    let c = word(&rt, 5, &mut v);
+    let d = word(&rt, 6, &mut settings);
+    let told = answers(&rt, ends, &out[..o]);
     if p == 0 || o == 0 || a == 0 {
-        say::usage();
+        say::usage(&told);
         return;
     }
     run::run(
+        &rt,
+        ends,
+        &told,
         &picture[..p],
         &out[..o],
         &y[..a],

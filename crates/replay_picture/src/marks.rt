@@ -4,10 +4,14 @@ ghost use Rattle.std.specs.Prelude.{◌≤◌, length};
 use pictures::shapes::{chroma_of, luma_of};
 use pictures::{defaults, files};
 use settings::names::first_places;
+use std::fs::File;
+use std::rt::Files;
 use streams::kept::mark;
 use streams::open::small;
 use streams::say::cannot;
 use streams::take::{read_on, take};
+use system::bytes::large_buffer;
+use system::files::{Ends, Source, Target, read_full};
 use y4m::header::Header;
 
 // Marks what short numbers keep, by the places after the last of each kind.
@@ -27,6 +31,7 @@ fn placed(keep: &mut [u8], chromakeep: &mut [u8], shorts: &[u16], places: &[usiz
 
 // Marks what a text keeps; false after the answer that says what is wrong with it.
 fn told(
+    to: &Target,
     name: &[u8],
     text: &[u8],
     shorts: &mut [u16],
@@ -42,6 +47,7 @@ fn told(
     let mut offsets = [0i8; 384];
     let mut places = first_places(shorts.len());
     if !take(
+        to,
         name,
         text,
         &mut numbers,
@@ -58,15 +64,23 @@ fn told(
 }
 
 // By a text below 64 KiB.
-fn light(name: &[u8], text: &[u8], h: Header, keep: &mut [u8], chromakeep: &mut [u8]) -> bool {
+fn light(
+    to: &Target,
+    name: &[u8],
+    text: &[u8],
+    h: Header,
+    keep: &mut [u8],
+    chromakeep: &mut [u8],
+) -> bool {
     let mut shorts = defaults::few_shorts();
-    told(name, text, &mut shorts, h, keep, chromakeep)
+    told(to, name, text, &mut shorts, h, keep, chromakeep)
 }
 
 // By any text, of which the front was read.
 fn heavy(
+    to: &Target,
     name: &[u8],
-    file: i32,
+    file: &Source,
     front: &[u8],
     h: Header,
     keep: &mut [u8],
@@ -77,17 +91,18 @@ fn heavy(
     let mut text = files::text_room();
     let n = read_on(file, front, &mut text);
     if n == 33554432 {
-        cannot(name, b"expected settings of fewer than 33554432 bytes");
+        cannot(to, name, b"expected settings of fewer than 33554432 bytes");
         return false;
     }
     let mut shorts = defaults::shorts();
-    told(name, &text[..n], &mut shorts, h, keep, chromakeep)
+    told(to, name, &text[..n], &mut shorts, h, keep, chromakeep)
 }
 
 // By a text of which the front was read. `heavy` is called twice for the reason that `run` has.
 fn sized(
+    to: &Target,
     name: &[u8],
-    file: i32,
+    file: &Source,
     front: &[u8],
     h: Header,
     keep: &mut [u8],
@@ -96,27 +111,32 @@ fn sized(
     requires { length front.now ≤ 65536 }
 {
     if front.len() == 65536 {
-        return heavy(name, file, front, h, keep, chromakeep);
+        return heavy(to, name, file, front, h, keep, chromakeep);
     }
     if small(h) {
-        return light(name, front, h, keep, chromakeep);
+        return light(to, name, front, h, keep, chromakeep);
     }
-    heavy(name, file, front, h, keep, chromakeep)
+    heavy(to, name, file, front, h, keep, chromakeep)
 }
 
 // Marks what a settings file keeps, and nothing where its name is empty; false after the answer that says why not.
-pub fn marked(name: &[u8], h: Header, keep: &mut [u8], chromakeep: &mut [u8]) -> bool {
+pub fn marked<R: Files<File = File>>(
+    rt: &R,
+    ends: Ends,
+    to: &Target,
+    name: &[u8],
+    h: Header,
+    keep: &mut [u8],
+    chromakeep: &mut [u8],
+) -> bool {
     if name.len() == 0 {
         return true;
     }
-    let file = files::open_in(name);
-    if file < 0 {
-        cannot(name, b"the settings can't be read");
+    let Some(file) = files::open_in(rt, ends, name) else {
+        cannot(to, name, b"the settings can't be read");
         return false;
-    }
-    let mut front = io::large_buffer();
-    let n = io::read_full(file, &mut front);
-    let good = sized(name, file, &front[..n], h, keep, chromakeep);
-    libc::close(file);
-    good
+    };
+    let mut front = large_buffer();
+    let n = read_full(&file, &mut front);
+    sized(to, name, &file, &front[..n], h, keep, chromakeep)
 }

@@ -10,9 +10,12 @@ use crate::say;
 use by_settings::kept::{large_marks, small_marks};
 use pictures::shapes::{chroma_of, luma_of};
 use pictures::{files, planes};
+use std::fs::File;
+use std::rt::Files;
 use streams::job::Job;
 use streams::open::{open, small};
 use streams::say::{cannot, unwritten};
+use system::files::{Ends, Source, Target, is_watched, kept};
 use y4m::header::Header;
 
 // How many edges good records have: each begins with five bytes, and has ten for an edge.
@@ -21,15 +24,15 @@ fn edges_of(at: Records) -> usize {
     if at.chroma && 0 < n { n - 1 } else { n }
 }
 
-// The answer after the last frame, by whether OUT could be closed; none where a frame was bad, which was answered.
-fn closed(name: &[u8], j: Job, at: Records, frames: usize, good: bool) {
+// The answer after the last frame, by whether OUT is kept; none where a frame was bad, which was answered.
+fn closed(name: &[u8], j: Job<'_>, at: Records, frames: usize, good: bool) {
     if !good {
         return;
     }
-    if libc::close(j.to) == 0 {
-        say::replayed(name, j.h, frames, edges_of(at));
+    if kept(j.to) {
+        say::replayed(j.told, name, j.h, frames, edges_of(at));
     } else {
-        unwritten();
+        unwritten(j.told);
     }
 }
 
@@ -44,14 +47,16 @@ fn frames(
     chromakeep: &[u8],
     name: &[u8],
     head: &[u8],
-    j: Job,
+    j: Job<'_>,
+    ends: Ends,
 )
     requires { Shaped j × Held at (length bytes.now) }
 {
-    let shown = libc::isatty(2) == 1;
+    let errors = Target::Errors(ends.errors);
+    let shown = is_watched(ends);
     let mut k: usize = 0;
     while k < 18446744073709551615 {
-        say::count(k, shown);
+        say::count(&errors, k, shown);
         let d = next(y, u, v, bytes, at, keep, chromakeep, name, head, j, k);
         if !d.more {
             closed(name, j, at, k, d.good);
@@ -62,7 +67,10 @@ fn frames(
 }
 
 // OUT and the shapes of the planes, and then the frames.
-fn loaded(
+fn loaded<R: Files<File = File>>(
+    rt: &R,
+    ends: Ends,
+    told: &Target,
     y: &mut [u16],
     u: &mut [u16],
     v: &mut [u16],
@@ -72,36 +80,41 @@ fn loaded(
     chromakeep: &[u8],
     name: &[u8],
     out: &[u8],
-    fd: i32,
+    from: &Source,
     head: &[u8],
     h: Header,
 )
     requires { Held at (length bytes.now) }
 {
+    let to = files::open_out(rt, ends, out);
     let j = Job {
-        from: fd,
-        to: files::open_out(out),
+        from,
+        to: &to,
+        told,
         h,
         l: luma_of(h),
         c: chroma_of(h),
     };
-    frames(y, u, v, bytes, at, keep, chromakeep, name, head, j);
+    frames(y, u, v, bytes, at, keep, chromakeep, name, head, j, ends);
 }
 
 // A small picture; false where its records want more room.
-fn light(
+fn light<R: Files<File = File>>(
+    rt: &R,
+    ends: Ends,
+    told: &Target,
     name: &[u8],
     out: &[u8],
     y: &[u8],
     u: &[u8],
     v: &[u8],
     settings: &[u8],
-    fd: i32,
+    from: &Source,
     head: &[u8],
     h: Header,
 ) -> bool {
     let mut bytes = small_room();
-    let at = load(y, u, v, &mut bytes);
+    let at = load(rt, ends, told, y, u, v, &mut bytes);
     if !at.good {
         return true;
     }
@@ -110,13 +123,16 @@ fn light(
     }
     let mut keep = small_marks();
     let mut chromakeep = small_marks();
-    if !marked(settings, h, &mut keep, &mut chromakeep) {
+    if !marked(rt, ends, told, settings, h, &mut keep, &mut chromakeep) {
         return true;
     }
     let mut a = planes::small_room();
     let mut b = planes::small_room();
     let mut c = planes::small_room();
     loaded(
+        rt,
+        ends,
+        told,
         &mut a,
         &mut b,
         &mut c,
@@ -126,7 +142,7 @@ fn light(
         &chromakeep,
         name,
         out,
-        fd,
+        from,
         head,
         h,
     );
@@ -134,24 +150,28 @@ fn light(
 }
 
 // Any picture.
-fn heavy(
+fn heavy<R: Files<File = File>>(
+    rt: &R,
+    ends: Ends,
+    told: &Target,
     name: &[u8],
     out: &[u8],
     y: &[u8],
     u: &[u8],
     v: &[u8],
     settings: &[u8],
-    fd: i32,
+    from: &Source,
     head: &[u8],
     h: Header,
 ) {
     let mut bytes = large_room();
-    let at = load(y, u, v, &mut bytes);
+    let at = load(rt, ends, told, y, u, v, &mut bytes);
     if !at.good {
         return;
     }
     if at.v == 67108864 {
         cannot(
+            told,
             y,
             b"expected records of fewer than 67108864 bytes in all planes",
         );
@@ -159,13 +179,16 @@ fn heavy(
     }
     let mut keep = large_marks();
     let mut chromakeep = large_marks();
-    if !marked(settings, h, &mut keep, &mut chromakeep) {
+    if !marked(rt, ends, told, settings, h, &mut keep, &mut chromakeep) {
         return;
     }
     let mut a = planes::large_room();
     let mut b = planes::large_room();
     let mut c = planes::large_room();
     loaded(
+        rt,
+        ends,
+        told,
         &mut a,
         &mut b,
         &mut c,
@@ -175,49 +198,77 @@ fn heavy(
         &chromakeep,
         name,
         out,
-        fd,
+        from,
         head,
         h,
     );
 }
 
 // By the picture's size. `heavy` is called twice so that the compiler leaves it a function of its own, whose lists a small picture never touches.
-fn sized(
+fn sized<R: Files<File = File>>(
+    rt: &R,
+    ends: Ends,
+    told: &Target,
     name: &[u8],
     out: &[u8],
     y: &[u8],
     u: &[u8],
     v: &[u8],
     settings: &[u8],
-    fd: i32,
+    from: &Source,
     head: &[u8],
     h: Header,
 ) {
     if !small(h) {
-        heavy(name, out, y, u, v, settings, fd, head, h);
-    } else if !light(name, out, y, u, v, settings, fd, head, h) {
-        heavy(name, out, y, u, v, settings, fd, head, h);
+        heavy(rt, ends, told, name, out, y, u, v, settings, from, head, h);
+    } else if !light(rt, ends, told, name, out, y, u, v, settings, from, head, h) {
+        heavy(rt, ends, told, name, out, y, u, v, settings, from, head, h);
     }
 }
 
 // Whether the picture has the planes of the records; else after the answer.
-fn fits(u: &[u8], h: Header) -> bool {
+fn fits(told: &Target, u: &[u8], h: Header) -> bool {
     let layout = h.layout;
     if layout.chroma || u.len() == 0 {
         return true;
     }
-    cannot(u, b"a record of chroma, and the picture has none");
+    cannot(told, u, b"a record of chroma, and the picture has none");
     false
 }
 
 // The picture's header, and then the rest.
-pub fn run(name: &[u8], out: &[u8], y: &[u8], u: &[u8], v: &[u8], settings: &[u8]) {
+pub fn run<R: Files<File = File>>(
+    rt: &R,
+    ends: Ends,
+    told: &Target,
+    name: &[u8],
+    out: &[u8],
+    y: &[u8],
+    u: &[u8],
+    v: &[u8],
+    settings: &[u8],
+) {
     let mut head = [0u8; 1024];
-    let p = open(name, &mut head);
+    let p = open(rt, ends, told, name, &mut head);
     let n = p.n;
     let h = p.h;
-    if h.opens && fits(u, h) {
-        sized(name, out, y, u, v, settings, p.fd, &head[..n], h);
+    let Some(from) = p.from else {
+        return;
+    };
+    if h.opens && fits(told, u, h) {
+        sized(
+            rt,
+            ends,
+            told,
+            name,
+            out,
+            y,
+            u,
+            v,
+            settings,
+            &from,
+            &head[..n],
+            h,
+        );
     }
-    libc::close(p.fd);
 }

@@ -1,83 +1,90 @@
-// The answer on standard output: the outcome as one byte (0 run again, 1 refused, 2 a bad file, 3 not written), which stands before any name, and then a line.
+// The answer where it goes: the outcome as one byte (0 run again, 1 refused, 2 a bad file, 3 not written), which stands before any name, and then a line.
 use pictures::planes::Shape;
 use rules::refusals::Refusal;
 use streams::say::{frames_of, number, words};
+use system::files::Target;
 use y4m::header::Header;
 
-pub fn usage() {
-    words(b"usage: replay_picture PICTURE OUT Y [U V [SETTINGS]]\n");
+pub fn usage(told: &Target) {
+    words(
+        told,
+        b"usage: replay_picture PICTURE OUT Y [U V [SETTINGS]]\n",
+    );
 }
 
 // How many frames are done, on a terminal.
-pub fn count(k: usize, shown: bool) {
-    streams::say::count(b"replayed", k, shown);
+pub fn count(errors: &Target, k: usize, shown: bool) {
+    streams::say::count(errors, b"replayed", k, shown);
 }
 
 // A plane by its name.
-fn plane_name(p: usize) {
+fn plane_name(told: &Target, p: usize) {
     match p {
-        0 => words(b"luma"),
-        1 => words(b"U"),
-        _ => words(b"V"),
+        0 => words(told, b"luma"),
+        1 => words(told, b"U"),
+        _ => words(told, b"V"),
     }
 }
 
 // A refusal's meaning, by its place.
-fn meaning(r: Refusal, s: Shape) {
+fn meaning(told: &Target, r: Refusal, s: Shape) {
     match r {
-        Refusal::Header => words(b"expected 'EDG' and version 1"),
-        Refusal::Cut(k) => entry(k, b" is cut"),
-        Refusal::Entry(k) => entry(k, b" is outside document 01's ranges"),
-        Refusal::Room(k) => entry(k, b" lacks room in the plane"),
-        Refusal::Sample(k) => sample(k, s.stride),
-        Refusal::Cell(_) => words(b"a keep mark is neither 0 nor 1"),
-        _ => words(b"the plane's depth, size or list is outside its range"),
+        Refusal::Header => words(told, b"expected 'EDG' and version 1"),
+        Refusal::Cut(k) => entry(told, k, b" is cut"),
+        Refusal::Entry(k) => entry(told, k, b" is outside document 01's ranges"),
+        Refusal::Room(k) => entry(told, k, b" lacks room in the plane"),
+        Refusal::Sample(k) => sample(told, k, s.stride),
+        Refusal::Cell(_) => words(told, b"a keep mark is neither 0 nor 1"),
+        _ => words(
+            told,
+            b"the plane's depth, size or list is outside its range",
+        ),
     }
 }
 
 // An entry of the record, counted from 0.
-fn entry(k: usize, what: &[u8]) {
-    words(b"entry ");
-    number(k);
-    words(what);
+fn entry(told: &Target, k: usize, what: &[u8]) {
+    words(told, b"entry ");
+    number(told, k);
+    words(told, what);
 }
 
 // A sample of the plane by its row and column.
-fn sample(k: usize, stride: usize) {
-    words(b"a sample is above the depth's top");
+fn sample(told: &Target, k: usize, stride: usize) {
+    words(told, b"a sample is above the depth's top");
     if 0 < stride {
-        words(b"; row ");
-        number(k / stride);
-        words(b", column ");
-        number(k % stride);
+        words(told, b"; row ");
+        number(told, k / stride);
+        words(told, b", column ");
+        number(told, k % stride);
     }
 }
 
 // Why the record of plane p is not run.
-pub fn refused(p: usize, r: Refusal, s: Shape) {
-    words(b"1refused by ");
-    number(rules::refusals::number(r) as usize);
-    words(b": ");
-    plane_name(p);
-    words(b"'s record: ");
-    meaning(r, s);
-    words(b"\n");
+pub fn refused(told: &Target, p: usize, r: Refusal, s: Shape) {
+    words(told, b"1refused by ");
+    number(told, rules::refusals::number(r) as usize);
+    words(told, b": ");
+    plane_name(told, p);
+    words(told, b"'s record: ");
+    meaning(told, r, s);
+    words(told, b"\n");
 }
 
 // The frames that the records were run on, and how many edges a frame has.
-pub fn replayed(name: &[u8], h: Header, frames: usize, edges: usize) {
-    words(b"0replayed ");
-    words(name);
-    words(b": ");
-    number(h.width);
-    words(b"x");
-    number(h.height);
-    frames_of(frames);
-    words(b", ");
-    number(edges);
+pub fn replayed(told: &Target, name: &[u8], h: Header, frames: usize, edges: usize) {
+    words(told, b"0replayed ");
+    words(told, name);
+    words(told, b": ");
+    number(told, h.width);
+    words(told, b"x");
+    number(told, h.height);
+    frames_of(told, frames);
+    words(told, b", ");
+    number(told, edges);
     if frames == 1 {
-        words(b" edges\n");
+        words(told, b" edges\n");
     } else {
-        words(b" edges each\n");
+        words(told, b" edges each\n");
     }
 }
