@@ -3,11 +3,12 @@
 
 ghost use Rattle.std.specs.Prelude.{◌≡◌, length};
 
+use std::io::{Read, Write};
 use tally::Tally;
 use text::Cursor;
 
 // What is counted so far, the part whose cases these are, 0 before the first, and the length of the step table that stands.
-#[derive(Drop)]
+#[derive(Clone, Copy)]
 struct Run {
     tally: Tally,
     part: usize,
@@ -28,24 +29,24 @@ fn has_tables(part: usize) -> bool {
 }
 
 // How a part's cases came out; of segments also how often each width was reached.
-fn print(part: usize, t: Tally) {
-    tally::print(t);
+fn print<W: Write>(to: &mut W, part: usize, t: Tally) {
+    tally::print(to, t);
     if part == 2 {
-        tally::print_widths(t);
+        tally::print_widths(to, t);
     }
 }
 
 // Prints what was counted of a part, and counts anew; lines before the first part stay counted.
-fn counted(part: usize, t: Tally) -> Tally {
+fn counted<W: Write>(to: &mut W, part: usize, t: Tally) -> Tally {
     if part == 0 {
         return t;
     }
-    print(part, t);
+    print(to, part, t);
     tally::none()
 }
 
 // A line that says whose cases follow.
-fn begin(text: &[u8], c: Cursor, before: Run) -> Run {
+fn begin<W: Write>(to: &mut W, text: &[u8], c: Cursor, before: Run) -> Run {
     let part = text::read_unsigned(text, c, 7);
     let t = before.tally;
     if part.value == 0 || !text::ended(part.rest) {
@@ -56,7 +57,7 @@ fn begin(text: &[u8], c: Cursor, before: Run) -> Run {
         };
     }
     Run {
-        tally: counted(before.part, t),
+        tally: counted(to, before.part, t),
         part: part.value,
         steps: 0,
     }
@@ -77,7 +78,7 @@ fn replay_case(text: &[u8], c: Cursor, part: usize, steps: &[u32], t: Tally) -> 
 }
 
 // A line: 0 says whose cases follow, 1 sets the step table where the part has one, and any other is a case.
-fn replay(text: &[u8], c: Cursor, steps: &mut [u32], before: Run) -> Run
+fn replay<W: Write>(to: &mut W, text: &[u8], c: Cursor, steps: &mut [u32], before: Run) -> Run
     ensures { length steps.new ≡ length steps.old }
 {
     let t = before.tally;
@@ -86,7 +87,7 @@ fn replay(text: &[u8], c: Cursor, steps: &mut [u32], before: Run) -> Run
     let kind = text::read_unsigned(text, c, 4);
     let rest = kind.rest;
     if kind.value == 0 && rest.good {
-        return begin(text, rest, before);
+        return begin(to, text, rest, before);
     }
     if kind.value == 1 && has_tables(part) {
         let table = text::set_steps(text, rest, steps);
@@ -107,25 +108,32 @@ fn replay(text: &[u8], c: Cursor, steps: &mut [u32], before: Run) -> Run
 }
 
 // Every line.
-fn replay_all(buf: &mut [u8], steps: &mut [u32]) -> Run {
+fn replay_all<R: Read, W: Write>(
+    from: &mut R,
+    to: &mut W,
+    buf: &mut [u8],
+    steps: &mut [u32],
+) -> Run {
     let mut run = Run {
         tally: tally::none(),
         part: 0,
         steps: 0,
     };
-    let mut l = cases::next_line(buf, cases::start());
+    let mut l = cases::next_line(from, buf, cases::start());
     let mut turns = u64::MAX;
     while turns > 0 && l.good {
-        run = replay(buf, cases::line(l), steps, run);
-        l = cases::next_line(buf, l);
+        run = replay(to, buf, cases::line(l), steps, run);
+        l = cases::next_line(from, buf, l);
         turns -= 1;
     }
     run
 }
 
-fn main() {
+fn main(rt: HostRuntime) {
+    let mut from = rt.stdin();
+    let mut to = rt.stdout();
     let mut buf = room();
     let mut steps = [0u32; 400];
-    let run = replay_all(&mut buf, &mut steps);
-    print(run.part, run.tally);
+    let run = replay_all(&mut from, &mut to, &mut buf, &mut steps);
+    print(&mut to, run.part, run.tally);
 }
