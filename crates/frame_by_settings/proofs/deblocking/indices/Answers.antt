@@ -1,0 +1,8 @@
+-- `indices` is all zero. Assumes nothing.
+use mathlib.Core.Path.{refl}
+use Rattle.frame_by_settings.specs.Deblocked.{zeros}
+use Rattle.frame_by_settings.proofs.deblocking.indices.Goals as goal
+
+pub returns : goal.returns
+unfolding zeros
+returns c = refl
