@@ -13,11 +13,12 @@ use rules::refusals::{Answer, Refusal, number, place};
 use rules::settings::Frame;
 use settings::lines::{line_with, lines_of};
 use streams::job::Job;
+use system::files::Target;
 use thresholds::tests::delta_ok;
 use tiles::tests::cap_ok;
 
 // The frame that the header and the settings describe.
-pub fn frame_by(j: Job, numbers: &[i32]) -> Frame
+pub fn frame_by(j: Job<'_>, numbers: &[i32]) -> Frame
     requires { frame_numbers ≤ length numbers.now }
 {
     let l = j.l;
@@ -60,16 +61,16 @@ fn setting_of(f: Frame, starts: bool) -> usize {
 }
 
 // The answer on a setting outside its range, by its kind.
-pub fn say_setting(kind: usize, f: Frame, text: &[u8]) {
+pub fn say_setting(told: &Target, kind: usize, f: Frame, text: &[u8]) {
     let mut lines = [0usize; kinds::KINDS];
     lines_of(text, &mut lines);
     if kind < kinds::TILES_Y {
-        say::out_of_range(kind, lines[kind]);
+        say::out_of_range(told, kind, lines[kind]);
     } else if kind == kinds::TILES_Y {
-        say::bad_tiles(kind, f.lumastride / 4, lines[kinds::TILES_Y]);
+        say::bad_tiles(told, kind, f.lumastride / 4, lines[kinds::TILES_Y]);
     } else {
         let line = lines[kinds::TILES_UV];
-        say::bad_tiles(kinds::TILES_UV, f.chromastride / 4, line);
+        say::bad_tiles(told, kinds::TILES_UV, f.chromastride / 4, line);
     }
 }
 
@@ -89,22 +90,22 @@ fn line_of(list: usize, k: usize, text: &[u8]) -> usize {
 }
 
 // The answer on a frame that was refused.
-fn say_refused(r: Refusal, at: Place, f: Frame, starts: bool, text: &[u8]) {
+fn say_refused(told: &Target, r: Refusal, at: Place, f: Frame, starts: bool, text: &[u8]) {
     if number(r) == 5 {
-        say_setting(setting_of(f, starts), f, text);
+        say_setting(told, setting_of(f, starts), f, text);
     } else {
-        say::refused(r, at, line_of(at.plane, place(r), text));
+        say::refused(told, r, at, line_of(at.plane, place(r), text));
     }
 }
 
 // Whether a frame was deblocked; else after the answer that says why not.
-pub fn deblocked(o: Outcome, f: Frame, starts: bool, text: &[u8]) -> bool {
+pub fn deblocked(told: &Target, o: Outcome, f: Frame, starts: bool, text: &[u8]) -> bool {
     let a = o.answer;
     let at = o.place;
     match a {
         Answer::Accepted => true,
         Answer::Refused(r) => {
-            say_refused(r, at, f, starts, text);
+            say_refused(told, r, at, f, starts, text);
             false
         }
     }

@@ -9,10 +9,18 @@ use pictures::outside::outside;
 use pictures::planes::Shape;
 use settings::lines::line_with;
 use streams::say::at_line;
+use system::files::Target;
 use tiles::leaf::wide;
 
 // Whether the leaves of a kind begin in the picture; else after the answer that names the first that does not.
-fn list_inside(name: &[u8], text: &[u8], kind: usize, leaves: &[u16], s: Shape) -> bool {
+fn list_inside(
+    told: &Target,
+    name: &[u8],
+    text: &[u8],
+    kind: usize,
+    leaves: &[u16],
+    s: Shape,
+) -> bool {
     let rows = s.rows / 4;
     let columns = s.stride / 4;
     let k = outside(leaves, rows, columns);
@@ -21,13 +29,20 @@ fn list_inside(name: &[u8], text: &[u8], kind: usize, leaves: &[u16], s: Shape) 
     }
     let row = wide(leaves[4 * k]);
     let column = wide(leaves[4 * k + 1]);
-    at_line(name, line_with(text, kind, 4 * k));
-    say::outside(kind, row, column, rows, columns);
+    at_line(told, name, line_with(text, kind, 4 * k));
+    say::outside(told, kind, row, column, rows, columns);
     false
 }
 
 // Whether every leaf begins in the picture; else after the answer.
-pub fn inside(name: &[u8], text: &[u8], shorts: &[u16], places: &[usize], s: Shape) -> bool
+pub fn inside(
+    told: &Target,
+    name: &[u8],
+    text: &[u8],
+    shorts: &[u16],
+    places: &[usize],
+    s: Shape,
+) -> bool
     requires { (fewest_shorts ≤ length shorts.now) × (kinds ≤ length places.now) }
 {
     let at = lists_of(places, shorts.len());
@@ -37,11 +52,11 @@ pub fn inside(name: &[u8], text: &[u8], shorts: &[u16], places: &[usize], s: Sha
     let d = at.chromaend;
     let e = at.skips;
     let g = at.skipsend;
-    if !list_inside(name, text, kinds::LEAF, &shorts[a..b], s) {
+    if !list_inside(told, name, text, kinds::LEAF, &shorts[a..b], s) {
         return false;
     }
-    if !list_inside(name, text, kinds::LEAF_UV, &shorts[c..d], s) {
+    if !list_inside(told, name, text, kinds::LEAF_UV, &shorts[c..d], s) {
         return false;
     }
-    list_inside(name, text, kinds::SKIP, &shorts[e..g], s)
+    list_inside(told, name, text, kinds::SKIP, &shorts[e..g], s)
 }

@@ -5,71 +5,77 @@ use rules::refusals::Refusal;
 use streams::say::{number, words};
 use streams::table::entry;
 use streams::take::setting;
+use system::files::Target;
 
 // Where leaves should begin.
-fn cells(rows: usize, columns: usize) {
-    words(b"leaves in the picture's ");
-    number(rows);
-    words(b" rows and ");
-    number(columns);
-    words(b" columns of cells, and not '");
+fn cells(told: &Target, rows: usize, columns: usize) {
+    words(told, b"leaves in the picture's ");
+    number(told, rows);
+    words(told, b" rows and ");
+    number(told, columns);
+    words(told, b" columns of cells, and not '");
 }
 
 // A leaf that begins outside the picture, by its kind, row and column.
-pub fn outside(kind: usize, row: usize, column: usize, rows: usize, columns: usize) {
-    cells(rows, columns);
-    setting(kind);
-    words(b" ");
-    number(row);
-    words(b" ");
-    number(column);
-    words(b" ..'\n");
+pub fn outside(told: &Target, kind: usize, row: usize, column: usize, rows: usize, columns: usize) {
+    cells(told, rows, columns);
+    setting(told, kind);
+    words(told, b" ");
+    number(told, row);
+    words(told, b" ");
+    number(told, column);
+    words(told, b" ..'\n");
 }
 
 // The line of the settings that has what was refused, where there is one.
-fn settings_line(line: usize) {
+fn settings_line(told: &Target, line: usize) {
     if line == 0 {
         return;
     }
-    words(b"; line ");
-    number(line);
-    words(b" of the settings");
+    words(told, b"; line ");
+    number(told, line);
+    words(told, b" of the settings");
 }
 
 // The range of a setting.
-fn range(kind: usize) {
+fn range(told: &Target, kind: usize) {
     match kind {
-        kinds::DELTA_Y | kinds::DELTA_UV => words(b"-128..127"),
-        kinds::CAP_Y | kinds::CAP_UV => words(b"1, 2, 4, 8 and 16 cells each way"),
+        kinds::DELTA_Y | kinds::DELTA_UV => words(told, b"-128..127"),
+        kinds::CAP_Y | kinds::CAP_UV => words(told, b"1, 2, 4, 8 and 16 cells each way"),
         _ => words(
+            told,
             b"its ranges: scale 1..16, cuts -4095..4095 with lo at most hi, classes 0..3, taps -16..16, band log2 0..3",
         ),
     }
 }
 
 // A setting outside its range, and the line that has it.
-pub fn out_of_range(kind: usize, line: usize) {
-    words(b"1refused by 5: ");
-    setting(kind);
-    words(b" is outside ");
-    range(kind);
-    settings_line(line);
-    words(b"\n");
+pub fn out_of_range(told: &Target, kind: usize, line: usize) {
+    words(told, b"1refused by 5: ");
+    setting(told, kind);
+    words(told, b" is outside ");
+    range(told, kind);
+    settings_line(told, line);
+    words(told, b"\n");
 }
 
 // A bad list of tile starts of a plane with so many columns of cells, and the line that has it.
-pub fn bad_tiles(kind: usize, columns: usize, line: usize) {
-    words(b"1refused by 5: ");
-    setting(kind);
-    words(b" is no strictly rising list of columns above 0 and below ");
-    number(columns);
-    settings_line(line);
-    words(b"\n");
+pub fn bad_tiles(told: &Target, kind: usize, columns: usize, line: usize) {
+    words(told, b"1refused by 5: ");
+    setting(told, kind);
+    words(
+        told,
+        b" is no strictly rising list of columns above 0 and below ",
+    );
+    number(told, columns);
+    settings_line(told, line);
+    words(told, b"\n");
 }
 
 // A refusal's meaning, by its number.
-fn meaning(n: usize) {
+fn meaning(told: &Target, n: usize) {
     entry(
+        told,
         b"
 the depth is not 8, 10 or 12
 a size, stride or subsampling is outside its range
@@ -91,30 +97,31 @@ the state is spent",
 }
 
 // Where a refusal stands: a plane by its name, or a list by its setting's.
-fn placed(at: Place) {
+fn placed(told: &Target, at: Place) {
     entry(
+        told,
         b"luma\nU\nV\nchroma\nleaf\nleaf_uv\nskip\nsteps\nthe frame",
         at.plane,
     );
     if at.plane == STEPS {
-        words(b", entry ");
+        words(told, b", entry ");
     } else {
-        words(b", row ");
-        number(at.row);
-        words(b", column ");
+        words(told, b", row ");
+        number(told, at.row);
+        words(told, b", column ");
     }
-    number(at.column);
+    number(told, at.column);
 }
 
 // A refusal by its number, its meaning, its place, and the line of the settings that has it, 0 for none.
-pub fn refused(r: Refusal, at: Place, line: usize) {
+pub fn refused(told: &Target, r: Refusal, at: Place, line: usize) {
     let n = rules::refusals::number(r) as usize;
-    words(b"1refused by ");
-    number(n);
-    words(b": ");
-    meaning(n);
-    words(b"; ");
-    placed(at);
-    settings_line(line);
-    words(b"\n");
+    words(told, b"1refused by ");
+    number(told, n);
+    words(told, b": ");
+    meaning(told, n);
+    words(told, b"; ");
+    placed(told, at);
+    settings_line(told, line);
+    words(told, b"\n");
 }
