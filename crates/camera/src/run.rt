@@ -13,7 +13,7 @@ use gridded::sizes::sized;
 use pictures::planes::large_room;
 use pictures::shapes::{chroma_of, luma_of};
 use pictures::{defaults, files};
-use refused::frame::{deblocked, frame_by, starts_good};
+use refused::frames::{deblocked, frame_by, starts_good};
 use refused::inside::inside;
 use rules::counts::Counts;
 use rules::settings::Frame;

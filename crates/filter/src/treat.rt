@@ -7,7 +7,7 @@ use by_settings::gated::{Applied, offset_planes};
 use by_settings::places::at;
 use frame_by_settings::lists::deblock_asked;
 use pictures::planes;
-use refused::frame::{deblocked, frame_by, say_setting, starts_good};
+use refused::frames::{deblocked, frame_by, say_setting, starts_good};
 use refused::say;
 use rules::counts::Counts;
 use rules::refusals::{Answer, Refusal, number, place};

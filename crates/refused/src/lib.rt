@@ -8,4 +8,4 @@ pub mod say;
 pub mod inside;
 
 // A frame that was refused.
-pub mod frame;
+pub mod frames;
