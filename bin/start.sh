@@ -5,7 +5,8 @@ program=$top/target/bin/$name
 script=${0##*/}
 # KiB of stack: a picture's planes and the records
 stack=524288
-child= answer= part=
+child= answer= part= to=
+. "$top/bin/names.sh"
 
 # What stands in a name or a file and can't be shown is a '?'; lines stay lines.
 tell() { printf '%s\n' "${1//[$'\001'-$'\011'$'\013'-$'\037'$'\177']/?}"; }
@@ -105,7 +106,7 @@ build() {
 
 # Runs the program with the words given: its answer's first byte is $outcome, written before any name, and the rest $said. The answer goes to descriptor 1, and to 3 where the program writes to standard output.
 start() {
-  local emulator output=6
+  local emulator output=6 words
   ulimit -s "$stack" 2>/dev/null || stop "the stack can't be raised to $stack KiB here (its hard limit is $(ulimit -Hs) KiB)"
   # programs are x86-64 code
   emulator=
@@ -114,14 +115,16 @@ start() {
   exec 6>"$answer" 7<"$answer" 5<&0
   rm -f -- "$answer"
   answer=
-  case $name:${to-} in
+  lend_all "$@"
+  case $name:$to in
   camera:* | *:-) output=1 ;;
   esac
-  setsid ${emulator:+"$emulator"} "$program" "$@" <&5 3>&6 >&"$output" 5<&- 6>&- 7<&- &
+  setsid ${emulator:+"$emulator"} "$program" "${words[@]}" <&5 3>&6 >&"$output" 5<&- 6>&- 7<&- &
   await
   [ ! -t 2 ] || printf '\r\033[K' >&2
   IFS= read -r -d '' said <&7
   outcome=${said:0:1}
   said=${said:1}
   said=${said%$'\n'}
+  as_meant
 }
