@@ -12,7 +12,7 @@ use streams::read::{next_mark, read_frame};
 use streams::save::save;
 
 // How many samples are not as they were, and how many deblocking stored and changed.
-#[derive(Drop)]
+#[derive(Clone, Copy)]
 pub struct Told {
     pub changed: usize,
     pub counts: Counts,
@@ -43,7 +43,7 @@ pub fn both(a: Told, b: Told) -> Told {
 }
 
 // Whether all is well so far, whether a frame was there, and what is told of it.
-#[derive(Drop)]
+#[derive(Clone, Copy)]
 pub struct Done {
     pub good: bool,
     pub more: bool,
@@ -66,7 +66,7 @@ fn taken(
     v: &mut [u16],
     was: &mut [u16],
     name: &[u8],
-    j: Job,
+    j: Job<'_>,
     k: usize,
 ) -> bool
     requires { Shaped j }
@@ -80,7 +80,7 @@ fn taken(
 fn finished(
     head: &[u8],
     mark: &[u8],
-    j: Job,
+    j: Job<'_>,
     k: usize,
     y: &[u16],
     u: &[u16],
@@ -113,7 +113,7 @@ fn work(
     name: &[u8],
     head: &[u8],
     mark: &[u8],
-    j: Job,
+    j: Job<'_>,
     k: usize,
     numbers: &[i32],
     shorts: &[u16],
@@ -124,6 +124,7 @@ fn work(
     keep: &[u8],
     chromakeep: &[u8],
     text: &[u8],
+    plain: bool,
 ) -> Done
     requires { Shaped j × Lent (length numbers.now) (length shorts.now) (length steps.now) (length flags.now) (length offsets.now) (length places.now) }
 {
@@ -132,6 +133,7 @@ fn work(
     }
     let t = treat(
         y, u, v, luma, j, numbers, shorts, steps, flags, offsets, places, keep, chromakeep, text,
+        plain,
     );
     if !t.good {
         return ended(false);
@@ -148,7 +150,7 @@ pub fn next(
     luma: &mut [u16],
     name: &[u8],
     head: &[u8],
-    j: Job,
+    j: Job<'_>,
     k: usize,
     numbers: &[i32],
     shorts: &[u16],
@@ -159,11 +161,12 @@ pub fn next(
     keep: &[u8],
     chromakeep: &[u8],
     text: &[u8],
+    plain: bool,
 ) -> Done
     requires { Shaped j × Lent (length numbers.now) (length shorts.now) (length steps.now) (length flags.now) (length offsets.now) (length places.now) }
 {
     let mut mark = [0u8; 1024];
-    let t = next_mark(name, j.from, k, &mut mark);
+    let t = next_mark(j.told, name, j.from, k, &mut mark);
     if !t.more {
         return ended(t.good);
     }
@@ -188,5 +191,6 @@ pub fn next(
         keep,
         chromakeep,
         text,
+        plain,
     )
 }

@@ -1,5 +1,5 @@
 // Filters a picture or a stream: `filter PICTURE SETTINGS OUT [plain]` reads a YUV4MPEG2 file and a settings file, deblocks each frame, applies the CCSO offsets
-// that the settings ask for, writes the frames to OUT, and answers on standard output. A fourth word asks for the plain engine, which gives the same.
+// that the settings ask for, writes the frames to OUT, and answers on standard output, on descriptor 3 where OUT is '-'. A fourth word asks for the plain engine, which gives the same.
 // `bin/filter` keeps OUT as it was where a frame is not filtered.
 #![tactic(auto)]
 
@@ -15,16 +15,25 @@ mod frame;
 // The order of it all.
 mod run;
 
-fn main() {
-    let mut picture = io::buffer();
-    let mut settings = io::buffer();
-    let mut out = io::buffer();
-    let p = os::arg(1, &mut picture);
-    let s = os::arg(2, &mut settings);
-    let o = os::arg(3, &mut out);
+use system::bytes::buffer;
+use system::files::{Ends, answers, word};
+
+fn main(rt: HostRuntime) {
+    let ends = Ends {
+        input: rt.stdin(),
+        output: rt.stdout(),
+        errors: rt.stderr(),
+    };
+    let mut picture = buffer();
+    let mut settings = buffer();
+    let mut out = buffer();
+    let p = word(&rt, 1, &mut picture);
+    let s = word(&rt, 2, &mut settings);
+    let o = word(&rt, 3, &mut out);
+    let answer = answers(&rt, ends, &out[..o]);
     if p == 0 || s == 0 || o == 0 {
-        say::usage();
+        say::usage(&answer);
         return;
     }
-    run::run(&picture[..p], &settings[..s], &out[..o]);
+    run::run(&rt, ends, &answer, &picture[..p], &settings[..s], &out[..o]);
 }

@@ -4,34 +4,40 @@ ghost use Rattle.streams.specs.Shaped.{Shaped};
 ghost use Rattle.filter.specs.Lent.{Lent};
 
 use crate::frame::Told;
+use crate::treat::plain_asked;
 use crate::{frame, say};
 use by_settings::kept::{large_marks, small_marks};
 use pictures::shapes::{chroma_of, luma_of};
 use pictures::{defaults, files, planes};
 use refused::inside::inside;
 use settings::names::first_places;
+use std::fs::File;
+use std::rt::{Env, Files};
 use streams::changes;
 use streams::job::Job;
 use streams::kept::mark;
 use streams::open::{open, small};
 use streams::say::{cannot, unwritten};
 use streams::take::{read_on, take};
+use system::bytes::large_buffer;
+use system::files::{Ends, Source, Target, is_watched, kept, read_full};
 use y4m::header::Header;
 
-// The answer after the last frame, by whether OUT could be closed; none where a frame was bad, which was answered.
-fn closed(name: &[u8], j: Job, frames: usize, told: Told, good: bool) {
+// The answer after the last frame, by whether all of OUT is kept; none where a frame was bad, which was answered.
+fn closed(name: &[u8], j: Job<'_>, frames: usize, told: Told, good: bool) {
     if !good {
         return;
     }
-    if libc::close(j.to) == 0 {
-        say::filtered(name, j.h, frames, told);
+    if kept(j.to) {
+        say::filtered(j.told, name, j.h, frames, told);
     } else {
-        unwritten();
+        unwritten(j.told);
     }
 }
 
 // Every frame of the file, and then the answer. On a terminal the frames are counted.
 fn frames(
+    ends: Ends,
     y: &mut [u16],
     u: &mut [u16],
     v: &mut [u16],
@@ -39,7 +45,7 @@ fn frames(
     luma: &mut [u16],
     name: &[u8],
     head: &[u8],
-    j: Job,
+    j: Job<'_>,
     numbers: &[i32],
     shorts: &[u16],
     steps: &[u32],
@@ -49,17 +55,18 @@ fn frames(
     keep: &[u8],
     chromakeep: &[u8],
     text: &[u8],
+    plain: bool,
 )
     requires { Shaped j × Lent (length numbers.now) (length shorts.now) (length steps.now) (length flags.now) (length offsets.now) (length places.now) }
 {
-    let shown = libc::isatty(2) == 1;
+    let shown = is_watched(ends);
     let mut k: usize = 0;
     let mut told = frame::nothing();
     while k < 18446744073709551615 {
-        say::count(k, shown);
+        say::count(ends, k, shown);
         let d = frame::next(
             y, u, v, was, luma, name, head, j, k, numbers, shorts, steps, flags, offsets, places,
-            keep, chromakeep, text,
+            keep, chromakeep, text, plain,
         );
         if !d.more {
             closed(name, j, k, told, d.good);
@@ -71,7 +78,10 @@ fn frames(
 }
 
 // What the picture's size decides of the settings, and then its frames.
-fn sized(
+fn sized<R: Files<File = File> + Env>(
+    rt: &R,
+    ends: Ends,
+    answer: &Target,
     y: &mut [u16],
     u: &mut [u16],
     v: &mut [u16],
@@ -80,7 +90,7 @@ fn sized(
     name: &[u8],
     settings: &[u8],
     out: &[u8],
-    fd: i32,
+    from: &Source,
     head: &[u8],
     h: Header,
     numbers: &[i32],
@@ -98,24 +108,30 @@ fn sized(
     let l = luma_of(h);
     let c = chroma_of(h);
     defaults::complete(shorts, places, l.width, l.height);
-    if inside(settings, text, shorts, places, l) {
+    if inside(answer, settings, text, shorts, places, l) {
         mark(keep, chromakeep, shorts, places, h, l, c);
+        let to = files::open_out(rt, ends, out);
         let j = Job {
-            from: fd,
-            to: files::open_out(out),
+            from,
+            to: &to,
+            told: answer,
             h,
             l,
             c,
         };
+        let plain = plain_asked(rt);
         frames(
-            y, u, v, was, luma, name, head, j, numbers, shorts, steps, flags, offsets, places,
-            keep, chromakeep, text,
+            ends, y, u, v, was, luma, name, head, j, numbers, shorts, steps, flags, offsets,
+            places, keep, chromakeep, text, plain,
         );
     }
 }
 
 // What a settings text says, and then the picture.
-fn told(
+fn told<R: Files<File = File> + Env>(
+    rt: &R,
+    ends: Ends,
+    answer: &Target,
     y: &mut [u16],
     u: &mut [u16],
     v: &mut [u16],
@@ -124,7 +140,7 @@ fn told(
     name: &[u8],
     settings: &[u8],
     out: &[u8],
-    fd: i32,
+    from: &Source,
     head: &[u8],
     h: Header,
     text: &[u8],
@@ -140,6 +156,7 @@ fn told(
     let mut offsets = [0i8; 384];
     let mut places = first_places(shorts.len());
     if take(
+        answer,
         settings,
         text,
         &mut numbers,
@@ -150,6 +167,9 @@ fn told(
         &mut places,
     ) {
         sized(
+            rt,
+            ends,
+            answer,
             y,
             u,
             v,
@@ -158,7 +178,7 @@ fn told(
             name,
             settings,
             out,
-            fd,
+            from,
             head,
             h,
             &numbers,
@@ -175,7 +195,18 @@ fn told(
 }
 
 // A small picture, by a text that was read whole.
-fn light(name: &[u8], settings: &[u8], out: &[u8], fd: i32, head: &[u8], h: Header, text: &[u8]) {
+fn light<R: Files<File = File> + Env>(
+    rt: &R,
+    ends: Ends,
+    answer: &Target,
+    name: &[u8],
+    settings: &[u8],
+    out: &[u8],
+    from: &Source,
+    head: &[u8],
+    h: Header,
+    text: &[u8],
+) {
     let mut shorts = defaults::few_shorts();
     let mut y = planes::small_room();
     let mut u = planes::small_room();
@@ -185,6 +216,9 @@ fn light(name: &[u8], settings: &[u8], out: &[u8], fd: i32, head: &[u8], h: Head
     let mut keep = small_marks();
     let mut chromakeep = small_marks();
     told(
+        rt,
+        ends,
+        answer,
         &mut y,
         &mut u,
         &mut v,
@@ -193,7 +227,7 @@ fn light(name: &[u8], settings: &[u8], out: &[u8], fd: i32, head: &[u8], h: Head
         name,
         settings,
         out,
-        fd,
+        from,
         head,
         h,
         text,
@@ -204,14 +238,17 @@ fn light(name: &[u8], settings: &[u8], out: &[u8], fd: i32, head: &[u8], h: Head
 }
 
 // Any picture, by a text of which the front was read.
-fn heavy(
+fn heavy<R: Files<File = File> + Env>(
+    rt: &R,
+    ends: Ends,
+    answer: &Target,
     name: &[u8],
     settings: &[u8],
     out: &[u8],
-    fd: i32,
+    from: &Source,
     head: &[u8],
     h: Header,
-    file: i32,
+    file: &Source,
     front: &[u8],
 )
     requires { length front.now ≤ 65536 }
@@ -219,7 +256,11 @@ fn heavy(
     let mut text = files::text_room();
     let n = read_on(file, front, &mut text);
     if n == 33554432 {
-        cannot(settings, b"expected settings of fewer than 33554432 bytes");
+        cannot(
+            answer,
+            settings,
+            b"expected settings of fewer than 33554432 bytes",
+        );
         return;
     }
     let mut shorts = defaults::shorts();
@@ -231,6 +272,9 @@ fn heavy(
     let mut keep = large_marks();
     let mut chromakeep = large_marks();
     told(
+        rt,
+        ends,
+        answer,
         &mut y,
         &mut u,
         &mut v,
@@ -239,7 +283,7 @@ fn heavy(
         name,
         settings,
         out,
-        fd,
+        from,
         head,
         h,
         &text[..n],
@@ -250,32 +294,74 @@ fn heavy(
 }
 
 // The settings' file, and then what its text says. `heavy` is called twice so that the compiler leaves it a function of its own, whose lists a small picture never touches.
-fn asked(name: &[u8], settings: &[u8], out: &[u8], fd: i32, head: &[u8], h: Header) {
-    let file = files::open_in(settings);
-    if file < 0 {
-        cannot(settings, b"the settings can't be read");
+fn asked<R: Files<File = File> + Env>(
+    rt: &R,
+    ends: Ends,
+    answer: &Target,
+    name: &[u8],
+    settings: &[u8],
+    out: &[u8],
+    from: &Source,
+    head: &[u8],
+    h: Header,
+) {
+    let Some(file) = files::open_in(rt, ends, settings) else {
+        cannot(answer, settings, b"the settings can't be read");
         return;
-    }
-    let mut front = io::large_buffer();
-    let n = io::read_full(file, &mut front);
+    };
+    let mut front = large_buffer();
+    let n = read_full(&file, &mut front);
     if n == 65536 {
-        heavy(name, settings, out, fd, head, h, file, &front);
+        heavy(
+            rt, ends, answer, name, settings, out, from, head, h, &file, &front,
+        );
     } else if small(h) {
-        light(name, settings, out, fd, head, h, &front[..n]);
+        light(
+            rt,
+            ends,
+            answer,
+            name,
+            settings,
+            out,
+            from,
+            head,
+            h,
+            &front[..n],
+        );
     } else {
-        heavy(name, settings, out, fd, head, h, file, &front[..n]);
+        heavy(
+            rt,
+            ends,
+            answer,
+            name,
+            settings,
+            out,
+            from,
+            head,
+            h,
+            &file,
+            &front[..n],
+        );
     }
-    libc::close(file);
 }
 
 // The picture's header, and then the rest.
-pub fn run(name: &[u8], settings: &[u8], out: &[u8]) {
+pub fn run<R: Files<File = File> + Env>(
+    rt: &R,
+    ends: Ends,
+    answer: &Target,
+    name: &[u8],
+    settings: &[u8],
+    out: &[u8],
+) {
     let mut head = [0u8; 1024];
-    let p = open(name, &mut head);
+    let p = open(rt, ends, answer, name, &mut head);
     let n = p.n;
     let h = p.h;
+    let Some(from) = p.from else {
+        return;
+    };
     if h.opens {
-        asked(name, settings, out, p.fd, &head[..n], h);
+        asked(rt, ends, answer, name, settings, out, &from, &head[..n], h);
     }
-    libc::close(p.fd);
 }

@@ -12,8 +12,11 @@ use refused::say;
 use rules::counts::Counts;
 use rules::refusals::{Answer, Refusal, number, place};
 use rules::settings::Frame;
+use std::rt::Env;
 use streams::job::Job;
 use streams::save::pack;
+use system::bytes::buffer;
+use system::files::{Target, word};
 
 // The kind of a plane's CCSO line.
 fn ccso_kind(plane: usize) -> usize {
@@ -25,42 +28,42 @@ fn ccso_kind(plane: usize) -> usize {
 }
 
 // The answer on a plane that was not offset, whose rows have so many samples.
-fn say_plane(r: Refusal, plane: usize, width: usize, f: Frame, text: &[u8]) {
+fn say_plane(answer: &Target, r: Refusal, plane: usize, width: usize, f: Frame, text: &[u8]) {
     if number(r) == 5 {
-        say_setting(ccso_kind(plane), f, text);
+        say_setting(answer, ccso_kind(plane), f, text);
     } else {
-        say::refused(r, at(plane, place(r), width), 0);
+        say::refused(answer, r, at(plane, place(r), width), 0);
     }
 }
 
 // Whether every plane was offset; else after the answer that says why not.
-fn offset(d: Applied, f: Frame, across: usize, text: &[u8]) -> bool {
+fn offset(answer: &Target, d: Applied, f: Frame, across: usize, text: &[u8]) -> bool {
     let a = d.answer;
     let plane = d.plane;
     match a {
         Answer::Accepted => true,
         Answer::Refused(r) => {
             let samples = if plane == 0 { f.width } else { across };
-            say_plane(r, plane, samples, f, text);
+            say_plane(answer, r, plane, samples, f, text);
             false
         }
     }
 }
 
 // Chroma's samples in a row.
-fn width_of(j: Job) -> usize {
+fn width_of(j: Job<'_>) -> usize {
     let c = j.c;
     c.width
 }
 
 // Whether the plain engine is asked for, by the program's fourth word.
-fn plain_asked() -> bool {
-    let mut word = io::buffer();
-    os::arg(4, &mut word) != 0
+pub fn plain_asked<R: Env>(rt: &R) -> bool {
+    let mut room = buffer();
+    word(rt, 4, &mut room) != 0
 }
 
 // Whether the planes were filtered, and how many samples deblocking stored and changed.
-#[derive(Drop)]
+#[derive(Clone, Copy)]
 pub struct Treated {
     pub good: bool,
     pub counts: Counts,
@@ -72,7 +75,7 @@ pub fn treat(
     u: &mut [u16],
     v: &mut [u16],
     luma: &mut [u16],
-    j: Job,
+    j: Job<'_>,
     numbers: &[i32],
     shorts: &[u16],
     steps: &[u32],
@@ -82,17 +85,17 @@ pub fn treat(
     keep: &[u8],
     chromakeep: &[u8],
     text: &[u8],
+    plain: bool,
 ) -> Treated
     requires { Shaped j × Lent (length numbers.now) (length shorts.now) (length steps.now) (length flags.now) (length offsets.now) (length places.now) }
 {
     let f = frame_by(j, numbers);
-    let plain = plain_asked();
     let o = deblock_asked(y, u, v, shorts, steps, keep, chromakeep, places, f, plain);
     let counts = Counts {
         stored: o.stored,
         changed: o.changed,
     };
-    if !deblocked(o, f, starts_good(shorts, places, f), text) {
+    if !deblocked(j.told, o, f, starts_good(shorts, places, f), text) {
         return Treated {
             good: false,
             counts,
@@ -101,6 +104,6 @@ pub fn treat(
     pack(y, u, v, j);
     planes::copy(y, luma);
     let d = offset_planes(y, u, v, luma, numbers, flags, offsets, places, f);
-    let good = offset(d, f, width_of(j), text);
+    let good = offset(j.told, d, f, width_of(j), text);
     Treated { good, counts }
 }
