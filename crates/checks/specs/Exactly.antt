@@ -11,8 +11,8 @@ use Rattle.rules.specs.Refusals.{number_of, place_refused, or_else, unless, foun
 
 -- ---- a test
 
--- `ask` fails at place 0 where the condition does not hold, `seek` at the place that was found, `seekAny` at place 0 where one was found;
--- `and_then` is one test after the other, `askedIf` a test that counts only where the condition holds
+-- `ask` fails at place 0 where the condition does not hold, `seek` at the place that was found, `seek_any` at place 0 where one was found;
+-- `and_then` is one test after the other, `asked_if` a test that counts only where the condition holds
 pub data Test : Type 0 where
   ask : Bool → Test
   seek : Found → Test

@@ -19,7 +19,7 @@ use Rattle.segment.specs.Fit.{InPlane}
 
 -- ---- one side of a line, one line, and four
 
--- k stores of a side of width s, by D-as-W as a sign and a size, of the samples p of a window
+-- k stores of a side of width s, by D·W as a sign and a size, of the samples p of a window
 abbrev pub along_line : ℕ → ℕ → ℕ → ℕ → Bool → ℕ → List ℕ → ℕ → List Store
 along_line top at step s plus by p k = each k (λ i. (p_at at step i, along top (get_or p i 0) plus (by * (s - i))) ∷ [])
 

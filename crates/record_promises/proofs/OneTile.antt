@@ -1,4 +1,4 @@
--- Ticket 5, "An empty list gives today's samples", of a recorded plane: its entries are those of document 01's edges (`edge-alone` in promises), and
+-- Ticket 5, "An empty list gives today's samples", of a recorded plane: its entries are those of document 01's edges (`edge_alone` in promises), and
 -- its answer, record, plane and counts are those of one tile. Assumes nothing.
 use mathlib.Core.Path.{◌≡◌, subst}
 use mathlib.Core.List.{List, []}

@@ -47,7 +47,7 @@ pub record Runnable (s : Replay) (bytes : List ℕ) (size top : ℕ) : Type 0 wh
   pub top_is : top ≡ top_of s.depth
 
 -- a count as a number of 64 bits holds it. A record may list an edge again and again, so a lent list may in principle be long enough that the sum
--- passes 64 bits; below 2^58 entries, nearly three million terabytes, it is the count itself (`counts-exact`)
+-- passes 64 bits; below 2^58 entries, nearly three million terabytes, it is the count itself (`counts_exact`)
 abbrev pub in_word : ℕ → ℕ
 in_word n = n % 18446744073709551616
 

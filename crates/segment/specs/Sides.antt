@@ -11,7 +11,7 @@ use Rattle.rules.specs.Segment.{p_at, q_at}
 use Rattle.taps.specs.Signed.{along, against}
 use Rattle.segment.specs.Fit.{Spread}
 
--- k stores of a side of width s, by D-as-W as a sign and a size
+-- k stores of a side of width s, by D·W as a sign and a size
 abbrev pub along_stores : ℕ → ℕ → ℕ → ℕ → Bool → ℕ → List ℕ → ℕ → List Store
 along_stores top at step s plus by l k = each k (λ i. (p_at at step i, along top (slice_index l (p_at at step i)) plus (by * (s - i))) ∷ [])
 

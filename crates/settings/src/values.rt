@@ -44,7 +44,7 @@ fn more(c: Cursor) -> bool
 pub fn signed(text: &[u8], c: Cursor, list: &mut [i32], from: usize, end: usize) -> Taken
     ensures from_le_at { from ≤ result.at }
     ensures list_len_unchanged { length list.new ≡ length list.old }
-    ensures result_value { record { list = list.exit.now; left = result } ≡ taken_to text.now (read_signed text.now) list.entry.now from end c }
+    ensures result_value { record { list = list.new; left = result } ≡ taken_to text.now (read_signed text.now) list.old from end c }
 {
     let stop = least(end, list.len());
     let mut at = from;
@@ -63,7 +63,7 @@ pub fn signed(text: &[u8], c: Cursor, list: &mut [i32], from: usize, end: usize)
 pub fn shorts(text: &[u8], c: Cursor, list: &mut [u16], from: usize, end: usize) -> Taken
     ensures from_le_at { from ≤ result.at }
     ensures list_len_unchanged { length list.new ≡ length list.old }
-    ensures result_value { record { list = list.exit.now; left = result } ≡ taken_to text.now (read_up_to 65535 text.now) list.entry.now from end c }
+    ensures result_value { record { list = list.new; left = result } ≡ taken_to text.now (read_up_to 65535 text.now) list.old from end c }
 {
     let stop = least(end, list.len());
     let mut at = from;
@@ -82,7 +82,7 @@ pub fn shorts(text: &[u8], c: Cursor, list: &mut [u16], from: usize, end: usize)
 pub fn steps(text: &[u8], c: Cursor, list: &mut [u32], from: usize, end: usize) -> Taken
     ensures from_le_at { from ≤ result.at }
     ensures list_len_unchanged { length list.new ≡ length list.old }
-    ensures result_value { record { list = list.exit.now; left = result } ≡ taken_to text.now (read_up_to 4294967295 text.now) list.entry.now from end c }
+    ensures result_value { record { list = list.new; left = result } ≡ taken_to text.now (read_up_to 4294967295 text.now) list.old from end c }
 {
     let stop = least(end, list.len());
     let mut at = from;
@@ -101,7 +101,7 @@ pub fn steps(text: &[u8], c: Cursor, list: &mut [u32], from: usize, end: usize) 
 pub fn flags(text: &[u8], c: Cursor, list: &mut [u8], from: usize, end: usize) -> Taken
     ensures from_le_at { from ≤ result.at }
     ensures list_len_unchanged { length list.new ≡ length list.old }
-    ensures result_value { record { list = list.exit.now; left = result } ≡ taken_to text.now (read_up_to 1 text.now) list.entry.now from end c }
+    ensures result_value { record { list = list.new; left = result } ≡ taken_to text.now (read_up_to 1 text.now) list.old from end c }
 {
     let stop = least(end, list.len());
     let mut at = from;
@@ -176,7 +176,7 @@ fn after_offset(n: Number) -> Cursor
 pub fn offsets(text: &[u8], c: Cursor, list: &mut [i8], from: usize, end: usize) -> Taken
     ensures from_le_at { from ≤ result.at }
     ensures list_len_unchanged { length list.new ≡ length list.old }
-    ensures result_value { record { list = list.exit.now; left = result } ≡ taken_to text.now (read_offset text.now) list.entry.now from end c }
+    ensures result_value { record { list = list.new; left = result } ≡ taken_to text.now (read_offset text.now) list.old from end c }
 {
     let stop = least(end, list.len());
     let mut at = from;

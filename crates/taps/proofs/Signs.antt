@@ -66,7 +66,7 @@ limited_is p1 p0 q0 q1 m x y n ex ey e = go (ltb y x) (λ t. ltb-true y x t) (λ
     go true f g = same _ _ (plus_is n) (within_is m _ is) (above x y m n (f refl) e)
     go false f g = same _ _ (minus_is n) (within_is m _ is) (below x y m n (g refl) e)
 
--- ---- D-as-W[s]·(s-i), and the sample
+-- ---- D·W[s]·(s-i), and the sample
 signed_times : (b : Bool) (n c : ℕ) → signed b n *ℤ pos c ≡ signed b (n * c)
 signed_times true n c = same _ _ (times _ c (plus_is n)) (plus_is (n * c)) (omega arith)
 signed_times false n c = same _ _ (times _ c (minus_is n)) (minus_is (n * c)) (omega arith)

@@ -1,4 +1,4 @@
--- `late` is rules' frameLate: 7 of both grids, then 8 of the three planes. Assumes nothing.
+-- `late` is rules' frame_late: 7 of both grids, then 8 of the three planes. Assumes nothing.
 use mathlib.Core.Path.{sym, ◌∙◌}
 use Rattle.checks.proofs.Checks.{stop_by, go_on_by}
 use Rattle.frame_planes.proofs.Parts.{late_is}

@@ -1,4 +1,4 @@
--- `signed_number` is `signedAt` by what its three calls ensure. Assumes nothing.
+-- `signed_number` is `signed_at` by what its three calls ensure. Assumes nothing.
 use Rattle.text.specs.Numbers.{signed_at}
 use borrow.Author.Rules.{rules}
 use Rattle.text.proofs.number.signed_number.Goals as goal

@@ -1,4 +1,4 @@
--- `read_unsigned` is `unsignedOf` of the number: each test picks a case. Assumes nothing.
+-- `read_unsigned` is `unsigned_of` of the number: each test picks a case. Assumes nothing.
 use borrow.Author.Tests.{lt-ltb, le-ltb}
 use Rattle.text.specs.Typed.{unsigned_of}
 use borrow.Author.Rules.{rules}
