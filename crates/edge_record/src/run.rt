@@ -12,19 +12,29 @@ use pictures::{defaults, files};
 use rules::settings::Frame;
 use settings::file::parse;
 use settings::names::first_places;
+use std::fs::File;
+use std::rt::Files;
+use system::files::{Ends, Target, write_all};
 use y4m::header::{Header, read_header};
 
 // The first n bytes to a file; whether all of them are there.
-fn written(fd: i32, bytes: &[u8], n: usize) -> bool {
+fn written(to: &Target, bytes: &[u8], n: usize) -> bool {
     if bytes.len() < n {
         return false;
     }
-    let whole = io::write_all(fd, &bytes[..n]);
-    libc::close(fd) == 0 && whole
+    let whole = write_all(to, &bytes[..n]);
+    system::files::kept(to) && whole
 }
 
 // Writes luma's record or chroma's, where its planes are deblocked; the outcome.
-fn kept(shorts: &[u16], steps: &[u32], places: &[usize; 24], f: Frame, chroma: bool, to: i32) -> u8
+fn kept(
+    shorts: &[u16],
+    steps: &[u32],
+    places: &[usize; 24],
+    f: Frame,
+    chroma: bool,
+    to: &Target,
+) -> u8
     requires { ListsLong (length shorts.now) (length steps.now) 24 × Sized f }
 {
     if !kind_on(f, chroma) {
@@ -42,7 +52,7 @@ fn kept(shorts: &[u16], steps: &[u32], places: &[usize; 24], f: Frame, chroma: b
 }
 
 // What a settings text says of a picture, and then the record.
-fn told(text: &[u8], h: Header, chroma: bool, to: i32) -> u8 {
+fn told(text: &[u8], h: Header, chroma: bool, to: &Target) -> u8 {
     let mut numbers = defaults::numbers();
     let mut shorts = defaults::shorts();
     let mut steps = ac_steps::steps();
@@ -72,11 +82,12 @@ fn told(text: &[u8], h: Header, chroma: bool, to: i32) -> u8 {
 }
 
 // The header line of a picture; one of no byte or of too many does not open.
-fn header_of(picture: &[u8]) -> Header {
-    let fd = files::open_in(picture);
+fn header_of<R: Files<File = File>>(rt: &R, ends: Ends, picture: &[u8]) -> Header {
+    let Some(from) = files::open_in(rt, ends, picture) else {
+        return read_header(b"-", 1);
+    };
     let mut head = [0u8; 1024];
-    let line = files::read_line(fd, &mut head);
-    libc::close(fd);
+    let line = files::read_line(&from, &mut head);
     let n = line.n;
     if n == 0 || n == 1024 {
         return read_header(b"-", 1);
@@ -85,12 +96,18 @@ fn header_of(picture: &[u8]) -> Header {
 }
 
 // The picture's header, the settings' text, and then the rest: 0 these planes are not deblocked, 1 their record is written, 2 there are no such files, 3 it could not be written.
-pub fn run(picture: &[u8], settings: &[u8], chroma: bool, to: i32) -> u8 {
-    let h = header_of(picture);
-    let fd = files::open_in(settings);
+pub fn run<R: Files<File = File>>(
+    rt: &R,
+    ends: Ends,
+    picture: &[u8],
+    settings: &[u8],
+    chroma: bool,
+    to: &Target,
+) -> u8 {
+    let h = header_of(rt, ends, picture);
     let mut text = files::text_room();
-    let n = io::read_full(fd, &mut text);
-    libc::close(fd);
+    let whole = files::read_whole(rt, ends, settings, &mut text);
+    let n = whole.n;
     if !h.opens || n == 33554432 {
         return 2;
     }
