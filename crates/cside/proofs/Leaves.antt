@@ -9,7 +9,7 @@ use lib.ListN.{length}
 use lib.IntN.{ℤ}
 use Rattle.laws.specs.Choose.{pick, both}
 use Rattle.rules.specs.declared.settings.TuGrid.{TuGrid}
-use Rattle.rules.specs.declared.refusals.Refusal.TheVariants.{Size, Length}
+use Rattle.rules.specs.declared.refusals.Refusal.TheVariants.{Size}
 use Rattle.rules.specs.declared.refusals.Answer.{Answer}
 use Rattle.rules.specs.declared.refusals.Answer.TheVariants.{Refused}
 use Rattle.rules.specs.Numbers.{in_range}

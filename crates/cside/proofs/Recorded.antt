@@ -2,7 +2,7 @@
 -- Assumes nothing.
 use mathlib.Core.Path.{◌≡◌, refl, sym, ap, ap₂, ◌∙◌}
 use mathlib.Core.List.{List}
-use Prim.Native.Nat.{ℕ, ◌≤◌}
+use Prim.Native.Nat.{ℕ}
 use native.Mathlib.Omega.{arith}
 use borrow.Author.Rules.{rules}
 use lib.ListN.{length}
@@ -18,7 +18,7 @@ use Rattle.rules.specs.declared.refusals.Recorded.{Recorded}
 use Rattle.rules.specs.declared.refusals.Recorded.TheVariants.{Bytes}
 use Rattle.rules.specs.Refusals.{settle}
 use Rattle.rules.specs.Plane.{Grid, edges_of, run_plane, run_stored, run_changed}
-use Rattle.rules.specs.Record.{record_of, buffer_after, recorded_check, answer_bytes, recorded_answer, recorded_plane, recorded_buffer, recorded_stored, recorded_changed}
+use Rattle.rules.specs.Record.{buffer_after, recorded_check, answer_bytes, recorded_answer, recorded_plane, recorded_buffer, recorded_stored, recorded_changed}
 use Rattle.checks.proofs.Checks.{stop_by, go_on_by, settle_refused}
 use Rattle.records.proofs.RoundTrip.{record_length_holds}
 use Rattle.recorded.specs.Stated.{Stated}

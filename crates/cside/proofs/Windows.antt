@@ -20,10 +20,10 @@ use Rattle.rules.specs.declared.refusals.Answer.TheVariants.{Accepted, Refused}
 use Rattle.rules.specs.declared.refusals.LoneAnswer.{LoneAnswer}
 use Rattle.rules.specs.declared.refusals.Width.TheVariants.{Samples, Refused as «NoWidth»}
 use Rattle.rules.specs.Numbers.{depth_ok}
-use Rattle.rules.specs.Refusals.{number_of, or_else, unless, settle}
+use Rattle.rules.specs.Refusals.{number_of, or_else, unless}
 use Rattle.rules.specs.Segment.{edge_place, window_of, chosen_of, width_at}
 use Rattle.rules.specs.Lone.{edge_of, lone_check, answer_width, lone_width}
-use Rattle.rules.specs.CSide.{c_answer, samples_in, bytes_of, window_edge, c_segment_check, c_segment, c_window}
+use Rattle.rules.specs.CSide.{samples_in, bytes_of, window_edge, c_segment_check, c_segment, c_window}
 use Rattle.lengths.proofs.Lengths.{pair_facts}
 use Rattle.width.proofs.Most.{pair_most}
 use Rattle.checks.proofs.Checks.{stop, go_on, unless_bad, unless_good, settle_refused, settle_accepted}

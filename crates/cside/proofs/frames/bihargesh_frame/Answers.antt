@@ -1,7 +1,6 @@
 -- `bihargesh_frame` answers by a frame's rules. Assumes nothing.
 use Rattle.by_list.proofs.Lists.{frame_long}
 use Rattle.cside.proofs.WholeFrame.{frame_refused, frame_told}
-use borrow.Author.Rules.{rules}
 use Rattle.cside.proofs.frames.bihargesh_frame.Goals as goal
 
 pub returns-in-Refused : goal.returns-in-Refused

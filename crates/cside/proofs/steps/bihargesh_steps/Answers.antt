@@ -1,5 +1,4 @@
 -- `bihargesh_steps` refuses a list that is too short, or puts the table. Assumes nothing.
-use borrow.Author.Rules.{rules}
 use Rattle.cside.proofs.Table.{too_short, taken}
 use Rattle.cside.proofs.steps.bihargesh_steps.Goals as goal
 
