@@ -20,7 +20,7 @@ fn band_end(first: usize, rows: usize) -> usize
 }
 
 // What an answer makes of its band: the rows that are final now, and were not before, are written.
-fn settled(plane: &[u16], way: Way, before: usize, a: RowsAnswer) -> End
+fn settled(plane: &[u16], way: Way<'_>, before: usize, a: RowsAnswer) -> End
     requires { ShapeFits way.shape }
 {
     let answer = a.answer;
@@ -45,7 +45,7 @@ pub fn bands(
     keep: &[u8],
     steps: &[u32],
     s: Plane,
-    way: Way,
+    way: Way<'_>,
 ) -> Passed
     requires { ShapeFits way.shape }
 {

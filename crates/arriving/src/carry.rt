@@ -4,12 +4,13 @@ ghost use Rattle.pictures.specs.Shapes.{ShapeFits};
 
 use laws::least;
 use pictures::planes::{Got, Shape, put_row, read_row, row_bytes, sum_up, write_row};
+use system::files::{Source, Target};
 
 // The files that a plane's rows come from and go to, its shape, and whether a sample has two bytes.
-#[derive(Drop)]
-pub struct Way {
-    pub from: i32,
-    pub to: i32,
+#[derive(Clone, Copy)]
+pub struct Way<'a> {
+    pub from: &'a Source,
+    pub to: &'a Target,
     pub shape: Shape,
     pub wide: bool,
 }
@@ -26,7 +27,7 @@ fn row_at(s: Shape, r: usize) -> usize
 pub fn read_rows(
     bytes: &mut [u8; 8192],
     plane: &mut [u16],
-    way: Way,
+    way: Way<'_>,
     first: usize,
     end: usize,
 ) -> Got
@@ -49,7 +50,7 @@ pub fn read_rows(
 }
 
 // Writes the picture's rows from one up to another; false where one can't be written.
-pub fn write_rows(plane: &[u16], way: Way, first: usize, end: usize) -> bool
+pub fn write_rows(plane: &[u16], way: Way<'_>, first: usize, end: usize) -> bool
     requires { ShapeFits way.shape }
 {
     let s = way.shape;

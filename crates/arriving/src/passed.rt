@@ -4,7 +4,7 @@ use rules::refusals::Refusal;
 use std::num::wrapping_add_usize;
 
 // All of it was written; or the file ended after so many bytes of it, a call was refused, a row could not be written.
-#[derive(Drop)]
+#[derive(Clone, Copy)]
 pub enum End {
     Whole,
     Cut(usize),
@@ -13,7 +13,7 @@ pub enum End {
 }
 
 // How it ended, and how many samples deblocking stored and changed.
-#[derive(Drop)]
+#[derive(Clone, Copy)]
 pub struct Passed {
     pub end: End,
     pub counts: Counts,

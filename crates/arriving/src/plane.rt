@@ -19,7 +19,7 @@ use rules::settings::Frame;
 use streams::kept::cells_of;
 
 // A plane that is not deblocked, row by row.
-fn copied(plane: &mut [u16], way: Way) -> Passed
+fn copied(plane: &mut [u16], way: Way<'_>) -> Passed
     requires { ShapeFits way.shape }
 {
     let shape = way.shape;
@@ -59,7 +59,7 @@ fn over_grid(
     steps: &[u32],
     f: Frame,
     chroma: bool,
-    way: Way,
+    way: Way<'_>,
 ) -> Passed
     requires { Sized f × ShapeFits way.shape }
 {
@@ -98,7 +98,7 @@ fn deblocked(
     places: &[usize],
     f: Frame,
     chroma: bool,
-    way: Way,
+    way: Way<'_>,
 ) -> Passed
     requires { ListsLong (length shorts.now) (length steps.now) (length places.now) × Sized f × ShapeFits way.shape }
 {
@@ -137,7 +137,7 @@ pub fn pass_plane(
     places: &[usize],
     f: Frame,
     chroma: bool,
-    way: Way,
+    way: Way<'_>,
 ) -> Passed
     requires { ListsLong (length shorts.now) (length steps.now) (length places.now) × Sized f × ShapeFits way.shape }
 {
