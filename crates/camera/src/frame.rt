@@ -16,9 +16,10 @@ use streams::job::Job;
 use streams::read::next_mark;
 use streams::save::write_line;
 use streams::say::unwritten;
+use system::files::Target;
 
 // Whether all is well so far, whether a frame was there, and what deblocking stored and changed of it.
-#[derive(Drop)]
+#[derive(Clone, Copy)]
 pub struct Done {
     pub good: bool,
     pub more: bool,
@@ -35,7 +36,7 @@ fn ended(good: bool) -> Done {
 }
 
 // The lines of frame k; the first one has the header before it.
-fn begun(head: &[u8], mark: &[u8], to: i32, k: usize) -> bool {
+fn begun(head: &[u8], mark: &[u8], to: &Target, k: usize) -> bool {
     if k == 0 && !write_line(to, head) {
         return false;
     }
@@ -43,7 +44,7 @@ fn begun(head: &[u8], mark: &[u8], to: i32, k: usize) -> bool {
 }
 
 // The way of luma's rows, or of chroma's.
-fn way_of(j: Job, chroma: bool) -> Way
+fn way_of<'a>(j: Job<'a>, chroma: bool) -> Way<'a>
     requires { Shaped j }
     ensures { ShapeFits result.shape }
 {
@@ -69,7 +70,7 @@ fn way_of(j: Job, chroma: bool) -> Way
 }
 
 // How many bytes a plane has.
-fn bytes_of(way: Way) -> usize
+fn bytes_of(way: Way<'_>) -> usize
     requires { ShapeFits way.shape }
     ensures { result ≤ 33554432 }
 {
@@ -78,14 +79,14 @@ fn bytes_of(way: Way) -> usize
 }
 
 // How many planes a frame has.
-fn planes_of(j: Job) -> usize {
+fn planes_of(j: Job<'_>) -> usize {
     let h = j.h;
     let layout = h.layout;
     if layout.chroma { 3 } else { 1 }
 }
 
 // How many bytes the planes before plane p have.
-fn bytes_before(j: Job, p: usize) -> usize
+fn bytes_before(j: Job<'_>, p: usize) -> usize
     requires { Shaped j }
 {
     if p == 0 {
@@ -103,12 +104,13 @@ fn bytes_before(j: Job, p: usize) -> usize
 }
 
 // The answer on plane p of frame k, which ended so.
-fn say_end(end: End, j: Job, k: usize, p: usize)
+fn say_end(end: End, j: Job<'_>, k: usize, p: usize)
     requires { Shaped j }
 {
     let way = way_of(j, 0 < p);
     let s = way.shape;
     say::ended(
+        j.told,
         end,
         k,
         p,
@@ -125,7 +127,7 @@ fn pass(
     steps: &[u32],
     places: &[usize],
     f: Frame,
-    j: Job,
+    j: Job<'_>,
     k: usize,
 ) -> Done
     requires { ListsLong (length shorts.now) (length steps.now) (length places.now) × Sized f × Shaped j }
@@ -158,19 +160,19 @@ pub fn next(
     places: &[usize],
     head: &[u8],
     f: Frame,
-    j: Job,
+    j: Job<'_>,
     k: usize,
 ) -> Done
     requires { ListsLong (length shorts.now) (length steps.now) (length places.now) × Sized f × Shaped j }
 {
     let mut mark = [0u8; 1024];
-    let t = next_mark(b"-", j.from, k, &mut mark);
+    let t = next_mark(j.told, b"-", j.from, k, &mut mark);
     if !t.more {
         return ended(t.good);
     }
     let m = t.n;
     if !begun(head, &mark[..m], j.to, k) {
-        unwritten();
+        unwritten(j.told);
         return ended(false);
     }
     pass(plane, shorts, steps, places, f, j, k)

@@ -1,5 +1,5 @@
-// Deblocks a picture or a stream as its rows arrive: `camera SETTINGS` reads YUV4MPEG2 from standard input and a settings file, and writes each row to descriptor 3 as soon as it is final.
-// It answers on standard output. `bin/camera` makes descriptor 3 the standard output that it was started with.
+// Deblocks a picture or a stream as its rows arrive: `camera SETTINGS` reads YUV4MPEG2 from standard input and a settings file, and writes each row to standard output as soon as it is final.
+// It answers on descriptor 3, which `bin/camera` opens.
 #![tactic(auto)]
 
 // The answer.
@@ -11,12 +11,20 @@ mod frame;
 // The order of it all.
 mod run;
 
-fn main() {
-    let mut settings = io::buffer();
-    let n = os::arg(1, &mut settings);
+use system::bytes::buffer;
+use system::files::{Ends, Target, word};
+
+fn main(rt: HostRuntime) {
+    let ends = Ends {
+        input: rt.stdin(),
+        output: rt.stdout(),
+        errors: rt.stderr(),
+    };
+    let mut settings = buffer();
+    let n = word(&rt, 1, &mut settings);
     if n == 0 {
-        say::usage();
+        say::usage(&Target::Output(ends.output));
         return;
     }
-    run::run(&settings[..n]);
+    run::run(&rt, ends, &settings[..n]);
 }

@@ -19,22 +19,26 @@ use rules::counts::Counts;
 use rules::settings::Frame;
 use settings::lines::lines_of;
 use settings::names::first_places;
+use std::fs::File;
+use std::rt::Files;
 use streams::job::Job;
 use streams::kept::mark;
 use streams::open::{open, small};
 use streams::say::{cannot, unwritten};
 use streams::take::{read_on, take};
+use system::bytes::large_buffer;
+use system::files::{Ends, Source, Target, answers, is_watched, kept, read_full};
 use y4m::header::Header;
 
-// The answer after the last frame, by whether the output could be closed; none where a frame was bad, which was answered.
-fn closed(j: Job, frames: usize, counts: Counts, good: bool) {
+// The answer after the last frame, by whether the output is kept whole; none where a frame was bad, which was answered.
+fn closed(j: Job<'_>, frames: usize, counts: Counts, good: bool) {
     if !good {
         return;
     }
-    if libc::close(j.to) == 0 {
-        say::filtered(j.h, frames, counts);
+    if kept(j.to) {
+        say::filtered(j.told, j.h, frames, counts);
     } else {
-        unwritten();
+        unwritten(j.told);
     }
 }
 
@@ -46,15 +50,17 @@ fn frames(
     places: &[usize],
     head: &[u8],
     f: Frame,
-    j: Job,
+    j: Job<'_>,
+    ends: Ends,
 )
     requires { ListsLong (length shorts.now) (length steps.now) (length places.now) × Sized f × Shaped j }
 {
-    let shown = libc::isatty(2) == 1;
+    let shown = is_watched(ends);
+    let errors = Target::Errors(ends.errors);
     let mut counts = none();
     let mut k: usize = 0;
     while k < 18446744073709551615 {
-        say::count(k, shown);
+        say::count(&errors, k, shown);
         let d = next(plane, shorts, steps, places, head, f, j, k);
         if !d.more {
             closed(j, k, counts, d.good);
@@ -73,7 +79,7 @@ fn tried(
     places: &[usize],
     text: &[u8],
     f: Frame,
-    j: Job,
+    j: Job<'_>,
 ) -> bool
     requires { ListsLong (length shorts.now) (length steps.now) (length places.now) }
 {
@@ -94,7 +100,7 @@ fn tried(
         f,
         false,
     );
-    deblocked(o, f, starts_good(shorts, places, f), text)
+    deblocked(j.told, o, f, starts_good(shorts, places, f), text)
 }
 
 // The frames, by settings that a dark frame has tried.
@@ -105,7 +111,8 @@ fn begun(
     text: &[u8],
     head: &[u8],
     f: Frame,
-    j: Job,
+    j: Job<'_>,
+    ends: Ends,
 )
     requires { ListsLong (length shorts.now) (length steps.now) (length places.now) × Shaped j }
 {
@@ -116,7 +123,7 @@ fn begun(
     if !sized(f) {
         return;
     }
-    frames(&mut plane, shorts, steps, places, head, f, j);
+    frames(&mut plane, shorts, steps, places, head, f, j, ends);
 }
 
 // The kind of a line that asks for CCSO offsets, by the lines of each kind; 0 where there is none.
@@ -136,19 +143,22 @@ fn offsets_in(lines: &[usize; 24]) -> usize
 }
 
 // Whether a text asks for no CCSO offsets, whose taps reach rows to come; else after the answer.
-fn alone(name: &[u8], text: &[u8]) -> bool {
+fn alone(answer: &Target, name: &[u8], text: &[u8]) -> bool {
     let mut lines = [0usize; 24];
     lines_of(text, &mut lines);
     let kind = offsets_in(&lines);
     if kind == 0 {
         return true;
     }
-    say::no_offsets(name, lines[kind], kind);
+    say::no_offsets(answer, name, lines[kind], kind);
     false
 }
 
 // What the picture's size decides of the settings, and then its frames.
 fn shaped(
+    ends: Ends,
+    answer: &Target,
+    from: &Source,
     name: &[u8],
     text: &[u8],
     head: &[u8],
@@ -163,20 +173,40 @@ fn shaped(
     let l = luma_of(h);
     let c = chroma_of(h);
     defaults::complete(shorts, places, l.width, l.height);
-    if inside(name, text, shorts, places, l) {
+    if inside(answer, name, text, shorts, places, l) {
+        let to = Target::Output(ends.output);
         let j = Job {
-            from: 0,
-            to: files::open_out(b"-"),
+            from,
+            to: &to,
+            told: answer,
             h,
             l,
             c,
         };
-        begun(shorts, steps, places, text, head, frame_by(j, numbers), j);
+        begun(
+            shorts,
+            steps,
+            places,
+            text,
+            head,
+            frame_by(j, numbers),
+            j,
+            ends,
+        );
     }
 }
 
 // What a settings text says, and then the picture.
-fn told(name: &[u8], text: &[u8], head: &[u8], h: Header, shorts: &mut [u16])
+fn told(
+    ends: Ends,
+    answer: &Target,
+    from: &Source,
+    name: &[u8],
+    text: &[u8],
+    head: &[u8],
+    h: Header,
+    shorts: &mut [u16],
+)
     requires { 24576 ≤ length shorts.old }
 {
     let mut numbers = defaults::numbers();
@@ -185,6 +215,7 @@ fn told(name: &[u8], text: &[u8], head: &[u8], h: Header, shorts: &mut [u16])
     let mut offsets = [0i8; 384];
     let mut places = first_places(shorts.len());
     if !take(
+        answer,
         name,
         text,
         &mut numbers,
@@ -196,57 +227,100 @@ fn told(name: &[u8], text: &[u8], head: &[u8], h: Header, shorts: &mut [u16])
     ) {
         return;
     }
-    if alone(name, text) {
-        shaped(name, text, head, h, &numbers, shorts, &steps, &mut places);
+    if alone(answer, name, text) {
+        shaped(
+            ends,
+            answer,
+            from,
+            name,
+            text,
+            head,
+            h,
+            &numbers,
+            shorts,
+            &steps,
+            &mut places,
+        );
     }
 }
 
 // By a text below 64 KiB.
-fn light(name: &[u8], text: &[u8], head: &[u8], h: Header) {
+fn light(
+    ends: Ends,
+    answer: &Target,
+    from: &Source,
+    name: &[u8],
+    text: &[u8],
+    head: &[u8],
+    h: Header,
+) {
     let mut shorts = defaults::few_shorts();
-    told(name, text, head, h, &mut shorts);
+    told(ends, answer, from, name, text, head, h, &mut shorts);
 }
 
 // By any text, of which the front was read.
-fn heavy(name: &[u8], file: i32, front: &[u8], head: &[u8], h: Header)
+fn heavy(
+    ends: Ends,
+    answer: &Target,
+    from: &Source,
+    name: &[u8],
+    file: &Source,
+    front: &[u8],
+    head: &[u8],
+    h: Header,
+)
     requires { length front.now ≤ 65536 }
 {
     let mut text = files::text_room();
     let n = read_on(file, front, &mut text);
     if n == 33554432 {
-        cannot(name, b"expected settings of fewer than 33554432 bytes");
+        cannot(
+            answer,
+            name,
+            b"expected settings of fewer than 33554432 bytes",
+        );
         return;
     }
     let mut shorts = defaults::shorts();
-    told(name, &text[..n], head, h, &mut shorts);
+    told(ends, answer, from, name, &text[..n], head, h, &mut shorts);
 }
 
 // The settings' file, and then its text. `told` and `heavy` are called twice so that the compiler leaves each a function of its own, whose lists are touched only where they are wanted.
-fn asked(name: &[u8], head: &[u8], h: Header) {
-    let file = files::open_in(name);
-    if file < 0 {
-        cannot(name, b"the settings can't be read");
+fn asked<R: Files<File = File>>(
+    rt: &R,
+    ends: Ends,
+    answer: &Target,
+    from: &Source,
+    name: &[u8],
+    head: &[u8],
+    h: Header,
+) {
+    let Some(file) = files::open_in(rt, ends, name) else {
+        cannot(answer, name, b"the settings can't be read");
         return;
-    }
-    let mut front = io::large_buffer();
-    let n = io::read_full(file, &mut front);
+    };
+    let mut front = large_buffer();
+    let n = read_full(&file, &mut front);
     if n == 65536 {
-        heavy(name, file, &front, head, h);
+        heavy(ends, answer, from, name, &file, &front, head, h);
     } else if small(h) {
-        light(name, &front[..n], head, h);
+        light(ends, answer, from, name, &front[..n], head, h);
     } else {
-        heavy(name, file, &front[..n], head, h);
+        heavy(ends, answer, from, name, &file, &front[..n], head, h);
     }
-    libc::close(file);
 }
 
 // The header, and then the rest.
-pub fn run(settings: &[u8]) {
+pub fn run<R: Files<File = File>>(rt: &R, ends: Ends, settings: &[u8]) {
+    let answer = answers(rt, ends, b"-");
     let mut head = [0u8; 1024];
-    let p = open(b"-", &mut head);
+    let p = open(rt, ends, &answer, b"-", &mut head);
     let n = p.n;
     let h = p.h;
+    let Some(from) = &p.from else {
+        return;
+    };
     if h.opens {
-        asked(settings, &head[..n], h);
+        asked(rt, ends, &answer, from, settings, &head[..n], h);
     }
 }
