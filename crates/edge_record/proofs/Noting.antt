@@ -11,7 +11,7 @@ use Rattle.rules.specs.declared.settings.QindexGrid.{QindexGrid}
 use Rattle.rules.specs.declared.refusals.Answer.{Answer}
 use Rattle.rules.specs.declared.refusals.RecordAnswer.{RecordAnswer}
 use Rattle.rules.specs.Plane.{Grid, keeping}
-use Rattle.rules.specs.TuGrid.{Marks, marks, tx_grid_after, cleared_after}
+use Rattle.rules.specs.TuGrid.{Marks, marks, tx_grid_after}
 use Rattle.rules.specs.QindexGrid.{q_grid_after}
 use Rattle.rules.specs.Frame.{with_q}
 use Rattle.rules.specs.Record.{recorded_answer, recorded_buffer}
