@@ -8,7 +8,7 @@ pub mod carry;
 pub mod passed;
 
 // The bands of a plane that is deblocked.
-mod bands;
+mod banded;
 
 // A plane by the settings.
-pub mod plane;
+pub mod planes;

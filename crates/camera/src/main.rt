@@ -6,7 +6,7 @@
 mod say;
 
 // One frame.
-mod frame;
+mod one_frame;
 
 // The order of it all.
 mod run;

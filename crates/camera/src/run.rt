@@ -4,7 +4,7 @@ ghost use Rattle.frame_checks.specs.Settings.{Sized};
 ghost use Rattle.frame_by_settings.specs.Framed.{ListsLong};
 ghost use Rattle.streams.specs.Shaped.{Shaped};
 
-use crate::frame::next;
+use crate::one_frame::next;
 use crate::say;
 use arriving::passed::{both, none};
 use by_settings::kept::large_marks;

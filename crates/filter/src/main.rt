@@ -10,7 +10,7 @@ mod say;
 mod treat;
 
 // One frame.
-mod frame;
+mod one_frame;
 
 // The order of it all.
 mod run;

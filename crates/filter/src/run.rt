@@ -3,9 +3,9 @@ ghost use Rattle.std.specs.Prelude.{◌≤◌, length};
 ghost use Rattle.streams.specs.Shaped.{Shaped};
 ghost use Rattle.filter.specs.Lent.{Lent};
 
-use crate::frame::Told;
+use crate::one_frame::Told;
 use crate::treat::plain_asked;
-use crate::{frame, say};
+use crate::{one_frame, say};
 use by_settings::kept::{large_marks, small_marks};
 use pictures::shapes::{chroma_of, luma_of};
 use pictures::{defaults, files, planes};
@@ -61,10 +61,10 @@ fn frames(
 {
     let shown = is_watched(ends);
     let mut k: usize = 0;
-    let mut told = frame::nothing();
+    let mut told = one_frame::nothing();
     while k < 18446744073709551615 {
         say::count(ends, k, shown);
-        let d = frame::next(
+        let d = one_frame::next(
             y, u, v, was, luma, name, head, j, k, numbers, shorts, steps, flags, offsets, places,
             keep, chromakeep, text, plain,
         );
@@ -72,7 +72,7 @@ fn frames(
             closed(name, j, k, told, d.good);
             return;
         }
-        told = frame::both(told, d.told);
+        told = one_frame::both(told, d.told);
         k += 1;
     }
 }

@@ -1,5 +1,5 @@
 // The answer: the outcome as one byte (0 filtered, 1 refused, 2 a bad file, 3 not written), which stands before any name, and then a line.
-use crate::frame::Told;
+use crate::one_frame::Told;
 use rules::counts::Counts;
 use streams::say::{frames_of, number, words};
 use system::files::{Ends, Target};

@@ -8,7 +8,7 @@ ghost use Rattle.pictures.specs.Shapes.{ShapeFits};
 use crate::say;
 use arriving::carry::Way;
 use arriving::passed::{End, both, none};
-use arriving::plane::pass_plane;
+use arriving::planes::pass_plane;
 use pictures::planes::{area, row_bytes};
 use rules::counts::Counts;
 use rules::settings::Frame;

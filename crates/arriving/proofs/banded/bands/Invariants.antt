@@ -1,6 +1,6 @@
 -- `bands` takes a band a turn. Assumes nothing.
 use Rattle.std.proofs.Common.{◌≡◌, ◌-◌, length}
-use Rattle.arriving.proofs.bands.bands.Given as goal
+use Rattle.arriving.proofs.banded.bands.Given as goal
 
 abbrev pub invariant-loop-filled : goal.invariant-loop-filled
 invariant-loop-filled l = length l.plane ≡ length l.initial.plane

@@ -1,6 +1,6 @@
 -- `copied` takes a row a turn. Assumes nothing.
 use Rattle.std.proofs.Common.{◌≡◌, ◌-◌, length}
-use Rattle.arriving.proofs.plane.copied.Given as goal
+use Rattle.arriving.proofs.planes.copied.Given as goal
 
 abbrev pub invariant-loop-r : goal.invariant-loop-r
 invariant-loop-r l = length l.plane ≡ length l.initial.plane

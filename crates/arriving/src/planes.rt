@@ -4,7 +4,7 @@ ghost use Rattle.pictures.specs.Shapes.{ShapeFits};
 ghost use Rattle.frame_checks.specs.Settings.{Sized};
 ghost use Rattle.frame_by_settings.specs.Framed.{ListsLong};
 
-use crate::bands::bands;
+use crate::banded::bands;
 use crate::carry::{Way, read_rows, write_rows};
 use crate::passed::{End, Passed, none};
 use by_settings::kept::keep_cells;

@@ -1,6 +1,6 @@
 -- `pass` takes a plane a turn. Assumes nothing.
 use Rattle.std.proofs.Common.{◌≡◌, ◌-◌, length}
-use Rattle.camera.proofs.frame.pass.Given as goal
+use Rattle.camera.proofs.one_frame.pass.Given as goal
 
 abbrev pub invariant-loop-p : goal.invariant-loop-p
 invariant-loop-p l = length l.plane ≡ length l.initial.plane
