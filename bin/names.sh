@@ -7,7 +7,7 @@ lend() { # WORD
   local LC_ALL=C descriptor
   word=$1
   case $word in *[!$'\001'-$'\177']*) ;; *) return 0 ;; esac
-  ! iconv -f UTF-8 -t UTF-8 <<<"$word" >/dev/null 2>&1 || return 0
+  ! iconv -f UTF-8 -t UTF-16LE <<<"$word" >/dev/null 2>&1 || return 0
   { exec {descriptor}<"$word"; } 2>/dev/null || return 0
   word=/dev/fd/$descriptor
   lent+=("$word") meant+=("$1")

@@ -11,7 +11,8 @@ use lib.ListN.{length, get_or, set}
 use lib.Seq.{ext_get_or}
 use Rattle.laws.specs.Choose.{pick, pick_no, not_eq}
 use Rattle.laws.specs.Tests.{and_l, and_r}
-use Rattle.laws.specs.Loops.{loops, each, filled, filled_at, filled_length, filled_more, singles_at, singles_length}
+use Rattle.laws.specs.Loops.{each, filled, filled_at, filled_length, filled_more, singles_length}
+use Rattle.laws.proofs.Loops.{loops, singles_at}
 use Rattle.ac_steps.specs.Steps.{octave, doubling, step_at, step_table, StepsTo, tabled}
 
 first : step_at 0 ≡ 64

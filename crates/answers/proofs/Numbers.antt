@@ -9,7 +9,8 @@ use lib.IntN.{ℤ, pos, negsuc, neg_ℤ, ◌-ℤ◌}
 use mir.Syntax.{w32}
 use mir.Val.{SFits, to_z, of_z}
 use Rattle.laws.specs.Choose.{is_le, not_le}
-use Rattle.laws.specs.Whole.{same, count, neg, differ}
+use Rattle.laws.specs.Whole.{same, count, neg}
+use Rattle.laws.proofs.Operations.{differ}
 use Rattle.laws.specs.Machine.{back}
 use Rattle.rules.specs.declared.refusals.Refusal.{Refusal}
 use Rattle.rules.specs.declared.refusals.Refusal.TheVariants.{Length}

@@ -13,7 +13,8 @@ use mir.Val.{Fits}
 use lib.Seq.{set-get_or}
 use borrow.Author.Tests.{eq-eqb, ne_eqb}
 use Rattle.laws.specs.Choose.{pick}
-use Rattle.laws.specs.Loops.{turns, turns_same, turns_keep, turns_add, turns_end, loops}
+use Rattle.laws.specs.Loops.{turns, turns_same, turns_keep, turns_add, turns_end}
+use Rattle.laws.proofs.Loops.{loops}
 use Rattle.rules.specs.declared.settings.Ccso.{Ccso}
 use Rattle.rules.specs.Numbers.{down}
 use Rattle.rules.specs.Frame.{superblocks}

@@ -8,7 +8,8 @@ use borrow.Author.Rules.{rules}
 use lib.IntN.{ℤ, pos, ◌+ℤ◌, ◌-ℤ◌}
 use lib.Signed.{lt_z, le_z}
 use Rattle.laws.specs.Choose.{pick, pick_yes, pick_no}
-use Rattle.laws.specs.Whole.{Is, count, plus, between, between_is, differ}
+use Rattle.laws.specs.Whole.{Is, count, between, between_is}
+use Rattle.laws.proofs.Operations.{plus, differ}
 use Rattle.rules.specs.declared.settings.Ccso.{Ccso}
 use Rattle.rules.specs.Ccso.{class_of, tap_class}
 use Rattle.ccso_sample.specs.declared.counts.Counts.{Counts}

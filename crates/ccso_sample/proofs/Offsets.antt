@@ -12,7 +12,8 @@ use mir.Val.{Fits, to_z, of_z}
 use mathlib.Core.List.{List}
 use lib.ListN.{get_or}
 use lib.IntN.{ℤ, pos, ◌*ℤ◌}
-use Rattle.laws.specs.Whole.{Is, count, plus, times, limit_is}
+use Rattle.laws.specs.Whole.{Is, count, limit_is}
+use Rattle.laws.proofs.Operations.{plus, times}
 use Rattle.rules.specs.declared.settings.Ccso.{Ccso}
 use Rattle.rules.specs.Numbers.{depth_ok, top_of}
 use Rattle.rules.proofs.Depths.{by_depth}

@@ -29,9 +29,9 @@ fn has_output(to: &Target) -> bool {
     }
 }
 
-// Says the outcome, apart from the records.
-fn tell<R: Files<File = File>>(rt: &R, ends: Ends, y: &Target, c: &Target, outcome: u8) {
-    if has_output(y) || has_output(c) {
+// Says the outcome, apart from the records where one has standard output.
+fn tell<R: Files<File = File>>(rt: &R, ends: Ends, apart: bool, outcome: u8) {
+    if apart {
         print_decimal(&answers(rt, ends, b"-"), outcome as u64);
     } else {
         print_decimal(&Target::Output(ends.output), outcome as u64);
@@ -55,14 +55,16 @@ fn main(rt: HostRuntime) {
         );
         return;
     }
-    // Two calls: one alone would be compiled into main, whose stack would then be that of a record.
+    // Two calls: one alone would be compiled into main, whose stack would then be that of a record. Y is closed before C is opened.
     let y = opened(&rt, ends, 3);
     let luma = run::run(&rt, ends, &picture[..p], &settings[..s], false, &y);
+    let first = has_output(&y);
+    drop(y);
     if luma != 1 {
-        tell(&rt, ends, &y, &y, luma);
+        tell(&rt, ends, first, luma);
         return;
     }
     let c = opened(&rt, ends, 4);
     let chroma = run::run(&rt, ends, &picture[..p], &settings[..s], true, &c);
-    tell(&rt, ends, &y, &c, chroma);
+    tell(&rt, ends, first || has_output(&c), chroma);
 }

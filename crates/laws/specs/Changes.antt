@@ -7,7 +7,7 @@ use native.Mathlib.Omega.{arith}
 use Rattle.laws.specs.Choose.{pick}
 use Rattle.laws.specs.Loops.{each}
 use Rattle.laws.specs.Lists.{Each}
-use Rattle.laws.specs.Stores.{Store, puts, puts_one, puts_then, puts_none, puts_more, puts_end}
+use Rattle.laws.specs.Stores.{Store, puts, puts_one, puts_then, puts_none}
 
 -- 1 where two numbers differ
 unfoldable pub differ : ℕ → ℕ → ℕ

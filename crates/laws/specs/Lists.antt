@@ -81,9 +81,6 @@ module _ {E : Type 0} where
   pairs_append R [] ys zs h k = tt
   pairs_append R (x ∷ xs) ys zs h k = (each_append (R x) ys zs h.0 k.0, pairs_append R xs ys zs h.1 k.1)
 
-  pub pairs_loop_left : (R : E → E → Type 0) (n : ℕ) (f : ℕ → List E) (ys : List E) → ((k : ℕ) → k < n → Pairs R (f k) ys) → Pairs R (each n f) ys
-  pairs_loop_left R n f ys h = each_loop (λ x. Each (R x) ys) n f h
-
   pub pairs_loop_right : (R : E → E → Type 0) (xs : List E) (n : ℕ) (f : ℕ → List E) → ((k : ℕ) → k < n → Pairs R xs (f k)) → Pairs R xs (each n f)
   unfolding each
   pairs_loop_right R xs zero f h = pairs_nil R xs

@@ -3,14 +3,14 @@
 -- Assumes nothing.
 use Rattle.std.specs.Prelude.{◌≡◌, length}
 use Rattle.std.proofs.Math.Path.{refl, sym, ap}
-use Rattle.std.proofs.Common.{ap₂, ◌∙◌, le_refl, le_antisymm, add-zero, add-suc, zero-mul, not-suc-le-zero, add-one, rules, get_or-set_same}
+use Rattle.std.proofs.Common.{ap₂, ◌∙◌, le_refl, le_antisymm, add-zero, add-suc, zero-mul, not-suc-le-zero, add-one, get_or-set_same}
 use mathlib.Core.List.{List, [], ◌∷◌, ◌++◌, append_assoc, append-nil}
 use Prim.Native.Nat.{ℕ, zero, suc, ◌+◌, ◌-◌, ◌*◌, ◌≤◌, ◌<◌, min}
 use Rattle.std.proofs.Math.Nat.{le_step, suc-mul, min-zero}
 use Rattle.std.proofs.Math.Decide.{dec_le, ℕ_discrete}
 use native.Mathlib.Omega.{arith}
-use Rattle.std.proofs.Math.ListN.{get_or, set, length-set, length-append, get_or-append}
-use Rattle.std.proofs.Math.Seq.{get_or-set_other, get_or-append-add}
+use Rattle.std.proofs.Math.ListN.{get_or, set, length-set, length-append}
+use Rattle.std.proofs.Math.Seq.{get_or-set_other}
 
 -- f 0, then f 1, up to f (n - 1), one list after the other
 unfoldable pub each : {A : Type 0} → ℕ → (ℕ → List A) → List A
@@ -75,21 +75,6 @@ module _ {A : Type 0} (f : ℕ → A) where
   singles_length zero = refl
   singles_length (suc n) = omega (arith, length-append (each n (λ i. f i ∷ [])) (f n ∷ []), singles_length n)
 
-  pub singles_at : (d : A) (n k : ℕ) → k < n → get_or (each n (λ i. f i ∷ [])) k d ≡ f k
-  unfolding each
-  singles_at d zero k h = absurd (not-suc-le-zero h)
-  singles_at d (suc n) k h =
-      elim (ℕ_discrete k n) [
-        | yes q ↦ last q
-        | no q ↦ get_or-append (each n (λ i. f i ∷ [])) (f n ∷ []) d k (let e = singles_length n in omega arith) ∙ singles_at d n k (omega arith)
-      ]
-    where
-      last : k ≡ n → get_or (each n (λ i. f i ∷ []) ++ (f n ∷ [])) k d ≡ f k
-      last q =
-          ap (λ (j : ℕ). get_or (each n (λ i. f i ∷ []) ++ (f n ∷ [])) j d) (let l = singles_length n in omega arith)
-          ∙ get_or-append-add (each n (λ i. f i ∷ [])) (f n ∷ []) 0 d
-          ∙ ap f (sym q)
-
 -- ---- a loop in pieces
 
 module _ {A : Type 0} (f : ℕ → List A) where
@@ -121,19 +106,6 @@ module _ {A : Type 0} (f : ℕ → List A) where
 
       long : ¬ (n * w ≤ m) → min m (n * w) ≡ min m (suc n * w)
       long h = omega (arith, suc-mul n w)
-
-  -- cut at rising places
-  pub each_pieces : (a : ℕ → ℕ) (n : ℕ) → a 0 ≡ 0 → ((k : ℕ) → k < n → a k ≤ a (suc k))
-      → each n (λ k. each (a (suc k) - a k) (λ i. f (a k + i))) ≡ each (a n) f
-  unfolding each
-  each_pieces a zero z up = ap (λ (k : ℕ). each k f) (sym z)
-  each_pieces a (suc n) z up =
-      ap (λ (l : List A). l ++ each (a (suc n) - a n) (λ i. f (a n + i))) (each_pieces a n z (λ k l. up k (le_step l)))
-      ∙ sym (each_add f (a n) (a (suc n) - a n))
-      ∙ ap (λ (k : ℕ). each k f) (joins (up n (le_refl (suc n))))
-    where
-      joins : a n ≤ a (suc n) → a n + (a (suc n) - a n) ≡ a (suc n)
-      joins h = omega arith
 
 -- ---- a state handed on
 
@@ -205,6 +177,3 @@ unfolding filled
 filled_same start f g zero h = refl
 filled_same {A} start f g (suc n) h =
     ap₂ (λ (x : List A) (v : A). set x n v) (filled_same start f g n (λ k l. h k (le_step l))) (h n (le_refl (suc n)))
-
--- what closes the needs of a loop
-pub ruleset loops = (rules, each_none, each_more, each_end, turns_none, turns_more, turns_end, filled_none, filled_more, filled_end)

@@ -24,10 +24,6 @@ pub above_at : (w : Width) (z : ℤ) → SFits w z → under z ≤ 2 ^ hbits w
 above_at w (pos n) f = omega arith
 above_at w (negsuc n) f = f.sfits
 
--- a number that was stored and read back
-pub word_at : (w : Width) (z : ℤ) {a b : ℕ} → Is z a b → a < b + 2 ^ hbits w → b ≤ a + 2 ^ hbits w → Is (to_z w (of_z w z)) a b
-word_at w z h p q = rw (to_z-of_z (fits_at w z h p q)) h
-
 -- a number of w bits that is cast to more bits: it fits, and is the same
 pub widened : (w v : Width) {z : ℤ} → T (leb (hbits w) (hbits v)) → SFits w z → SFits v (to_z w (of_z w z))
 widened w v t f = rw (to_z-of_z f) (sfits_widen t f)

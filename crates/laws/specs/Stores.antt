@@ -2,7 +2,7 @@
 -- Assumes nothing.
 use Rattle.std.specs.Prelude.{◌≡◌, List, [], ◌∷◌, ◌++◌, ℕ, ◌+◌, ◌≤◌, ◌<◌, length, get_or, set}
 use Rattle.std.proofs.Math.Path.{refl, ap}
-use Rattle.std.proofs.Common.{sym, ◌∙◌, inl, inr, le_antisymm, add-one, arith, rules, length-set, get_or-set_same, get_or-set_other}
+use Rattle.std.proofs.Common.{sym, ◌∙◌, inl, inr, le_antisymm, add-one, arith, length-set, get_or-set_same, get_or-set_other}
 use Rattle.std.proofs.Math.Decide.{ℕ_discrete, dec_lt}
 use Rattle.std.proofs.Math.Seq.{set_out}
 use Rattle.std.proofs.lemmas.List.{set_comm}
@@ -48,8 +48,6 @@ module _ (f : ℕ → List Store) (l : List ℕ) where
 
   pub puts_end : (k n : ℕ) {q : List ℕ} → q ≡ puts (each k f) l → k ≤ n → n ≤ k → q ≡ puts (each n f) l
   puts_end k n e a b = rw (le_antisymm a b) at e
-
-pub ruleset storing = (rules, puts_one, puts_then, puts_none, puts_more, puts_end)
 
 -- a store to a place that none of those before it goes to may come first
 pub puts_set : (ss : List Store) (l : List ℕ) (p v : ℕ) → Each (λ (st : Store). st.0 ≡ p → ⊥) ss → set (puts ss l) p v ≡ puts ss (set l p v)

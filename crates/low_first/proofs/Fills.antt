@@ -6,7 +6,8 @@ use Prim.Native.Nat.{ℕ, ◌+◌, ◌≤◌, ◌<◌}
 use native.Mathlib.Omega.{arith}
 use lib.ListN.{length, get_or, set}
 use lib.Seq.{ext_get_or}
-use Rattle.laws.specs.Loops.{loops, each, filled, filled_length, filled_at, filled_more, filled_end, singles_length, singles_at}
+use Rattle.laws.specs.Loops.{each, filled, filled_length, filled_at, filled_more, filled_end, singles_length}
+use Rattle.laws.proofs.Loops.{loops, singles_at}
 
 -- the whole list was filled
 pub filled_whole : (start : List ℕ) (f : ℕ → ℕ) (n : ℕ) → length start ≡ n → filled start f n ≡ each n (λ i. f i ∷ [])

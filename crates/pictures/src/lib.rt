@@ -1,7 +1,7 @@
 // A picture in memory: its files, its planes, and what its size decides where the settings do not say.
 #![tactic(auto)]
 
-// Files by their descriptors: a text, a line, the name of a part.
+// Files by their names: a text, a line, the name of a part.
 pub mod files;
 
 // Planes, read with padding, packed, and written.

@@ -6,7 +6,7 @@ use Prim.Native.Nat.{ℕ}
 use Rattle.laws.specs.Loops.{each}
 use Rattle.laws.specs.Lists.{pairs_turn}
 use Rattle.laws.specs.Trace.{Same, and_then, suffix, same_eq}
-use Rattle.laws.specs.Schedules.{transpose}
+use Rattle.laws.proofs.Schedules.{transpose}
 use Rattle.rules.specs.declared.edge.Edge.{Edge}
 use Rattle.rules.specs.declared.settings.Plane.{Plane}
 use Rattle.rules.specs.declared.refusals.Answer.TheVariants.{Accepted}

@@ -11,7 +11,8 @@ use borrow.Author.Rules.{rules}
 use lib.ListN.{length, get_or, set, take, drop, length-append, length-drop, take-append-drop}
 use lib.Seq.{sets, split_at, ext_get_or, take-add, take_all, length-take-le, drop-drop, drop-cons, get_or_at}
 use Rattle.laws.specs.Lists.{Each}
-use Rattle.laws.specs.Loops.{each, singles_length, singles_at}
+use Rattle.laws.specs.Loops.{each, singles_length}
+use Rattle.laws.proofs.Loops.{singles_at}
 use Rattle.laws.specs.Sets.{sets_then}
 use Rattle.low_first.specs.Bytes.{low_first, number_in}
 use Rattle.low_first.proofs.RoundTrip.{length_low_first, read_put, put_read}

@@ -1,5 +1,5 @@
 // Runs records of edges again on a picture or a stream: `replay_picture PICTURE OUT Y [U V [SETTINGS]]` reads a YUV4MPEG2 file, runs luma's record Y and, where they are named, chroma's records U and V
-// on each frame, with the cells kept that the settings keep, writes the frames to OUT, and answers on standard output, and on descriptor 3 where OUT is -. An empty name stands for none. `bin/replay` keeps OUT as it was where a frame is refused.
+// on each frame, with the cells kept that the settings keep, writes the frames to OUT, and answers on standard output, or on descriptor 3 where OUT is -. An empty name stands for none. `bin/replay` keeps OUT as it was where a frame is refused.
 #![tactic(auto)]
 
 // The answer.

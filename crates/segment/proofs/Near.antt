@@ -1,7 +1,8 @@
 -- What the code reads agrees with the window within the reach.
 -- Assumes nothing.
 use Rattle.std.proofs.Common.{◌≡◌, ℕ, ◌+◌, ◌-◌, ◌*◌, ◌<◌, ◌≤◌, min, List, [], ◌∷◌, get_or, sym, refl, ap, ◌∙◌, mul-le-mul_right, mul_comm, add-mul, mul-le-mul_left, mul-add, arith}
-use Rattle.laws.specs.Loops.{each, singles_at}
+use Rattle.laws.specs.Loops.{each}
+use Rattle.laws.proofs.Loops.{singles_at}
 use Rattle.rules.specs.declared.edge.Place.{Place}
 use Rattle.rules.specs.declared.edge.Line.{Line}
 use Rattle.rules.specs.Lengths.{most_before, most_after, reach_before, reach_after}

@@ -6,7 +6,8 @@ use native.Mathlib.Omega.{arith}
 use borrow.Author.Rules.{rules}
 use lib.ListN.{length, set}
 use lib.Seq.{ext_get_or}
-use Rattle.laws.specs.Loops.{each, filled, filled_more, filled_end, filled_length, filled_at, singles_length, singles_at}
+use Rattle.laws.specs.Loops.{each, filled, filled_more, filled_end, filled_length, filled_at, singles_length}
+use Rattle.laws.proofs.Loops.{singles_at}
 use Rattle.settings.specs.declared.names.Rule.{Rule}
 use Rattle.settings.specs.Rules.{rule_of, first_places}
 

@@ -8,7 +8,8 @@ use mir.Syntax.{w8}
 use mir.Val.{SFits, to_z, of_z}
 use mir.Facts.{to_z-of_z}
 use Rattle.laws.specs.Choose.{pick}
-use Rattle.laws.specs.Whole.{same, minus, neg, count}
+use Rattle.laws.specs.Whole.{same, neg, count}
+use Rattle.laws.proofs.Operations.{minus}
 use Rattle.settings.specs.Values.{below_of, above_of}
 
 plus_is : (n : ℕ) → n ≤ 127 → to_z w8 n ≡ pos n

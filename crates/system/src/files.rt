@@ -174,7 +174,7 @@ pub fn answers<R: Files<File = File>>(rt: &R, ends: Ends, out: &[u8]) -> Target 
         return Target::Output(ends.output);
     }
     let mut how = OpenOptions::new();
-    how.write(true);
+    how.append(true);
     match by_name(rt, &how, b"/dev/fd/3") {
         Some(file) => Target::File(file),
         None => Target::Errors(ends.errors),

@@ -3,7 +3,8 @@
 use Rattle.std.proofs.Common.{◌≡◌, ℕ, zero, suc, ◌+◌, ◌-◌, ◌*◌, ◌/◌, ◌<◌, ◌≤◌, min, Bool, T, leb, length, get_or, ℤ, pos, negsuc, ◌+ℤ◌, ◌-ℤ◌, ◌*ℤ◌, nat_abs, sym, refl, ap, ◌∙◌, subst, mul_assoc, mul_comm, mul-le-mul_left, mul-zero, mul-add, mul_left_comm, arith, leb→le}
 use native.Mathlib.Decide.{dec_le}
 use lib.IntN.{sub_ℕ}
-use Rattle.laws.specs.Whole.{Is, recast, self, over, under, count, minus, plus, times, limit_is, limit_plus, limit_minus, limit}
+use Rattle.laws.specs.Whole.{Is, recast, self, over, under, count, limit_is, limit}
+use Rattle.laws.proofs.Operations.{minus, plus, times, limit_plus, limit_minus}
 use Rattle.laws.specs.Table.{at}
 use Rattle.rules.specs.Taps.{weights, weight_of, move, before, after}
 use Rattle.taps.proofs.Signs.{before_count, after_count}

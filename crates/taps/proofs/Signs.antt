@@ -1,7 +1,8 @@
 -- D and the moves as counts: what the code computes, and that it is what rules' limited, before and after say.
 -- Assumes nothing.
 use Rattle.std.proofs.Common.{◌≡◌, ℕ, zero, suc, ◌+◌, ◌-◌, ◌*◌, ◌/◌, ◌<◌, ◌≤◌, min, Bool, true, false, ltb, ℤ, pos, negsuc, ◌+ℤ◌, ◌-ℤ◌, ◌*ℤ◌, neg_ℤ, sym, refl, ap, ◌∙◌, mul_assoc, arith, rules, ltb-false, ltb-true}
-use Rattle.laws.specs.Whole.{Is, same, recast, count, neg, minus, plus, scale, times, within, within_is, limit, limit_plus, limit_minus}
+use Rattle.laws.specs.Whole.{Is, same, recast, count, neg, within, limit}
+use Rattle.laws.proofs.Operations.{minus, plus, scale, times, within_is, limit_plus, limit_minus}
 use Rattle.rules.specs.Taps.{weight_of, difference, rounded, before, after}
 use Rattle.taps.specs.Signed.{signed, along, against}
 

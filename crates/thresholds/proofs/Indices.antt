@@ -6,7 +6,8 @@ use Prim.Native.Nat.{ℕ, ◌+◌, ◌*◌, ◌-◌, ◌≤◌, ◌<◌, min, ma
 use native.Mathlib.Omega.{arith}
 use borrow.Author.Tests.{le-leb}
 use lib.IntN.{ℤ, pos, negsuc}
-use Rattle.laws.specs.Whole.{Is, over, under, same, self, count, plus, differ, scale, between, between_is}
+use Rattle.laws.specs.Whole.{Is, over, under, same, self, count, between, between_is}
+use Rattle.laws.proofs.Operations.{plus, differ, scale}
 use Rattle.laws.specs.declared.whole.Gap.{Gap}
 use Rattle.rules.specs.Numbers.{delta_ok}
 use Rattle.rules.specs.Thresholds.{index_of}

@@ -10,7 +10,8 @@ use lib.ListN.{get_or, replicate, length-replicate, get_or-replicate}
 use lib.IntN.{ℤ, pos, ◌-ℤ◌}
 use Rattle.laws.specs.Choose.{pick}
 use Rattle.laws.specs.Loops.{filled, filled_at, filled_beyond}
-use Rattle.laws.specs.Whole.{Is, over, under, self, count, plus, minus, scale, between, between_is}
+use Rattle.laws.specs.Whole.{Is, over, under, self, count, between, between_is}
+use Rattle.laws.proofs.Operations.{plus, minus, scale}
 use Rattle.laws.specs.declared.whole.Gap.{Gap}
 use Rattle.rules.specs.declared.refusals.Answer.TheVariants.{Accepted}
 use Rattle.rules.specs.Numbers.{depth_ok, delta_ok, highest_of, offset_of}

@@ -11,7 +11,8 @@ use mir.Syntax.{w16}
 use mir.Val.{to_z, of_z}
 use mir.Facts.{to_z-of_z}
 use Rattle.laws.specs.Choose.{pick}
-use Rattle.laws.specs.Whole.{Is, over, under, self, count, plus, minus, between}
+use Rattle.laws.specs.Whole.{Is, over, under, self, count, between}
+use Rattle.laws.proofs.Operations.{plus, minus}
 use Rattle.laws.specs.declared.whole.Gap.{Gap}
 use Rattle.rules.specs.Numbers.{depth_ok, shift_of, offset_of}
 use Rattle.rules.specs.Thresholds.{lowered, side_of}

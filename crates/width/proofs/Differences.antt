@@ -4,7 +4,8 @@ use mathlib.Core.Path.{◌≡◌}
 use Prim.Native.Nat.{ℕ, ◌+◌, ◌-◌, ◌*◌, ◌≤◌}
 use native.Mathlib.Nat.{mul-le-mul}
 use native.Mathlib.Omega.{arith}
-use Rattle.laws.specs.Whole.{count, plus, minus, scale, size_is}
+use Rattle.laws.specs.Whole.{count, size_is}
+use Rattle.laws.proofs.Operations.{plus, minus, scale}
 use Rattle.rules.specs.Width.{bend_of, slope_of}
 
 -- |a - b| of two counts

@@ -4,7 +4,8 @@ use native.Mathlib.Omega.{arith}
 use mathlib.Core.Path.{◌≡◌}
 use Prim.Native.Nat.{◌+◌, ◌-◌, ◌≤◌}
 use lib.ListN.{length}
-use Rattle.laws.specs.Loops.{turns, loops as needs}
+use Rattle.laws.specs.Loops.{turns}
+use Rattle.laws.proofs.Loops.{loops as needs}
 use Rattle.ccso.specs.Lists.{moved_cell}
 use Rattle.ccso.proofs.rows.cells.Given as goal
 
