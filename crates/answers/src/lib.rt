@@ -2,13 +2,11 @@
 #![tactic(auto)]
 
 ghost use Rattle.std.specs.Prelude.{◌≡◌, ◌+◌, ◌*◌, ◌≤◌, ◌<◌, pos, neg_ℤ, set};
-ghost use Rattle.rules.specs.declared.refusals.Answer.TheVariants.{Refused};
+ghost use Rattle.std.specs.declared.result.Result.TheVariants.{Err};
 ghost use Rattle.rules.specs.Refusals.{number_of};
 ghost use Rattle.answers.specs.Told.{Told, Counted, Few, bytes_in, refusal_in, tallied};
 
-use rules::refusals::{
-    Answer, PlaneAnswer, RecordAnswer, Recorded, Refusal, number, place as place_of,
-};
+use rules::refusals::{PlaneAnswer, RecordAnswer, Refusal, number, place as place_of};
 use rules::rows::RowsAnswer;
 
 // Minus the number of a refusal.
@@ -37,13 +35,13 @@ pub fn put_counts(counts: &mut [usize], stored: usize, changed: usize)
 }
 
 // A count, or minus the number of a refusal, whose place is put into a list.
-fn told_count(a: Answer, k: usize, place: &mut [usize]) -> i32
+fn told_count(a: Result<(), Refusal>, k: usize, place: &mut [usize]) -> i32
     requires { k < 2147483648 }
     ensures { Counted a k place.old result place.new }
 {
     match a {
-        Answer::Accepted => count(k),
-        Answer::Refused(r) => {
+        Ok(()) => count(k),
+        Err(r) => {
             put(place, 0, place_of(r));
             minus(r)
         }
@@ -51,7 +49,7 @@ fn told_count(a: Answer, k: usize, place: &mut [usize]) -> i32
 }
 
 // 0, or minus the number of a refusal, whose place is put into a list.
-pub fn told(a: Answer, place: &mut [usize]) -> i32
+pub fn told(a: Result<(), Refusal>, place: &mut [usize]) -> i32
     ensures { Told a place.old result place.new }
 {
     told_count(a, 0, place)
@@ -59,20 +57,20 @@ pub fn told(a: Answer, place: &mut [usize]) -> i32
 
 // A refusal of the settings' own list: minus its number, its place put into a list, and counts of none into another.
 pub fn told_refusal(r: Refusal, place: &mut [usize], counts: &mut [usize]) -> i32
-    ensures { Told (Refused r) place.old result place.new × (counts.new ≡ tallied 0 0 counts.old) }
+    ensures { Told (Err r) place.old result place.new × (counts.new ≡ tallied 0 0 counts.old) }
 {
     put_counts(counts, 0, 0);
-    told(Answer::Refused(r), place)
+    told(Err(r), place)
 }
 
 // How many bytes a record takes, or minus the number of a refusal, whose place is put into a list.
-pub fn told_bytes(a: Recorded, place: &mut [usize]) -> i32
+pub fn told_bytes(a: Result<usize, Refusal>, place: &mut [usize]) -> i32
     requires { Few a }
     ensures { Counted (refusal_in a) (bytes_in a) place.old result place.new }
 {
     match a {
-        Recorded::Bytes(n) => count(n),
-        Recorded::Refused(r) => {
+        Ok(n) => count(n),
+        Err(r) => {
             put(place, 0, place_of(r));
             minus(r)
         }

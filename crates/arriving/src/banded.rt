@@ -7,7 +7,7 @@ use crate::passed::{End, Passed, both, none};
 use laws::least;
 use rows::deblock_rows;
 use rules::counts::Counts;
-use rules::refusals::Answer;
+
 use rules::rows::{RowState, RowsAnswer};
 use rules::settings::Plane;
 
@@ -24,7 +24,7 @@ fn settled(plane: &[u16], way: Way<'_>, before: usize, a: RowsAnswer) -> End
     requires { ShapeFits way.shape }
 {
     let answer = a.answer;
-    if let Answer::Refused(r) = answer {
+    if let Err(r) = answer {
         return End::Refused(r);
     }
     if write_rows(plane, way, before, a.finalrows) {

@@ -15,10 +15,10 @@ use Rattle.laws.specs.Choose.{pick, all_parts, both_parts, told_yes_not, told_no
 use Rattle.rules.specs.declared.settings.Ccso.{Ccso}
 use Rattle.rules.specs.declared.refusals.Refusal.{Refusal}
 use Rattle.rules.specs.declared.refusals.Refusal.TheVariants.{Depth, Size, Length, Setting, Sample}
-use Rattle.rules.specs.declared.refusals.Answer.{Answer}
-use Rattle.rules.specs.declared.refusals.Answer.TheVariants.{Accepted, Refused}
-use Rattle.rules.specs.declared.refusals.Found.{Found}
-use Rattle.rules.specs.declared.refusals.Found.TheVariants.{At, Nothing}
+use Rattle.rules.specs.Refusals.{Answer}
+use Rattle.std.specs.declared.result.Result.TheVariants.{Ok, Err}
+use Rattle.std.specs.declared.option.Option.{Option}
+use Rattle.std.specs.declared.option.Option.TheVariants.{Some, None}
 use Rattle.rules.specs.Numbers.{depth_ok, top_of, in_range, in_range_z}
 use Rattle.rules.proofs.Depths.{by_depth}
 use Rattle.rules.specs.Frame.{superblocks}
@@ -37,32 +37,32 @@ use Rattle.ccso.proofs.Lengths.{sizable}
 -- ---- each way out of the checks
 
 module _ (s : Ccso) (luma flags : List ℕ) (offsets : List ℤ) (t : List ℕ) where
-  pub answer_depth : false ≡ depth_ok s.depth → Refused Depth ≡ ccso_check s luma flags offsets t
+  pub answer_depth : false ≡ depth_ok s.depth → Err Depth ≡ ccso_check s luma flags offsets t
   unfolding ccso_check
   answer_depth e = stop _ _ (unless_bad _ _ e)
 
   module _ (d : true ≡ depth_ok s.depth) where
-    pub answer_size : false ≡ ccso_sizes_ok s → Refused Size ≡ ccso_check s luma flags offsets t
+    pub answer_size : false ≡ ccso_sizes_ok s → Err Size ≡ ccso_check s luma flags offsets t
     unfolding ccso_check
     answer_size e = go_on _ _ _ (unless_good _ _ d) (stop _ _ (unless_bad _ _ e))
 
     module _ (z : true ≡ ccso_sizes_ok s) where
-      pub answer_length : false ≡ ccso_lengths_ok s (length luma) (length t) (length flags) (length offsets) → Refused Length ≡ ccso_check s luma flags offsets t
+      pub answer_length : false ≡ ccso_lengths_ok s (length luma) (length t) (length flags) (length offsets) → Err Length ≡ ccso_check s luma flags offsets t
       unfolding ccso_check
       answer_length e = go_on _ _ _ (unless_good _ _ d) (go_on _ _ _ (unless_good _ _ z) (stop _ _ (unless_bad _ _ e)))
 
       module _ (l : true ≡ ccso_lengths_ok s (length luma) (length t) (length flags) (length offsets)) where
-        pub answer_setting : false ≡ ccso_settings_ok s → Refused Setting ≡ ccso_check s luma flags offsets t
+        pub answer_setting : false ≡ ccso_settings_ok s → Err Setting ≡ ccso_check s luma flags offsets t
         unfolding ccso_check
         answer_setting e =
             go_on _ _ _ (unless_good _ _ d) (go_on _ _ _ (unless_good _ _ z) (go_on _ _ _ (unless_good _ _ l) (stop _ _ (unless_bad _ _ e))))
 
-        module _ (o : true ≡ ccso_settings_ok s) (n : ℕ) (c : n ≡ offset_count s) (f : Found) (b : f ≡ first n (λ k. found_unless (offset_ok offsets k) k)) where
+        module _ (o : true ≡ ccso_settings_ok s) (n : ℕ) (c : n ≡ offset_count s) (f : Option ℕ) (b : f ≡ first n (λ k. found_unless (offset_ok offsets k) k)) where
           offset_first : f ≡ bad_offset s offsets
           unfolding bad_offset
           offset_first = rw c at b
 
-          pub answer_offset : {k : ℕ} → f ≡ At k → Refused Setting ≡ ccso_check s luma flags offsets t
+          pub answer_offset : {k : ℕ} → f ≡ Some k → Err Setting ≡ ccso_check s luma flags offsets t
           unfolding ccso_check
           answer_offset h =
               go_on _ _ _ (unless_good _ _ d)
@@ -70,7 +70,7 @@ module _ (s : Ccso) (luma flags : List ℕ) (offsets : List ℤ) (t : List ℕ) 
               (go_on _ _ _ (unless_good _ _ l)
               (go_on _ _ _ (unless_good _ _ o) (stop _ _ (found_bad_by _ f (λ k. Setting) Setting offset_first h refl)))))
 
-          pub answer_samples : (a : Answer) → f ≡ Nothing → a ≡ samples_check s luma t → a ≡ ccso_check s luma flags offsets t
+          pub answer_samples : (a : Answer) → f ≡ None → a ≡ samples_check s luma t → a ≡ ccso_check s luma flags offsets t
           unfolding ccso_check samples_check
           answer_samples a h e =
               go_on _ _ _ (unless_good _ _ d)
@@ -181,17 +181,17 @@ ranges s d z e =
     }
 
 -- no sample found over top, and no bad offset
-clean : (top : ℕ) (xs : List ℕ) (n : ℕ) → over_row top xs 0 n ≡ Nothing → (i : ℕ) → i < n → get_or xs i 0 ≤ top
+clean : (top : ℕ) (xs : List ℕ) (n : ℕ) → over_row top xs 0 n ≡ None → (i : ℕ) → i < n → get_or xs i 0 ≤ top
 unfolding over_row
 clean top xs n e i h = rw (zero-add i) at (over_nothing top xs (0 + i) (nothing_all (λ x. over_top top xs (0 + x)) n e i h))
 
-small_offset : (s : Ccso) (offsets : List ℤ) → bad_offset s offsets ≡ Nothing → (k : ℕ) → k < offset_count s → SignedWithin (get_or offsets k (pos 0)) 10
+small_offset : (s : Ccso) (offsets : List ℤ) → bad_offset s offsets ≡ None → (k : ℕ) → k < offset_count s → SignedWithin (get_or offsets k (pos 0)) 10
 unfolding bad_offset offset_ok
 small_offset s offsets e k h =
     let p = range_parts (get_or offsets k (pos 0)) 10 7 (unless_nothing _ k (nothing_all _ (offset_count s) e k h)) in
     record { high = omega (arith, p.1); low = p.0 }
 
-module _ (s : Ccso) (luma flags : List ℕ) (offsets : List ℤ) (t : List ℕ) (e : ccso_check s luma flags offsets t ≡ Accepted) where
+module _ (s : Ccso) (luma flags : List ℕ) (offsets : List ℤ) (t : List ℕ) (e : ccso_check s luma flags offsets t ≡ Ok tt) where
   pub accepted : Ranges s × CcsoFits s luma offsets (length t) (length flags)
   unfolding ccso_check
   accepted =
@@ -221,11 +221,11 @@ module _ (s : Ccso) (luma flags : List ℕ) (offsets : List ℤ) (t : List ℕ) 
 
 -- the entry's two ways out
 module _ (s : Ccso) (luma flags : List ℕ) (offsets : List ℤ) (t : List ℕ) (a : Answer) (is : a ≡ ccso_check s luma flags offsets t) where
-  pub stated_refused : {r : Refusal} → a ≡ Refused r → Stated s luma flags offsets t (Refused r) t
+  pub stated_refused : {r : Refusal} → a ≡ Err r → Stated s luma flags offsets t (Err r) t
   unfolding ccso_after
   stated_refused e = record { answer = sym e ∙ is; target = settle_refused_by _ a _ _ is e }
 
-  pub stated_run : (q : List ℕ) → a ≡ Accepted → q ≡ ccso_of s luma flags offsets t → Stated s luma flags offsets t Accepted q
+  pub stated_run : (q : List ℕ) → a ≡ Ok tt → q ≡ ccso_of s luma flags offsets t → Stated s luma flags offsets t (Ok tt) q
   unfolding ccso_after
   stated_run q e g = record { answer = sym e ∙ is; target = settle_accepted_by _ a _ _ _ is e g }
 

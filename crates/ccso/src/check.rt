@@ -10,7 +10,7 @@ use checks::row;
 use laws::split;
 use rounding::{halved, superblocks};
 use rules::depth::Depth;
-use rules::refusals::{Answer, Found, Refusal};
+use rules::refusals::Refusal;
 use rules::settings::Ccso;
 
 fn sizes_ok(s: Ccso) -> bool
@@ -149,56 +149,56 @@ fn count_of(s: Ccso) -> usize
 }
 
 // The first of count offsets that is not in -10..7.
-fn bad_offset(offsets: &[i8], count: usize) -> Found
+fn bad_offset(offsets: &[i8], count: usize) -> Option<usize>
     requires { count ≤ length offsets.now }
     ensures { result ≡ first count (λ k. found_unless (offset_ok offsets.now k) k) }
 {
     for k in 0..count {
         let o = offsets[k];
         if !in_range(o as i32, 10, 7) {
-            return Found::At(k);
+            return Some(k);
         }
     }
-    Found::Nothing
+    None
 }
 
 // The first refusal, or none.
-pub fn check(luma: &[u16], target: &[u16], flags: &[u8], offsets: &[i8], s: Ccso) -> Answer
+pub fn check(luma: &[u16], target: &[u16], flags: &[u8], offsets: &[i8], s: Ccso) -> Result<(), Refusal>
     ensures { result ≡ ccso_check s luma.now flags.now offsets.now target.now }
 {
     if !Depth::is(s.depth) {
-        return Answer::Refused(Refusal::Depth);
+        return Err(Refusal::Depth);
     }
     if !sizes_ok(s) {
-        return Answer::Refused(Refusal::Size);
+        return Err(Refusal::Size);
     }
     if !lengths_ok(s, luma.len(), target.len(), flags.len(), offsets.len()) {
-        return Answer::Refused(Refusal::Length);
+        return Err(Refusal::Length);
     }
     if !settings_ok(s) {
-        return Answer::Refused(Refusal::Setting);
+        return Err(Refusal::Setting);
     }
-    if let Found::At(_) = bad_offset(offsets, count_of(s)) {
-        return Answer::Refused(Refusal::Setting);
+    if let Some(_) = bad_offset(offsets, count_of(s)) {
+        return Err(Refusal::Setting);
     }
     samples_ok(luma, target, s)
 }
 
 // The last check: every sample of luma, then of the target.
-fn samples_ok(luma: &[u16], target: &[u16], s: Ccso) -> Answer
+fn samples_ok(luma: &[u16], target: &[u16], s: Ccso) -> Result<(), Refusal>
     requires { (depth_ok s.depth ≡ true) × (ccso_sizes_ok s ≡ true) × (s.height * s.width ≤ length luma.now) × (target_height s * target_width s ≤ length target.now) }
     ensures { result ≡ samples_check s luma.now target.now }
 {
     let d = Depth { bits: s.depth };
     let top = d.top();
     let over = row(luma, 0, s.height * s.width, top);
-    if let Found::At(k) = over {
-        return Answer::Refused(Refusal::Sample(k));
+    if let Some(k) = over {
+        return Err(Refusal::Sample(k));
     }
     let count = halved(s.ssy, s.height) * halved(s.ssx, s.width);
     let past = row(target, 0, count, top);
-    if let Found::At(k) = past {
-        return Answer::Refused(Refusal::Sample(k));
+    if let Some(k) = past {
+        return Err(Refusal::Sample(k));
     }
-    Answer::Accepted
+    Ok(())
 }

@@ -4,7 +4,7 @@ ghost use Rattle.laws.specs.Largest.{largest};
 ghost use Rattle.rules.specs.Plane.{bad_keep};
 ghost use Rattle.checks.specs.Asked.{Asked};
 
-use rules::refusals::Found;
+
 
 // The larger of two bytes.
 pub fn larger(a: u8, b: u8) -> u8
@@ -26,17 +26,17 @@ pub fn highest(list: &[u8], count: usize) -> u8
 }
 
 // The first of count cells whose keep mark is neither 0 nor 1.
-pub fn bad_keep(keep: &[u8], count: usize) -> Found
+pub fn bad_keep(keep: &[u8], count: usize) -> Option<usize>
     requires { count ≤ length keep.now }
     ensures { result ≡ bad_keep count keep.now }
 {
     for k in 0..count {
         let m = keep[k];
         if 1 < m {
-            return Found::At(k);
+            return Some(k);
         }
     }
-    Found::Nothing
+    None
 }
 
 // How many keep marks a run of count cells is handed: none where no cell is kept, so that it asks for none.

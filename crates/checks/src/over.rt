@@ -4,7 +4,7 @@ ghost use Rattle.laws.specs.Largest.{largest};
 ghost use Rattle.rules.specs.Refusals.{over_row, over_box};
 ghost use Rattle.checks.specs.Rows.{Box};
 
-use rules::refusals::Found;
+
 
 fn larger(a: u16, b: u16) -> u16
     ensures { result ≡ max a b }
@@ -25,7 +25,7 @@ fn most(plane: &[u16], start: usize, count: usize) -> u16
 }
 
 // The first of count samples from start that is over top.
-fn exact(plane: &[u16], start: usize, count: usize, top: u16) -> Found
+fn exact(plane: &[u16], start: usize, count: usize, top: u16) -> Option<usize>
     requires { start + count ≤ length plane.now }
     ensures { result ≡ over_row top plane.now start count }
 {
@@ -33,19 +33,19 @@ fn exact(plane: &[u16], start: usize, count: usize, top: u16) -> Found
         let at = start + x;
         let v = plane[at];
         if top < v {
-            return Found::At(at);
+            return Some(at);
         }
     }
-    Found::Nothing
+    None
 }
 
 // The same, by the row's largest where that is not too large.
-pub fn row(plane: &[u16], start: usize, count: usize, top: u16) -> Found
+pub fn row(plane: &[u16], start: usize, count: usize, top: u16) -> Option<usize>
     requires { start + count ≤ length plane.now }
     ensures { result ≡ over_row top plane.now start count }
 {
     if most(plane, start, count) <= top {
-        return Found::Nothing;
+        return None;
     }
     exact(plane, start, count, top)
 }
@@ -58,15 +58,15 @@ pub fn samples(
     count: usize,
     rows: usize,
     top: u16,
-) -> Found
+) -> Option<usize>
     requires { Box start stride count rows (length plane.now) }
     ensures { result ≡ over_box top plane.now start stride count rows }
 {
     for y in 0..rows {
         let f = row(plane, start + y * stride, count, top);
-        if let Found::At(k) = f {
-            return Found::At(k);
+        if let Some(k) = f {
+            return Some(k);
         }
     }
-    Found::Nothing
+    None
 }

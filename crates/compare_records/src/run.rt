@@ -5,7 +5,7 @@ use crate::say;
 use compared::{Difference, compare};
 use pictures::files;
 use replay::{count, record_check};
-use rules::refusals::Answer;
+
 use std::fs::File;
 use std::rt::Files;
 use system::files::{Ends, Target, read_full};
@@ -34,7 +34,7 @@ fn load<R: Files<File = File>>(
         return 0;
     }
     let a = record_check(&bytes[..n]);
-    if let Answer::Refused(r) = a {
+    if let Err(r) = a {
         say::refused(told, name, r);
         return 0;
     }

@@ -5,7 +5,7 @@ ghost use Rattle.compared.specs.Compare.{same_numbers, first_difference, differe
 use laws::least;
 use replay::{count, entry};
 use rules::edge::Edge;
-use rules::refusals::Found;
+
 
 // Equal records of so many edges; both edges of the first entry that differs, with its number; or the first edge of the longer record that the other lacks.
 #[derive(Drop)]
@@ -38,17 +38,17 @@ fn same_numbers(e: Edge, f: Edge) -> bool
 }
 
 // The first entry that both records have and that differs.
-fn first_difference(a: &[u8], b: &[u8]) -> Found
+fn first_difference(a: &[u8], b: &[u8]) -> Option<usize>
     requires { (5 ≤ length a.now) × (5 ≤ length b.now) }
     ensures { result ≡ first_difference a.now b.now }
 {
     let n = least(count(a), count(b));
     for k in 0..n {
         if !same_numbers(entry(a, k), entry(b, k)) {
-            return Found::At(k);
+            return Some(k);
         }
     }
-    Found::Nothing
+    None
 }
 
 pub fn compare(a: &[u8], b: &[u8]) -> Difference
@@ -56,7 +56,7 @@ pub fn compare(a: &[u8], b: &[u8]) -> Difference
     ensures { result ≡ difference_of a.now b.now }
 {
     let f = first_difference(a, b);
-    if let Found::At(k) = f {
+    if let Some(k) = f {
         return Difference::Edges(k, entry(a, k), entry(b, k));
     }
     let n = count(a);

@@ -16,8 +16,8 @@ use Rattle.rules.specs.declared.settings.Keep.{Keep}
 use Rattle.rules.specs.declared.settings.Ccso.{Ccso}
 use Rattle.rules.specs.declared.refusals.Refusal.{Refusal}
 use Rattle.rules.specs.declared.refusals.Refusal.TheVariants.{Length}
-use Rattle.rules.specs.declared.refusals.Answer.{Answer}
-use Rattle.rules.specs.declared.refusals.Answer.TheVariants.{Accepted, Refused}
+use Rattle.rules.specs.Refusals.{Answer}
+use Rattle.std.specs.declared.result.Result.TheVariants.{Ok, Err}
 use Rattle.rules.specs.declared.refusals.PlaneAnswer.{PlaneAnswer}
 use Rattle.rules.specs.Refusals.{settle}
 use Rattle.rules.specs.Plane.{Grid, plane_after, plane_stored, plane_changed}
@@ -43,11 +43,11 @@ use Rattle.by_list.proofs.Lists.{plane_long, rectangle_long}
 -- ---- a plane
 
 module _ (settings : List ℤ) (steps : List ℕ) (g : Grid) (l : List ℕ) {a : Answer} (is : a ≡ list_check settings) {p q k t : List ℕ} {z : ℤ} where
-  pub plane_refused : {r : Refusal} → a ≡ Refused r → Told (Refused r) p z q × (t ≡ tallied 0 0 k) → PlaneTold settings steps g l p k (to_z w32 (of_z w32 z)) l q t
+  pub plane_refused : {r : Refusal} → a ≡ Err r → Told (Err r) p z q × (t ≡ tallied 0 0 k) → PlaneTold settings steps g l p k (to_z w32 (of_z w32 z)) l q t
   unfolding c_plane_check
   plane_refused e u = filter_refused l _ _ _ (stop_by _ _ _ is e) u
 
-  pub plane_told : {s : Plane} {x : PlaneAnswer} {m : List ℕ} → a ≡ Accepted → s ≡ plane_of settings → «PlaneStated» s steps g l x m → Told x.answer p z q × (t ≡ tallied x.stored x.changed k)
+  pub plane_told : {s : Plane} {x : PlaneAnswer} {m : List ℕ} → a ≡ Ok tt → s ≡ plane_of settings → «PlaneStated» s steps g l x m → Told x.answer p z q × (t ≡ tallied x.stored x.changed k)
       → PlaneTold settings steps g l p k (to_z w32 (of_z w32 z)) m q t
   unfolding c_plane_check plane_after plane_stored plane_changed
   plane_told {s} {x} {m} e read d u =
@@ -60,11 +60,11 @@ pub ruleset planes = (rules, plane_long, plane_refused, plane_told)
 
 word_kept : (a : Answer) (n : ℕ) → in_word (settle a 0 n) ≡ settle a 0 (in_word n)
 unfolding settle
-word_kept Accepted n = refl
-word_kept (Refused r) n = refl
+word_kept (Ok tt) n = refl
+word_kept (Err r) n = refl
 
 module _ (settings : List ℤ) (bytes keep l : List ℕ) {p q k t : List ℕ} {z : ℤ} where
-  pub replay_short : length settings < 4 → Told (Refused Length) p z q × (t ≡ tallied 0 0 k) → ReplayTold settings bytes keep l p k (to_z w32 (of_z w32 z)) l q t
+  pub replay_short : length settings < 4 → Told (Err Length) p z q × (t ≡ tallied 0 0 k) → ReplayTold settings bytes keep l p k (to_z w32 (of_z w32 z)) l q t
   replay_short h u = filter_refused l _ _ _ (short_is 4 settings _ h) u
 
   pub replay_told : {s : Replay} {x : PlaneAnswer} {m : List ℕ} → 4 ≤ length settings → s ≡ replay_settings settings → Replayed s bytes keep l x m → Told x.answer p z q × (t ≡ tallied x.stored x.changed k)
@@ -114,11 +114,11 @@ pub ruleset gates = (rules, short, offsets_told)
 -- ---- keep marks over a rectangle
 
 module _ (settings : List ℤ) (k : List ℕ) {a : Answer} (is : a ≡ rectangle_check settings) {p q : List ℕ} {z : ℤ} where
-  pub rectangle_refused : {r : Refusal} → a ≡ Refused r → Told (Refused r) p z q → RectangleTold settings k p (to_z w32 (of_z w32 z)) k q
+  pub rectangle_refused : {r : Refusal} → a ≡ Err r → Told (Err r) p z q → RectangleTold settings k p (to_z w32 (of_z w32 z)) k q
   unfolding c_rectangle_check
   rectangle_refused e t = reported_refused k _ (stop_by _ _ _ is e) t
 
-  pub rectangle_told : {s : Keep} {x : Answer} {n : List ℕ} → a ≡ Accepted → s ≡ rectangle_of settings → «RectangleStated» s k x n → Told x p z q → RectangleTold settings k p (to_z w32 (of_z w32 z)) n q
+  pub rectangle_told : {s : Keep} {x : Answer} {n : List ℕ} → a ≡ Ok tt → s ≡ rectangle_of settings → «RectangleStated» s k x n → Told x p z q → RectangleTold settings k p (to_z w32 (of_z w32 z)) n q
   unfolding c_rectangle_check keep_after
   rectangle_told {s} {x} {n} e read d t =
       let w : «RectangleStated» (rectangle_of settings) k x n = rw read at d in

@@ -29,6 +29,6 @@ pub extern "C" fn bihargesh_thresholds(
     let t = table::steps(steps);
     match combine_thresholds(curr, prev, deltaq, deltaside, depth, &t) {
         Thresholds::Both(q, side) => packed(q, side),
-        Thresholds::Refused(r) => minus(r),
+        Err(r) => minus(r),
     }
 }

@@ -11,7 +11,7 @@ use grid::tx_grid::build_tx_grid;
 use gridded::spans::{leaves_of, tiles_of};
 use qindex::qindex_grid::build_qindex_grid;
 use recorded::record_plane;
-use rules::refusals::Recorded;
+use rules::refusals::Refusal;
 use rules::settings::{Frame, Plane, QindexGrid, TuGrid};
 
 // Room for the record of every edge of the largest plane.
@@ -27,12 +27,12 @@ fn dark_plane() -> [u16; 16777216]
 }
 
 // A record's length, 0 where there is none.
-fn bytes_of(a: Recorded) -> usize
+fn bytes_of(a: Result<usize, Refusal>) -> usize
     ensures { result ≡ bytes_of a }
 {
     match a {
-        Recorded::Bytes(n) => n,
-        Recorded::Refused(_) => 0,
+        Ok(n) => n,
+        Err(_) => 0,
     }
 }
 

@@ -10,7 +10,7 @@ use pictures::planes;
 use refused::frames::{deblocked, frame_by, say_setting, starts_good};
 use refused::say;
 use rules::counts::Counts;
-use rules::refusals::{Answer, Refusal, number, place};
+use rules::refusals::{Refusal, number, place};
 use rules::settings::Frame;
 use std::rt::Env;
 use streams::job::Job;
@@ -41,8 +41,8 @@ fn offset(answer: &Target, d: Applied, f: Frame, across: usize, text: &[u8]) -> 
     let a = d.answer;
     let plane = d.plane;
     match a {
-        Answer::Accepted => true,
-        Answer::Refused(r) => {
+        Ok(()) => true,
+        Err(r) => {
             let samples = if plane == 0 { f.width } else { across };
             say_plane(answer, r, plane, samples, f, text);
             false

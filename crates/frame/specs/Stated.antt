@@ -3,14 +3,14 @@
 use Rattle.std.specs.Prelude.{◌≡◌, List, ℕ}
 use Rattle.rules.specs.declared.settings.Frame.{Frame}
 use Rattle.rules.specs.declared.refusals.Refusal.{Refusal}
-use Rattle.rules.specs.declared.refusals.Answer.TheVariants.{Refused}
+use Rattle.std.specs.declared.result.Result.TheVariants.{Err}
 use Rattle.rules.specs.declared.refusals.PlaneAnswer.{PlaneAnswer}
 use Rattle.rules.specs.Refusals.{settle}
 use Rattle.rules.specs.Frame.{Planes, Grids, Given, Lent, frame_late, run_frame, run_frame_stored, run_frame_changed, frame_of, frame_stored, frame_changed}
 
 -- a refusal's answer
 abbrev pub refused_by : Refusal → PlaneAnswer
-refused_by r = record { answer = Refused r; stored = 0; changed = 0 }
+refused_by r = record { answer = Err r; stored = 0; changed = 0 }
 
 -- of planes p whose grids g are built: the answer a and the planes q
 pub record Finished (f : Frame) (steps : List ℕ) (g : Grids) (p : Planes) (a : PlaneAnswer) (q : Planes) : Type 0 where

@@ -7,7 +7,7 @@ ghost use Rattle.frame.specs.Stated.{refused_by, Finished};
 
 use frame_planes::late::late;
 use frame_planes::run::run_planes;
-use rules::refusals::{Answer, PlaneAnswer, Refusal};
+use rules::refusals::{PlaneAnswer, Refusal};
 use rules::settings::Frame;
 
 // A refusal tells of no samples.
@@ -15,7 +15,7 @@ pub fn refused(r: Refusal) -> PlaneAnswer
     ensures { result ≡ refused_by r }
 {
     PlaneAnswer {
-        answer: Answer::Refused(r),
+        answer: Err(r),
         stored: 0,
         changed: 0,
     }
@@ -58,7 +58,7 @@ pub fn filter(
         (planes y.new u.new v.new) }
 {
     let a = late(y, u, v, lv, lh, lw, lt, ltiles, cv, ch, cw, ct, ctiles, f);
-    if let Answer::Refused(r) = a {
+    if let Err(r) = a {
         return refused(r);
     }
     let n = run_planes(
@@ -66,7 +66,7 @@ pub fn filter(
         plain,
     );
     PlaneAnswer {
-        answer: Answer::Accepted,
+        answer: Ok(()),
         stored: n.stored,
         changed: n.changed,
     }

@@ -9,7 +9,7 @@ use super::filter::{filter, refused};
 use frame_checks::early::frame_early;
 use frame_planes::build::build;
 use rules::lent::{FrameLengths, GridLengths};
-use rules::refusals::{Answer, PlaneAnswer};
+use rules::refusals::PlaneAnswer;
 use rules::settings::Frame;
 
 // How long a grid's lists are.
@@ -107,7 +107,7 @@ pub fn deblock_frame(
         f,
         n,
     );
-    if let Answer::Refused(r) = a {
+    if let Err(r) = a {
         return refused(r);
     }
     build(lv, lh, lw, lt, lq, leaves, skips, sbq, f, false);

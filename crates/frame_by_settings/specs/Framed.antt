@@ -4,8 +4,8 @@ use Rattle.std.specs.Prelude.{◌≡◌, List, ℕ, ◌≤◌, length, get_or}
 use Rattle.rules.specs.declared.settings.Frame.{Frame}
 use Rattle.rules.specs.declared.refusals.Refusal.{Refusal}
 use Rattle.rules.specs.declared.refusals.Refusal.TheVariants.{Depth, Size, Length, Steps, Setting, Cell, Room, Sample, Leaf, Buffer, Header, Cut, Entry, Filled, Spent}
-use Rattle.rules.specs.declared.refusals.Answer.{Answer}
-use Rattle.rules.specs.declared.refusals.Answer.TheVariants.{Accepted, Refused}
+use Rattle.rules.specs.Refusals.{Answer}
+use Rattle.std.specs.declared.result.Result.TheVariants.{Ok, Err}
 use Rattle.rules.specs.Frame.{Planes, Given, given}
 use Rattle.by_settings.specs.declared.places.Place.{Place}
 use Rattle.by_settings.specs.declared.lists.Lists.{Lists}
@@ -59,8 +59,8 @@ refusal_place f n ts p Spent = place_in in_frame 0 0
 
 -- an accepted frame has no place but itself
 unfoldable pub answer_place : Frame → Given → List ℕ → Planes → Answer → Place
-answer_place f n ts p Accepted = place_in in_frame 0 0
-answer_place f n ts p (Refused r) = refusal_place f n ts p r
+answer_place f n ts p (Ok tt) = place_in in_frame 0 0
+answer_place f n ts p (Err r) = refusal_place f n ts p r
 
 -- the answer with the counts, its place, and the planes afterwards
 pub record DeblockedAt (f : Frame) (n : Given) (t : Starts) (k : Keeps) (lent : Planes) (o : Outcome) (left : Planes) : Type 0 where

@@ -9,13 +9,13 @@ use crate::places::place_of;
 use by_settings::kinds::STEPS;
 use by_settings::lists::{lists_of, steps_of};
 use by_settings::places::{FRAME, Place, at};
-use rules::refusals::Answer;
+use rules::refusals::Refusal;
 use rules::settings::Frame;
 
 // The answer, where a refusal stands, how many samples were stored, and how many of those differ from before.
 #[derive(Drop)]
 pub struct Outcome {
-    pub answer: Answer,
+    pub answer: Result<(), Refusal>,
     pub place: Place,
     pub stored: usize,
     pub changed: usize,
@@ -63,16 +63,16 @@ fn deblock_given(
         plain,
     );
     let answer = a.answer;
-    if let Answer::Refused(r) = answer {
+    if let Err(r) = answer {
         return Outcome {
-            answer: Answer::Refused(r),
+            answer: Err(r),
             place: place_of(r, y, u, sbq, leaves, chromaleaves, skips, tiles, f),
             stored: a.stored,
             changed: a.changed,
         };
     }
     Outcome {
-        answer: Answer::Accepted,
+        answer: Ok(()),
         place: at(FRAME, 0, 0),
         stored: a.stored,
         changed: a.changed,

@@ -3,8 +3,8 @@
 use mathlib.Core.Path.{◌≡◌, refl, ◌∙◌}
 use mathlib.Core.List.{List}
 use Rattle.rules.specs.declared.settings.Frame.{Frame}
-use Rattle.rules.specs.declared.refusals.Answer.{Answer}
-use Rattle.rules.specs.declared.refusals.Answer.TheVariants.{Accepted, Refused}
+use Rattle.rules.specs.Refusals.{Answer}
+use Rattle.std.specs.declared.result.Result.TheVariants.{Ok, Err}
 use Rattle.rules.specs.declared.refusals.PlaneAnswer.{PlaneAnswer}
 use Rattle.rules.specs.Refusals.{or_else}
 use Rattle.rules.specs.Thresholds.{steps_check}
@@ -22,8 +22,8 @@ early_of f n l = frame_early f (lengths_of n l) l.grids.luma.tiles l.grids.chrom
 -- the early checks, then the late ones
 pub answer_by : (a : Answer) (l : Lent) (d : Done) → (or_done a l d).answer ≡ or_else a d.answer
 unfolding or_done or_else
-answer_by Accepted l d = refl
-answer_by (Refused r) l d = refl
+answer_by (Ok tt) l d = refl
+answer_by (Err r) l d = refl
 
 pub answer_is : (f : Frame) (n : Given) (l : Lent) → (frame_of f n l).answer ≡ or_else (early_of f n l) (frame_late f (built_grids f n l.grids) l.planes)
 unfolding frame_of frame_built

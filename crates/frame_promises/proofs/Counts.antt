@@ -8,8 +8,8 @@ use native.Mathlib.Omega.{arith}
 use Rattle.laws.specs.Choose.{pick}
 use Rattle.rules.specs.declared.settings.Frame.{Frame}
 use Rattle.rules.specs.declared.refusals.Refusal.{Refusal}
-use Rattle.rules.specs.declared.refusals.Answer.{Answer}
-use Rattle.rules.specs.declared.refusals.Answer.TheVariants.{Accepted, Refused}
+use Rattle.rules.specs.Refusals.{Answer}
+use Rattle.std.specs.declared.result.Result.TheVariants.{Ok, Err}
 use Rattle.rules.specs.declared.refusals.PlaneAnswer.{PlaneAnswer}
 use Rattle.rules.specs.Refusals.{settle}
 use Rattle.rules.specs.Frame.{Grids, Given, Lent, chroma_on, built_grids, run_frame_stored, run_frame_changed, frame_of, frame_stored, frame_changed}
@@ -39,7 +39,7 @@ module _ (f : Frame) (n : Given) (l : Lent) where
 
   -- ---- an accepted frame
 
-  module _ (ok : (frame_of f n l).answer ≡ Accepted) where
+  module _ (ok : (frame_of f n l).answer ≡ Ok tt) where
     frame_stored_holds : run_frame_stored f n.steps built l.planes ≤ most_stored f
     unfolding run_frame_stored
     frame_stored_holds =
@@ -60,11 +60,11 @@ module _ (f : Frame) (n : Given) (l : Lent) where
     counts_most = go (frame_of f n l).answer refl done.stored done.changed
       where
         go : (x : Answer) → (frame_of f n l).answer ≡ x → {u v : ℕ} → u ≡ settle x 0 (run_frame_stored f n.steps built l.planes) → v ≡ settle x 0 (run_frame_changed f n.steps built l.planes) → (u ≤ most_stored f) × (v ≤ u) × (u ≤ 402259968)
-        go Accepted ok p q = (rw p (frame_stored_holds ok), rw (p, q) frame_changed_holds, rw p (frame_fits ok))
-        go (Refused r) ok p q = (omega (arith, p), omega (arith, p, q), omega (arith, p))
+        go (Ok tt) ok p q = (rw p (frame_stored_holds ok), rw (p, q) frame_changed_holds, rw p (frame_fits ok))
+        go (Err r) ok p q = (omega (arith, p), omega (arith, p, q), omega (arith, p))
 
     -- "A refusal reports zero for both."
-    pub counts_refused : {r : Refusal} → a.answer ≡ Refused r → (a.stored ≡ 0) × (a.changed ≡ 0)
+    pub counts_refused : {r : Refusal} → a.answer ≡ Err r → (a.stored ≡ 0) × (a.changed ≡ 0)
     unfolding frame_stored frame_changed settle
     counts_refused e =
         let no = sym done.answer ∙ e in (

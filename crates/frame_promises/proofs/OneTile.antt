@@ -7,8 +7,8 @@ use Prim.Native.Nat.{ℕ}
 use Rattle.laws.specs.Choose.{pick}
 use Rattle.rules.specs.declared.settings.Frame.{Frame}
 use Rattle.rules.specs.declared.lent.FrameLengths.{FrameLengths}
-use Rattle.rules.specs.declared.refusals.Answer.{Answer}
-use Rattle.rules.specs.declared.refusals.Answer.TheVariants.{Accepted, Refused}
+use Rattle.rules.specs.Refusals.{Answer}
+use Rattle.std.specs.declared.result.Result.TheVariants.{Ok, Err}
 use Rattle.rules.specs.declared.refusals.PlaneAnswer.{PlaneAnswer}
 use Rattle.rules.specs.Refusals.{or_else, found, only_if, first}
 use Rattle.rules.specs.Thresholds.{steps_check}
@@ -19,13 +19,13 @@ use Rattle.frame_promises.proofs.Answers.{early_of}
 
 -- ---- no tile start
 
-only_accepted : (t : Bool) → only_if t Accepted ≡ Accepted
+only_accepted : (t : Bool) → only_if t (Ok tt) ≡ Ok tt
 unfolding only_if
 only_accepted true = refl
 only_accepted false = refl
 
 -- no list refuses
-no_starts : (f : Frame) → frame_tiles f [] [] ≡ Accepted
+no_starts : (f : Frame) → frame_tiles f [] [] ≡ Ok tt
 unfolding frame_tiles tiles_check bad_start first found or_else
 no_starts f = only_accepted (chroma_on f)
 
@@ -61,8 +61,8 @@ module _ (f : Frame) (n : Given) (l : Lent) (us es : List ℕ) (off : chroma_on 
 
   same_by : (a : Answer) → or_done a (relisted us es l) (built_of (relisted us es l)) ≡ done (or_done a l (built_of l)).answer (relisted us es (or_done a l (built_of l)).lists)
   unfolding or_done
-  same_by (Refused r) = refl
-  same_by Accepted = built_same
+  same_by (Err r) = refl
+  same_by (Ok tt) = built_same
 
   frame_same : frame_of f n (relisted us es l) ≡ done (frame_of f n l).answer (relisted us es (frame_of f n l).lists)
   unfolding frame_of

@@ -9,8 +9,8 @@ use native.Mathlib.Omega.{arith}
 use lib.ListN.{length, get_or}
 use Rattle.laws.specs.Loops.{turns, turns_more, turns_end}
 use Rattle.rules.specs.declared.settings.TuGrid.{TuGrid}
-use Rattle.rules.specs.declared.refusals.Found.{Found}
-use Rattle.rules.specs.declared.refusals.Found.TheVariants.{At, Nothing}
+use Rattle.std.specs.declared.option.Option.{Option}
+use Rattle.std.specs.declared.option.Option.TheVariants.{Some, None}
 use Rattle.rules.specs.Refusals.{first, found_unless}
 use Rattle.rules.specs.TuGrid.{Marks, tile_of, paint_of, leaf_of, leaves_of, leaf_good, leaf_good_at, bad_leaf}
 use Rattle.checks.proofs.First.{first_more, first_found, first_end, found_unless_holds, found_unless_not}
@@ -90,12 +90,12 @@ module _ (s : TuGrid) (skip : Bool) (ls : List Leaf) (g₀ : Marks) where
 -- ---- looking for a bad one
 
 module _ (skip : Bool) (ls : List Leaf) where
-  abbrev bad : ℕ → Found
+  abbrev bad : ℕ → Option ℕ
   bad k = found_unless (leaf_good_at skip (flat ls) k) k
 
   -- none of the first i is bad
   abbrev pub Sound : ℕ → Type 0
-  Sound i = first i bad ≡ Nothing
+  Sound i = first i bad ≡ None
 
   abbrev pub good_at : ℕ → Bool
   good_at i = leaf_good skip (get_or ls i none).row (get_or ls i none).col (get_or ls i none).w (get_or ls i none).h

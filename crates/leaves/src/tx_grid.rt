@@ -5,7 +5,7 @@ ghost use Rattle.leaves.specs.Records.{flat};
 
 use super::records::{Leaf, good_leaves, paint_leaves};
 use super::start::{refused, start};
-use rules::refusals::Answer;
+use rules::refusals::Refusal;
 use rules::settings::TuGrid;
 
 // The TU grid of any settings and lists, with no cell kept, or why there is none.
@@ -18,7 +18,7 @@ pub fn build_tx_grid(
     sqh: &mut [u8],
     keep: &mut [u8],
     s: TuGrid,
-) -> Answer
+) -> Result<(), Refusal>
     ensures { Stated s (flat ls.now) (flat skips.now) (marks vedge.old hedge.old sqw.old sqh.old) keep.old
         result (marks vedge.new hedge.new sqw.new sqh.new) keep.new }
 {

@@ -2,10 +2,10 @@
 -- Assumes nothing.
 use Rattle.std.specs.Prelude.{List, [], ◌∷◌, ℕ, ◌*◌, leb, length}
 use Rattle.rules.specs.declared.settings.Lone.{Lone}
-use Rattle.rules.specs.declared.refusals.Answer.{Answer}
-use Rattle.rules.specs.declared.refusals.Answer.TheVariants.{Accepted, Refused}
-use Rattle.rules.specs.declared.refusals.Width.{Width}
-use Rattle.rules.specs.declared.refusals.Width.TheVariants.{Samples, Refused as «NoWidth»}
+use Rattle.rules.specs.Refusals.{Answer}
+use Rattle.std.specs.declared.result.Result.TheVariants.{Ok, Err}
+use Rattle.std.specs.declared.result.Result.{Result}
+use Rattle.rules.specs.declared.refusals.Refusal.{Refusal}
 use Rattle.rules.specs.Numbers.{depth_ok, top_of}
 use Rattle.rules.specs.Segment.{has_room}
 use Rattle.rules.specs.Lone.{edge_of, sizes_ok, settings_ok, over_edge}
@@ -22,6 +22,6 @@ tests s l =
     ∷ []
 
 -- whether there is a width, and if not why
-abbrev pub answered : Width → Answer
-answered (Samples w) = Accepted
-answered («NoWidth» r) = Refused r
+abbrev pub answered : Result ℕ Refusal → Answer
+answered (Ok w) = Ok tt
+answered (Err r) = Err r

@@ -4,7 +4,7 @@ ghost use Rattle.plane.specs.Checked.{Stated};
 
 use bands::run_band;
 use plane::plane_check;
-use rules::refusals::{Answer, PlaneAnswer};
+use rules::refusals::PlaneAnswer;
 use rules::settings::Plane;
 
 // Deblocks a plane in the plain order and tells how many samples it stored and changed; or refuses it, leaves it as lent and tells of none.
@@ -23,9 +23,9 @@ pub fn deblock_plane_plain(
     ensures { Stated s steps.now (keeping vedge.now hedge.now sqw.now sqh.now qindex.now tiles.now keep.now) plane.old result plane.new }
 {
     let a = plane_check(plane, vedge, hedge, sqw, sqh, qindex, tiles, keep, steps, s);
-    if let Answer::Refused(r) = a {
+    if let Err(r) = a {
         return PlaneAnswer {
-            answer: Answer::Refused(r),
+            answer: Err(r),
             stored: 0,
             changed: 0,
         };
@@ -34,7 +34,7 @@ pub fn deblock_plane_plain(
         plane, vedge, hedge, sqw, sqh, qindex, tiles, keep, steps, s, 0, s.rows,
     );
     PlaneAnswer {
-        answer: Answer::Accepted,
+        answer: Ok(()),
         stored: done.stored,
         changed: done.changed,
     }

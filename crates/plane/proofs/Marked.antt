@@ -8,7 +8,7 @@ use lib.ListN.{length, get_or, take}
 use Rattle.laws.specs.Lists.{Each}
 use Rattle.rules.specs.declared.edge.Edge.{Edge}
 use Rattle.rules.specs.declared.settings.Plane.{Plane}
-use Rattle.rules.specs.declared.refusals.Found.TheVariants.{Nothing}
+use Rattle.std.specs.declared.option.Option.TheVariants.{None}
 use Rattle.rules.specs.Numbers.{top_of}
 use Rattle.rules.specs.Segment.{kept_in, run_edges}
 use Rattle.rules.specs.Counts.{stored_by, changed_by}
@@ -57,7 +57,7 @@ module _ {s : Plane} {steps : List ℕ} (v h w t q ts ks : List ℕ) {n : ℕ} w
       }
 
 -- every mark of a checked plane is 0 or 1
-pub marks_good : {s : Plane} {steps : List ℕ} {g : Grid} {n : ℕ} → Checked s steps g n → bad_keep (s.rows * s.cols) g.keep ≡ Nothing
+pub marks_good : {s : Plane} {steps : List ℕ} {g : Grid} {n : ℕ} → Checked s steps g n → bad_keep (s.rows * s.cols) g.keep ≡ None
 unfolding bad_cell bad_of
 marks_good {s} {g = g} k = none_bad (s.rows * s.cols) g k.cells
 

@@ -3,10 +3,10 @@
 use Rattle.std.specs.Prelude.{◌≡◌, true, List, length, ℕ, ◌+◌, ◌*◌, ◌≤◌}
 use Rattle.rules.specs.declared.settings.Plane.{Plane}
 use Rattle.rules.specs.declared.refusals.Refusal.TheVariants.{Cell, Room}
-use Rattle.rules.specs.declared.refusals.Answer.{Answer}
-use Rattle.rules.specs.declared.refusals.Answer.TheVariants.{Accepted}
+use Rattle.rules.specs.Refusals.{Answer}
+use Rattle.std.specs.declared.result.Result.TheVariants.{Ok}
 use Rattle.rules.specs.declared.refusals.PlaneAnswer.{PlaneAnswer}
-use Rattle.rules.specs.declared.refusals.Found.TheVariants.{Nothing}
+use Rattle.std.specs.declared.option.Option.TheVariants.{None}
 use Rattle.rules.specs.Numbers.{depth_ok, delta_ok}
 use Rattle.rules.specs.Refusals.{or_else, found}
 use Rattle.rules.specs.Thresholds.{steps_check}
@@ -32,12 +32,12 @@ pub record Checked (s : Plane) (steps : List ℕ) (g : Grid) (size : ℕ) : Type
   pub depth : depth_ok s.depth ≡ true
   pub sizes_ok : Sizes s
   pub lengths : plane_lengths_ok s g size ≡ true
-  pub steps_ok : steps_check steps ≡ Accepted
+  pub steps_ok : steps_check steps ≡ Ok tt
   pub deltaq_ok : delta_ok s.deltaq ≡ true
   pub deltaside_ok : delta_ok s.deltaside ≡ true
-  pub tiles_ok : tiles_check s.cols g.tiles ≡ Accepted
-  pub cells : bad_cell s g ≡ Nothing
-  pub room : no_room s g ≡ Nothing
+  pub tiles_ok : tiles_check s.cols g.tiles ≡ Ok tt
+  pub cells : bad_cell s g ≡ None
+  pub room : no_room s g ≡ None
 
 -- what a checked plane's run tells and leaves of the plane l: a and the plane m
 pub record Filtered (s : Plane) (steps : List ℕ) (g : Grid) (l : List ℕ) (a : Visited) (m : List ℕ) : Type 0 where

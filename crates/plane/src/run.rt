@@ -9,7 +9,7 @@ use crate::table::table_of;
 use crate::visited::Visited;
 use checks::asked;
 use rules::depth::Depth;
-use rules::refusals::{Answer, PlaneAnswer};
+use rules::refusals::PlaneAnswer;
 use rules::settings::Plane;
 use thresholds::by_qindex::thresholds_by_qindex;
 
@@ -96,16 +96,16 @@ pub fn deblock_plane(
     ensures { Stated s steps.now (keeping vedge.now hedge.now sqw.now sqh.now qindex.now tiles.now keep.now) plane.old result plane.new }
 {
     let a = plane_check(plane, vedge, hedge, sqw, sqh, qindex, tiles, keep, steps, s);
-    if let Answer::Refused(r) = a {
+    if let Err(r) = a {
         return PlaneAnswer {
-            answer: Answer::Refused(r),
+            answer: Err(r),
             stored: 0,
             changed: 0,
         };
     }
     let done = run_plane(plane, vedge, hedge, sqw, sqh, qindex, tiles, keep, steps, s);
     PlaneAnswer {
-        answer: Answer::Accepted,
+        answer: Ok(()),
         stored: done.stored,
         changed: done.changed,
     }

@@ -1,6 +1,6 @@
 // One recorded plane: its samples, its buffer, and what the stream says that it answers.
 use recorded::record_plane;
-use rules::refusals::{RecordAnswer, Recorded};
+use rules::refusals::{RecordAnswer, Refusal};
 use rules::settings::Plane;
 use tally::Tally;
 use text::{Answered, Cursor};
@@ -20,10 +20,10 @@ fn held_both(text: &[u8], lent: Cursor, told: Answered, plane: &[u16], buffer: &
 }
 
 // Whether a recorded plane's record is the stream's: its length, or the refusal.
-fn same_length(record: Recorded, told: Answered) -> bool {
+fn same_length(record: Result<usize, Refusal>, told: Answered) -> bool {
     match record {
-        Recorded::Bytes(n) => told.number == 0 && n == told.place,
-        Recorded::Refused(r) => tally::refused(r, told.number, told.place),
+        Ok(n) => told.number == 0 && n == told.place,
+        Err(r) => tally::refused(r, told.number, told.place),
     }
 }
 

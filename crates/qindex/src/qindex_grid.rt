@@ -8,7 +8,7 @@ ghost use Rattle.rules.specs.QindexGrid.{superblock_of, q_cell, q_row, q_grid_of
 ghost use Rattle.qindex.specs.Fit.{QFit, QChecked};
 
 use laws::least;
-use rules::refusals::{Answer, Refusal};
+use rules::refusals::Refusal;
 use rules::settings::QindexGrid;
 use tiles::tests::{cells_ok, subsampling_ok, superblocks_ok};
 
@@ -86,26 +86,23 @@ fn lists_ok(cells: usize, count: usize, n: usize) -> bool
 }
 
 // The checks, for lists of these lengths.
-fn q_check(count: usize, n: usize, s: QindexGrid) -> Answer
+fn q_check(count: usize, n: usize, s: QindexGrid) -> Result<(), Refusal>
     ensures { QChecked s count n result }
 {
     if !sizes_ok(s) {
-        return Answer::Refused(Refusal::Size);
+        return Err(Refusal::Size);
     }
     if !lists_ok(s.rows * s.cols, count, n) {
-        return Answer::Refused(Refusal::Length);
+        return Err(Refusal::Length);
     }
-    Answer::Accepted
+    Ok(())
 }
 
 // The qindex grid of any settings and lists, or why there is none.
-pub fn build_qindex_grid(sbq: &[u16], qindex: &mut [u16], s: QindexGrid) -> Answer
+pub fn build_qindex_grid(sbq: &[u16], qindex: &mut [u16], s: QindexGrid) -> Result<(), Refusal>
     ensures { (result ≡ q_grid_check s sbq.now qindex.old) × (qindex.new ≡ q_grid_after s sbq.now qindex.old) }
 {
-    let a = q_check(sbq.len(), qindex.len(), s);
-    if let Answer::Refused(r) = a {
-        return Answer::Refused(r);
-    }
+    q_check(sbq.len(), qindex.len(), s)?;
     qindex_grid(sbq, qindex, s);
-    Answer::Accepted
+    Ok(())
 }

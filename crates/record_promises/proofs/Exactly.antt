@@ -5,8 +5,8 @@ use mathlib.Core.List.{List, [], ◌∷◌, ◌++◌}
 use Prim.Native.Nat.{ℕ}
 use lib.ListN.{length}
 use Rattle.rules.specs.declared.settings.Plane.{Plane}
-use Rattle.rules.specs.declared.refusals.Answer.{Answer}
-use Rattle.rules.specs.declared.refusals.Answer.TheVariants.{Accepted, Refused}
+use Rattle.rules.specs.Refusals.{Answer}
+use Rattle.std.specs.declared.result.Result.TheVariants.{Ok, Err}
 use Rattle.rules.specs.declared.refusals.RecordAnswer.{RecordAnswer}
 use Rattle.rules.specs.Refusals.{or_else}
 use Rattle.rules.specs.Plane.{Grid}
@@ -26,8 +26,8 @@ one_more (c ∷ cs) d = chain_joined c cs (d ∷ [])
 
 answered_is : (a : Answer) (k : ℕ) → answered (answer_bytes a k) ≡ a
 unfolding answer_bytes
-answered_is Accepted k = refl
-answered_is (Refused r) k = refl
+answered_is (Ok tt) k = refl
+answered_is (Err r) k = refl
 
 module _ (s : Plane) (steps : List ℕ) (g : Grid) (l : List ℕ) where
   pub recorded_exactly : (n : ℕ) {a : Answer} → a ≡ recorded_check s steps g l n → Exactly a (recorded_tests s steps g l n)

@@ -13,11 +13,10 @@ use Rattle.laws.specs.Reorder.{count}
 use Rattle.rules.specs.declared.edge.Edge.{Edge}
 use Rattle.rules.specs.declared.settings.Plane.{Plane}
 use Rattle.rules.specs.declared.refusals.Refusal.{Refusal}
-use Rattle.rules.specs.declared.refusals.Answer.{Answer}
-use Rattle.rules.specs.declared.refusals.Answer.TheVariants.{Accepted, Refused}
+use Rattle.rules.specs.Refusals.{Answer}
+use Rattle.std.specs.declared.result.Result.TheVariants.{Ok, Err}
 use Rattle.rules.specs.declared.refusals.PlaneAnswer.{PlaneAnswer}
 use Rattle.rules.specs.declared.refusals.RecordAnswer.{RecordAnswer}
-use Rattle.rules.specs.declared.refusals.Recorded.TheVariants.{Bytes, Refused as «NoRecord»}
 use Rattle.rules.specs.Refusals.{settle}
 use Rattle.rules.specs.Plane.{Grid, keeping, kept_by, is_edge, index_at, shortened_at, marks_of, indices_of, visit_of, sweep_of, column_of, turn_of, edge_at, edges_of, run_plane, run_stored, run_changed, plane_check, plane_after, plane_stored, plane_changed}
 use Rattle.rules.specs.Record.{record_of, buffer_after, edges_in, edge_count, recorded_check, answer_bytes, recorded_answer, recorded_plane, recorded_buffer, recorded_stored, recorded_changed}
@@ -35,19 +34,19 @@ use Rattle.recorded.proofs.Recording.{Passed, passed}
 
 -- ---- what an answer says of the checks
 
-bytes_accepted : (a : Answer) (k : ℕ) {n : ℕ} → Bytes n ≡ answer_bytes a k → (a ≡ Accepted) × (n ≡ k)
+bytes_accepted : (a : Answer) (k : ℕ) {n : ℕ} → Ok n ≡ answer_bytes a k → (a ≡ Ok tt) × (n ≡ k)
 unfolding answer_bytes
-bytes_accepted Accepted k e = (refl, (cc))
-bytes_accepted (Refused r) k e = absurd (let z : ◌≡◌ {A = ℕ} 0 1 = cc in omega arith)
+bytes_accepted (Ok tt) k e = (refl, (cc))
+bytes_accepted (Err r) k e = absurd (let z : ◌≡◌ {A = ℕ} 0 1 = cc in omega arith)
 
-refused_refused : (a : Answer) (k : ℕ) {r : Refusal} → «NoRecord» r ≡ answer_bytes a k → a ≡ Refused r
+refused_refused : (a : Answer) (k : ℕ) {r : Refusal} → Err r ≡ answer_bytes a k → a ≡ Err r
 unfolding answer_bytes
-refused_refused Accepted k e = absurd (let z : ◌≡◌ {A = ℕ} 0 1 = cc in omega arith)
-refused_refused (Refused q) k e = cc
+refused_refused (Ok tt) k e = absurd (let z : ◌≡◌ {A = ℕ} 0 1 = cc in omega arith)
+refused_refused (Err q) k e = cc
 
 -- ---- the numbers of every edge fit an entry's bytes
 
-module _ (s : Plane) (steps : List ℕ) (g : Grid) (l : List ℕ) (ok : plane_check s steps g l ≡ Accepted) where
+module _ (s : Plane) (steps : List ℕ) (g : Grid) (l : List ℕ) (ok : plane_check s steps g l ≡ Ok tt) where
   abbrev Inside : Edge → Type 0
   Inside e = InPlane s.stride (4 * s.cols) (4 * s.rows) e (length l)
 
@@ -71,8 +70,8 @@ module _ (s : Plane) (steps : List ℕ) (g : Grid) (l : List ℕ) (ok : plane_ch
 
 -- ---- where the answer is a number of bytes
 
-module _ (s : Plane) (steps : List ℕ) (g : Grid) (l b : List ℕ) {a : RecordAnswer} {n : ℕ} {m c : List ℕ} (done : Stated s steps g l b a m c) (told : a.«record» ≡ Bytes n) where
-  accepted : (recorded_check s steps g l (length b) ≡ Accepted) × (n ≡ length (record_of (edges_of s steps g)))
+module _ (s : Plane) (steps : List ℕ) (g : Grid) (l b : List ℕ) {a : RecordAnswer} {n : ℕ} {m c : List ℕ} (done : Stated s steps g l b a m c) (told : a.«record» ≡ Ok n) where
+  accepted : (recorded_check s steps g l (length b) ≡ Ok tt) × (n ≡ length (record_of (edges_of s steps g)))
   unfolding recorded_answer
   accepted = bytes_accepted (recorded_check s steps g l (length b)) _ (sym told ∙ done.answer)
 
@@ -83,7 +82,7 @@ module _ (s : Plane) (steps : List ℕ) (g : Grid) (l b : List ℕ) {a : RecordA
   pub record_long : n ≡ 5 + 10 * edge_count s g
   record_long = omega (arith, accepted.1, record_length_holds (edges_of s steps g), edges_length s steps g ok.checks.sizes_ok)
 
-  pub plane_passed : plane_check s steps g l ≡ Accepted
+  pub plane_passed : plane_check s steps g l ≡ Ok tt
   plane_passed = ok.plane
 
   pub plane_ran : m ≡ run_plane s steps g l
@@ -99,7 +98,7 @@ module _ (s : Plane) (steps : List ℕ) (g : Grid) (l b : List ℕ) {a : RecordA
 
   -- "the plane ends as without it": the run without a record is accepted too, leaves the same plane and tells the same counts
   module _ {x : PlaneAnswer} {p : List ℕ} (alone : «PlaneStated» s steps g l x p) where
-    pub plane_as_without : (x.answer ≡ Accepted) × (m ≡ p)
+    pub plane_as_without : (x.answer ≡ Ok tt) × (m ≡ p)
     unfolding plane_after settle
     plane_as_without =
         let same : p ≡ run_plane s steps g l = alone.plane ∙ ap (λ (y : Answer). settle y l (run_plane s steps g l)) ok.plane in
@@ -139,12 +138,12 @@ module _ (s : Plane) (steps : List ℕ) (g : Grid) (l b : List ℕ) {a : RecordA
 
 -- what a record says does not depend on a sample
 pub record_by_grid : (s : Plane) (steps : List ℕ) (g : Grid) (l k b d : List ℕ) {x y : RecordAnswer} {n i : ℕ} {m o c e : List ℕ}
-    → Stated s steps g l b x m c → x.«record» ≡ Bytes n → Stated s steps g k d y o e → y.«record» ≡ Bytes i → take n c ≡ take i e
+    → Stated s steps g l b x m c → x.«record» ≡ Ok n → Stated s steps g k d y o e → y.«record» ≡ Ok i → take n c ≡ take i e
 record_by_grid s steps g l k b d x told y also = record_is s steps g l b x told ∙ sym (record_is s steps g k d y also)
 
 -- nor on the keep marks
-pub record_by_marks : (s : Plane) (steps v h w t q ts ks us l k b d : List ℕ) {x y : RecordAnswer} {n i : ℕ} {m o c e : List ℕ} → Stated s steps (keeping v h w t q ts ks) l b x m c → x.«record» ≡ Bytes n
-    → Stated s steps (keeping v h w t q ts us) k d y o e → y.«record» ≡ Bytes i → take n c ≡ take i e
+pub record_by_marks : (s : Plane) (steps v h w t q ts ks us l k b d : List ℕ) {x y : RecordAnswer} {n i : ℕ} {m o c e : List ℕ} → Stated s steps (keeping v h w t q ts ks) l b x m c → x.«record» ≡ Ok n
+    → Stated s steps (keeping v h w t q ts us) k d y o e → y.«record» ≡ Ok i → take n c ≡ take i e
 unfolding edges_of turn_of column_of sweep_of visit_of is_edge edge_at index_at shortened_at marks_of indices_of
 record_by_marks s steps v h w t q ts ks us l k b d x told y also =
     record_is s steps (keeping v h w t q ts ks) l b x told ∙ sym (record_is s steps (keeping v h w t q ts us) k d y also)
@@ -155,13 +154,13 @@ unfolding recorded_plane settle
 recorded_held s steps g l b done i h = ap (λ (x : List ℕ). get_or x i 0) done.plane ∙ go (recorded_check s steps g l (length b))
   where
     go : (x : Answer) → get_or (settle x l (run_plane s steps g l)) i 0 ≡ get_or l i 0
-    go Accepted = plane_holds s steps g l i h
-    go (Refused r) = refl
+    go (Ok tt) = plane_holds s steps g l i h
+    go (Err r) = refl
 
 -- ---- "the plane and buffer stay unchanged", and ticket 4: "A refusal reports zero for both."
 
-module _ (s : Plane) (steps : List ℕ) (g : Grid) (l b : List ℕ) {a : RecordAnswer} {r : Refusal} {m c : List ℕ} (done : Stated s steps g l b a m c) (told : a.«record» ≡ «NoRecord» r) where
-  not_accepted : recorded_check s steps g l (length b) ≡ Refused r
+module _ (s : Plane) (steps : List ℕ) (g : Grid) (l b : List ℕ) {a : RecordAnswer} {r : Refusal} {m c : List ℕ} (done : Stated s steps g l b a m c) (told : a.«record» ≡ Err r) where
+  not_accepted : recorded_check s steps g l (length b) ≡ Err r
   unfolding recorded_answer
   not_accepted = refused_refused (recorded_check s steps g l (length b)) _ (sym told ∙ done.answer)
 

@@ -7,7 +7,7 @@ ghost use Rattle.recorded.specs.Stated.{Stated};
 use crate::count::edge_count;
 use plane::{plane_check, run_noted};
 use records::put_header;
-use rules::refusals::{Answer, RecordAnswer, Recorded, Refusal};
+use rules::refusals::{RecordAnswer, Refusal};
 use rules::settings::Plane;
 
 // The first refusal of a plane whose record has a buffer of so many bytes, or none.
@@ -23,17 +23,14 @@ fn record_check(
     keep: &[u8],
     steps: &[u32],
     s: Plane,
-) -> Answer
+) -> Result<(), Refusal>
     ensures { result ≡ recorded_check s steps.now (keeping vedge.now hedge.now sqw.now sqh.now qindex.now tiles.now keep.now) plane.now room }
 {
-    let a = plane_check(plane, vedge, hedge, sqw, sqh, qindex, tiles, keep, steps, s);
-    if let Answer::Refused(r) = a {
-        return Answer::Refused(r);
-    }
+    plane_check(plane, vedge, hedge, sqw, sqh, qindex, tiles, keep, steps, s)?;
     if room < 5 + 10 * edge_count(vedge, hedge, s) {
-        return Answer::Refused(Refusal::Buffer);
+        return Err(Refusal::Buffer);
     }
-    Answer::Accepted
+    Ok(())
 }
 
 // Deblocks a plane, writes the record of its edges, answers the record's length and tells how many samples were stored and changed; or refuses,
@@ -57,9 +54,9 @@ pub fn record_plane(
     let a = record_check(
         plane, room, vedge, hedge, sqw, sqh, qindex, tiles, keep, steps, s,
     );
-    if let Answer::Refused(r) = a {
+    if let Err(r) = a {
         return RecordAnswer {
-            record: Recorded::Refused(r),
+            record: Err(r),
             stored: 0,
             changed: 0,
         };
@@ -69,7 +66,7 @@ pub fn record_plane(
         plane, buffer, vedge, hedge, sqw, sqh, qindex, tiles, keep, steps, s,
     );
     RecordAnswer {
-        record: Recorded::Bytes(done.bytes),
+        record: Ok(done.bytes),
         stored: done.stored,
         changed: done.changed,
     }

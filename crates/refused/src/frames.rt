@@ -9,7 +9,7 @@ use by_settings::places::Place;
 use by_settings::{kinds, places};
 use frame_by_settings::lists::Outcome;
 use plane_checks::starts::tiles_check;
-use rules::refusals::{Answer, Refusal, number, place};
+use rules::refusals::{Refusal, number, place};
 use rules::settings::Frame;
 use settings::lines::{line_with, lines_of};
 use streams::job::Job;
@@ -34,8 +34,8 @@ pub fn starts_good(shorts: &[u16], places: &[usize], f: Frame) -> bool
     let a = at.tiles;
     let b = at.tilesend;
     match tiles_check(&shorts[a..b], f.lumastride / 4) {
-        Answer::Accepted => true,
-        Answer::Refused(_) => false,
+        Ok(()) => true,
+        Err(_) => false,
     }
 }
 
@@ -103,8 +103,8 @@ pub fn deblocked(told: &Target, o: Outcome, f: Frame, starts: bool, text: &[u8])
     let a = o.answer;
     let at = o.place;
     match a {
-        Answer::Accepted => true,
-        Answer::Refused(r) => {
+        Ok(()) => true,
+        Err(r) => {
             say_refused(told, r, at, f, starts, text);
             false
         }

@@ -4,9 +4,9 @@ use Rattle.std.specs.Prelude.{◌≡◌, ℕ, ◌*◌, ◌%◌, ◌≤◌, Bool,
 use Rattle.rules.specs.declared.edge.Edge.{Edge}
 use Rattle.rules.specs.declared.settings.Replay.{Replay}
 use Rattle.rules.specs.declared.refusals.Refusal.TheVariants.{Cell, Room, Sample}
-use Rattle.rules.specs.declared.refusals.Answer.{Answer}
+use Rattle.rules.specs.Refusals.{Answer}
 use Rattle.rules.specs.declared.refusals.PlaneAnswer.{PlaneAnswer}
-use Rattle.rules.specs.declared.refusals.Found.TheVariants.{Nothing}
+use Rattle.std.specs.declared.option.Option.TheVariants.{None}
 use Rattle.rules.specs.Numbers.{depth_ok, top_of}
 use Rattle.rules.specs.Refusals.{or_else, found}
 use Rattle.rules.specs.Segment.{kept_in, run_edges}
@@ -24,7 +24,7 @@ pub record Sized (s : Replay) : Type 0 where
 -- there is a header, and every entry is in range
 pub record Ranged (bytes : List ℕ) : Type 0 where
   pub header_there : 5 ≤ length bytes
-  pub entries_ok : bad_entry bytes ≡ Nothing
+  pub entries_ok : bad_entry bytes ≡ None
 
 -- a good record, a plane of so many samples and so many keep marks, before 6, 7 and 8 are asked
 pub record Roomy (s : Replay) (bytes : List ℕ) (size marks : ℕ) : Type 0 where
@@ -42,7 +42,7 @@ room_check s bytes keep l = or_else (found (bad_keep (s.rows * s.cols) keep) Cel
 pub record Runnable (s : Replay) (bytes : List ℕ) (size top : ℕ) : Type 0 where
   pub sized : Sized s
   pub ranged : Ranged bytes
-  pub room : no_room_in s bytes ≡ Nothing
+  pub room : no_room_in s bytes ≡ None
   pub plane_long : 4 * s.rows * s.stride ≤ size
   pub top_is : top ≡ top_of s.depth
 

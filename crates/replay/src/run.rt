@@ -8,7 +8,7 @@ use checks::asked;
 use kept::filter_marked;
 use rules::counts::Counts;
 use rules::depth::Depth;
-use rules::refusals::{Answer, PlaneAnswer};
+use rules::refusals::PlaneAnswer;
 use rules::settings::Replay;
 use std::num::wrapping_add_usize;
 
@@ -45,9 +45,9 @@ pub fn replay_plane(plane: &mut [u16], bytes: &[u8], keep: &[u8], s: Replay) -> 
     ensures { Replayed s bytes.now keep.now plane.old result plane.new }
 {
     let a = replay_check(plane, bytes, keep, s);
-    if let Answer::Refused(r) = a {
+    if let Err(r) = a {
         return PlaneAnswer {
-            answer: Answer::Refused(r),
+            answer: Err(r),
             stored: 0,
             changed: 0,
         };
@@ -56,7 +56,7 @@ pub fn replay_plane(plane: &mut [u16], bytes: &[u8], keep: &[u8], s: Replay) -> 
     let n = asked(keep, s.rows * s.cols);
     let done = run_record(plane, bytes, &keep[..n], s, depth.top());
     PlaneAnswer {
-        answer: Answer::Accepted,
+        answer: Ok(()),
         stored: done.stored,
         changed: done.changed,
     }

@@ -9,7 +9,7 @@ use crate::load::Records;
 use crate::say;
 use pictures::planes::Shape;
 use replay::replay_plane;
-use rules::refusals::Answer;
+
 use rules::settings::Replay;
 use streams::job::Job;
 use streams::read::{next_mark, read_frame};
@@ -47,7 +47,7 @@ fn run_plane(
         },
     );
     let answer = a.answer;
-    if let Answer::Refused(r) = answer {
+    if let Err(r) = answer {
         say::refused(told, p, r, s);
         return false;
     }

@@ -13,11 +13,10 @@ use Rattle.laws.specs.Lists.{Each, each_map, each_both}
 use Rattle.rules.specs.declared.edge.Edge.{Edge}
 use Rattle.rules.specs.declared.settings.Plane.{Plane}
 use Rattle.rules.specs.declared.refusals.Refusal.TheVariants.{Size, Sample}
-use Rattle.rules.specs.declared.refusals.Answer.TheVariants.{Accepted}
-use Rattle.rules.specs.declared.refusals.Found.TheVariants.{Nothing}
+use Rattle.std.specs.declared.result.Result.TheVariants.{Ok}
+use Rattle.std.specs.declared.option.Option.TheVariants.{None}
 use Rattle.rules.specs.declared.refusals.PlaneAnswer.{PlaneAnswer}
 use Rattle.rules.specs.declared.refusals.RecordAnswer.{RecordAnswer}
-use Rattle.rules.specs.declared.refusals.Recorded.TheVariants.{Bytes}
 use Rattle.rules.specs.Numbers.{top_of}
 use Rattle.rules.specs.Refusals.{settle}
 use Rattle.rules.specs.Segment.{ranges_ok, has_room, run_edges}
@@ -42,7 +41,7 @@ use Rattle.round_trip.specs.Again.{again_of}
 
 -- ---- an accepted plane's edges, as a record
 
-module _ (s : Plane) (steps : List ℕ) (g : Grid) (l : List ℕ) (ok : plane_check s steps g l ≡ Accepted) where
+module _ (s : Plane) (steps : List ℕ) (g : Grid) (l : List ℕ) (ok : plane_check s steps g l ≡ Ok tt) where
   abbrev edges : List Edge
   edges = edges_of s steps g
 
@@ -83,13 +82,13 @@ module _ (s : Plane) (steps : List ℕ) (g : Grid) (l : List ℕ) (ok : plane_ch
       let r = all_parts _ _ q.1 in
       sym (all_ok _ _ _ (sym p.0) (all_ok _ _ _ (sym q.0) (all_ok _ _ _ (sym r.0) all_none)))
 
-  again_clean : over_replay (again_of s) l ≡ Nothing
+  again_clean : over_replay (again_of s) l ≡ None
   unfolding plane_check over_plane
   again_clean =
       found_nothing _ Sample (else_parts _ _ (else_parts _ _ (else_parts _ _ (else_parts _ _ (else_parts _ _ (else_parts _ _ (else_parts _ _ (else_parts _ _ ok).1).1).1).1).1).1).1).1
 
   -- the record is accepted with the plane and the keep marks as they were lent
-  pub again_accepted : replay_check (again_of s) (record_of edges) g.keep l ≡ Accepted
+  pub again_accepted : replay_check (again_of s) (record_of edges) g.keep l ≡ Ok tt
   again_accepted =
       let long = lengths s g (length l) checks.lengths in
       record_accepted (again_of s) edges edges_written g.keep l checks.depth again_sizes long.samples long.lists.keep (marks_good checks) again_clean
@@ -118,15 +117,15 @@ module _ (s : Plane) (steps : List ℕ) (g : Grid) (l : List ℕ) (ok : plane_ch
 
 -- whatever ticket 1's entry may answer and leave, n bytes, the plane m and the buffer c, ticket 2's accepts those bytes with the plane and the keep marks as they
 -- were lent, leaves m and tells the same counts; ticket 7: "records of Ticket 2 are run with the same marks"
-module _ (s : Plane) (steps : List ℕ) (g : Grid) (l b : List ℕ) {a : RecordAnswer} {n : ℕ} {m c : List ℕ} (written : Stated s steps g l b a m c) (told : a.«record» ≡ Bytes n)
+module _ (s : Plane) (steps : List ℕ) (g : Grid) (l b : List ℕ) {a : RecordAnswer} {n : ℕ} {m c : List ℕ} (written : Stated s steps g l b a m c) (told : a.«record» ≡ Ok n)
     {x : PlaneAnswer} {k : List ℕ} (done : Replayed (again_of s) (take n c) g.keep l x k) where
-  ok : plane_check s steps g l ≡ Accepted
+  ok : plane_check s steps g l ≡ Ok tt
   ok = plane_passed s steps g l b written told
 
   is : take n c ≡ record_of (edges_of s steps g)
   is = record_is s steps g l b written told
 
-  pub round_trip : (x.answer ≡ Accepted) × (k ≡ m)
+  pub round_trip : (x.answer ≡ Ok tt) × (k ≡ m)
   round_trip = (
     done.answer ∙ ap (λ (r : List ℕ). replay_check (again_of s) r g.keep l) is ∙ again_accepted s steps g l ok,
     done.plane ∙ ap (λ (r : List ℕ). replay_after (again_of s) r g.keep l) is ∙ again_plane s steps g l ok ∙ sym (plane_ran s steps g l b written told),

@@ -22,38 +22,17 @@ pub enum Refusal {
     Spent,
 }
 
-// What a check, or an entry that gives back nothing but the lent lists, answers.
+// Both thresholds of an edge.
 #[derive(Clone, Copy)]
-pub enum Answer {
-    Accepted,
-    Refused(Refusal),
-}
-
-// Both thresholds of an edge, q and side, or why there are none.
-#[derive(Clone, Copy)]
-pub enum Thresholds {
-    Both(u32, u32),
-    Refused(Refusal),
-}
-
-// How many bytes a recorded plane's record takes, or why there is none.
-#[derive(Clone, Copy)]
-pub enum Recorded {
-    Bytes(usize),
-    Refused(Refusal),
-}
-
-// How many samples after the edge a lone segment filtered, or why it did not.
-#[derive(Clone, Copy)]
-pub enum Width {
-    Samples(usize),
-    Refused(Refusal),
+pub struct Thresholds {
+    pub q: u32,
+    pub side: u32,
 }
 
 // A lone segment's width or refusal, how many samples it stored, and how many of those differ from before.
 #[derive(Clone, Copy)]
 pub struct LoneAnswer {
-    pub width: Width,
+    pub width: Result<usize, Refusal>,
     pub stored: usize,
     pub changed: usize,
 }
@@ -61,7 +40,7 @@ pub struct LoneAnswer {
 // A plane's or a frame's answer, how many samples it stored, and how many of those differ from before.
 #[derive(Clone, Copy)]
 pub struct PlaneAnswer {
-    pub answer: Answer,
+    pub answer: Result<(), Refusal>,
     pub stored: usize,
     pub changed: usize,
 }
@@ -69,16 +48,9 @@ pub struct PlaneAnswer {
 // The same of a recorded plane, with its record's length or refusal.
 #[derive(Clone, Copy)]
 pub struct RecordAnswer {
-    pub record: Recorded,
+    pub record: Result<usize, Refusal>,
     pub stored: usize,
     pub changed: usize,
-}
-
-// What a search for the first bad place found.
-#[derive(Clone, Copy)]
-pub enum Found {
-    At(usize),
-    Nothing,
 }
 
 // Document 01's number of a refusal.

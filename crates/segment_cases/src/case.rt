@@ -3,7 +3,7 @@ ghost use Rattle.std.specs.Prelude.{◌≡◌, length};
 ghost use Rattle.text.specs.Lists.{Fills};
 
 use lone::filter_lone;
-use rules::refusals::{LoneAnswer, Width};
+use rules::refusals::{LoneAnswer, Refusal};
 use rules::settings::Lone;
 use tally::Tally;
 use text::{Answered, Cursor};
@@ -89,10 +89,10 @@ fn read(text: &[u8], c: Cursor, plane: &mut [u16]) -> Case
 }
 
 // Whether the width or the refusal is the stream's.
-fn same_width(width: Width, told: Answered) -> bool {
+fn same_width(width: Result<usize, Refusal>, told: Answered) -> bool {
     match width {
-        Width::Samples(w) => told.number == 0 && w == told.place,
-        Width::Refused(r) => tally::refused(r, told.number, told.place),
+        Ok(w) => told.number == 0 && w == told.place,
+        Err(r) => tally::refused(r, told.number, told.place),
     }
 }
 

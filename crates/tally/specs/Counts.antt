@@ -3,8 +3,8 @@ use Rattle.std.specs.Prelude.{ℕ, ◌+◌, ◌%◌, ◌^◌, Bool, List, [], �
 use Rattle.laws.specs.Choose.{pick, both}
 use Rattle.rules.specs.Refusals.{number_of, place_refused}
 use Rattle.rules.specs.declared.refusals.Refusal.{Refusal}
-use Rattle.rules.specs.declared.refusals.Answer.{Answer}
-use Rattle.rules.specs.declared.refusals.Answer.TheVariants.{Accepted, Refused}
+use Rattle.rules.specs.Refusals.{Answer}
+use Rattle.std.specs.declared.result.Result.TheVariants.{Ok, Err}
 use Rattle.rules.specs.declared.refusals.PlaneAnswer.{PlaneAnswer}
 use Rattle.tally.specs.declared.Tally.{Tally}
 
@@ -48,8 +48,8 @@ is_refusal r n k = both (number_of r == n) (place_refused r == k)
 
 -- an answer is what the stream says: accepted where the number is 0
 unfoldable pub is_answer : Answer → ℕ → ℕ → Bool
-is_answer Accepted n k = n == 0
-is_answer (Refused r) n k = is_refusal r n k
+is_answer (Ok tt) n k = n == 0
+is_answer (Err r) n k = is_refusal r n k
 
 -- an answer with its counts is what the stream says
 unfoldable pub is_counted : PlaneAnswer → ℕ → ℕ → ℕ → ℕ → Bool

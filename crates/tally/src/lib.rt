@@ -5,7 +5,7 @@ ghost use Rattle.std.specs.Prelude.{◌≡◌};
 ghost use Rattle.tally.specs.Counts.{next_of, no_counts, unread_more, no_case, number_more, case_more, width_more, is_refusal, is_answer, is_counted};
 
 use rules::refusals;
-use rules::refusals::{Answer, PlaneAnswer, Refusal};
+use rules::refusals::{PlaneAnswer, Refusal};
 use std::io::Write;
 use std::num::wrapping_add_u64;
 use system::bytes::{print_decimal, write_all};
@@ -101,12 +101,12 @@ pub fn refused(r: Refusal, number: usize, place: usize) -> bool
 }
 
 // Whether an answer is the refusal of this number and place, or accepts where the number is 0.
-pub fn same(answer: Answer, number: usize, place: usize) -> bool
+pub fn same(answer: Result<(), Refusal>, number: usize, place: usize) -> bool
     ensures { result ≡ is_answer answer number place }
 {
     match answer {
-        Answer::Accepted => number == 0,
-        Answer::Refused(r) => refused(r, number, place),
+        Ok(()) => number == 0,
+        Err(r) => refused(r, number, place),
     }
 }
 

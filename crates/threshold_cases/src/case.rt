@@ -62,7 +62,7 @@ fn read(text: &[u8], c: Cursor) -> Case {
 fn same(answer: Thresholds, c: Case) -> bool {
     match answer {
         Thresholds::Both(q, side) => c.number == 0 && q as usize == c.a && side as usize == c.b,
-        Thresholds::Refused(r) => c.b == 0 && tally::refused(r, c.number, c.a),
+        Err(r) => c.b == 0 && tally::refused(r, c.number, c.a),
     }
 }
 

@@ -1,6 +1,6 @@
 // Both thresholds of a block by its qindex, in a table that a plane makes once and reads at each edge.
 ghost use Rattle.std.specs.Prelude.{◌≡◌, true, ◌/◌, ◌%◌};
-ghost use Rattle.rules.specs.declared.refusals.Answer.TheVariants.{Accepted};
+ghost use Rattle.std.specs.declared.result.Result.TheVariants.{Ok};
 ghost use Rattle.rules.specs.Numbers.{depth_ok, delta_ok};
 ghost use Rattle.rules.specs.SideTable.{side_table};
 ghost use Rattle.rules.specs.Thresholds.{both_of, steps_check};
@@ -23,7 +23,7 @@ fn packed(
     depth: Depth,
     steps: &[u32],
 ) -> u32
-    requires { (sides.now ≡ side_table) × (depth_ok depth.bits ≡ true) × (delta_ok deltaq ≡ true) × (delta_ok deltaside ≡ true) × (steps_check steps.now ≡ Accepted) }
+    requires { (sides.now ≡ side_table) × (depth_ok depth.bits ≡ true) × (delta_ok deltaq ≡ true) × (delta_ok deltaside ≡ true) × (steps_check steps.now ≡ Ok tt) }
     ensures { result ≡ packed_of depth.bits steps.now deltaq deltaside qindex }
 {
     let q = df_quant_from_qindex(index(qindex, deltaq), depth, steps);
@@ -44,7 +44,7 @@ fn steady_from(deltaq: i32, deltaside: i32, depth: Depth) -> usize
 
 // The table: a qindex above 1415 = 8·128 + 96 + 295 gives what 1415 gives, and so does each from which on all are alike.
 pub fn thresholds_by_qindex(deltaq: i32, deltaside: i32, depth: Depth, steps: &[u32]) -> [u32; 1416]
-    requires { (depth_ok depth.bits ≡ true) × (delta_ok deltaq ≡ true) × (delta_ok deltaside ≡ true) × (steps_check steps.now ≡ Accepted) }
+    requires { (depth_ok depth.bits ≡ true) × (delta_ok deltaq ≡ true) × (delta_ok deltaside ≡ true) × (steps_check steps.now ≡ Ok tt) }
     ensures { ByQindex depth.bits steps.now deltaq deltaside result }
 {
     let sides = SIDE_THRESHOLDS;

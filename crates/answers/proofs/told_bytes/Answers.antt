@@ -4,8 +4,8 @@ use native.Mathlib.Omega.{arith}
 use borrow.Author.Rules.{rules}
 use Rattle.answers.proofs.told_bytes.Goals as goal
 
-pub returns-in-Bytes : goal.returns-in-Bytes
-returns-in-Bytes c = bytes_told _ c.requires c.in-Bytes.is c.count.ensures
+pub returns-in-Ok : goal.returns-in-Ok
+returns-in-Ok c = bytes_told _ c.requires c.in-Ok.is c.count.ensures
 
-pub returns-in-Refused : goal.returns-in-Refused
-returns-in-Refused c = bytes_refused _ c.in-Refused.is c.place.ensures c.put.ensures c.minus.ensures
+pub returns-in-Err : goal.returns-in-Err
+returns-in-Err c = bytes_refused _ c.in-Err.is c.place.ensures c.put.ensures c.minus.ensures

@@ -4,8 +4,8 @@ use mathlib.Core.Path.{sym, ◌∙◌}
 use borrow.Author.Rules.{rules}
 use Rattle.ccso.proofs.apply.apply_edge_gated.Goals as goal
 
-pub returns-in-Refused : goal.returns-in-Refused
-returns-in-Refused c = search entry
+pub returns-in-Err : goal.returns-in-Err
+returns-in-Err c = search entry
 
 pub run-requires : goal.run-requires
 run-requires c = let p = accepted _ _ _ _ _ (sym c.check-a.ensures ∙ c.in_default.is) in record { ranges = p.0; ccso_fits = p.1 }

@@ -21,8 +21,8 @@ count_of-requires c = search admitted
 pub bad_offset-requires : goal.bad_offset-requires
 bad_offset-requires c = offsets_there _ _ _ _ _ (passed_yes _ _ c.lengths_ok.ensures c.if-not-lengths_ok.false-raw) _ (passed_yes _ _ c.settings_ok.ensures c.if-not-settings_ok.false-raw) c.count_of.ensures
 
-pub returns-in-At : goal.returns-in-At
-returns-in-At c = search answers
+pub returns-in-Some : goal.returns-in-Some
+returns-in-Some c = search answers
 
 pub samples_ok-requires : goal.samples_ok-requires
 samples_ok-requires c =

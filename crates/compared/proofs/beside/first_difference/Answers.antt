@@ -2,7 +2,7 @@
 use Rattle.compared.proofs.Apart.{apart, apart_more, apart_found, apart_end}
 use Rattle.checks.proofs.First.{first_none}
 use Rattle.rules.specs.Refusals.{first}
-use Rattle.rules.specs.declared.refusals.Found.TheVariants.{Nothing}
+use Rattle.std.specs.declared.option.Option.TheVariants.{None}
 use native.Mathlib.Omega.{arith}
 use Prim.Native.Nat.{◌-◌, ◌≤◌, min}
 use mathlib.Core.Path.{◌≡◌, ap₂, ◌∙◌}

@@ -12,8 +12,8 @@ late-a-requires c =
     let p = c.requires in
     record { sampled = (p.stepped.1.sampled, λ on. ((p.stepped_2 on).1.sampled, (p.stepped_2 on).2.sampled)); marked = (marked p.stepped.1, λ on. marked (p.stepped_2 on).1) }
 
-pub returns-in-Refused : goal.returns-in-Refused
-returns-in-Refused c = rw c.refused.ensures (late_stop _ _ _ _ _ (c.late-a.ensures _ _ _ _) c.in-Refused.is)
+pub returns-in-Err : goal.returns-in-Err
+returns-in-Err c = rw c.refused.ensures (late_stop _ _ _ _ _ (c.late-a.ensures _ _ _ _) c.in-Err.is)
 
 pub run_planes-n-requires : goal.run_planes-n-requires
 run_planes-n-requires c =

@@ -8,9 +8,9 @@ use Rattle.frame.proofs.Ways.{frame_refused, frame_built_holds}
 use borrow.Author.Rules.{rules}
 use Rattle.frame.proofs.frame.deblock_frame.Goals as goal
 
-pub returns-in-Refused : goal.returns-in-Refused
-returns-in-Refused c =
-    rw c.refused.ensures (frame_refused _ _ _ _ _ c.grid_lengths-luma.ensures c.grid_lengths-chroma.ensures (c.frame_early-a.ensures _) c.in-Refused.is)
+pub returns-in-Err : goal.returns-in-Err
+returns-in-Err c =
+    rw c.refused.ensures (frame_refused _ _ _ _ _ c.grid_lengths-luma.ensures c.grid_lengths-chroma.ensures (c.frame_early-a.ensures _) c.in-Err.is)
 
 pub build-requires : goal.build-requires
 build-requires c =

@@ -4,16 +4,16 @@ use Rattle.checks.proofs.Checks.{stop_by, go_on_by}
 use Rattle.frame_checks.proofs.Accepted.{shape_sized, luma_keep, chroma_keep}
 use Rattle.frame_checks.proofs.early.frame_early.Goals as goal
 
-pub returns-in-Refused : goal.returns-in-Refused
+pub returns-in-Err : goal.returns-in-Err
 unfolding frame_early
-returns-in-Refused c = λ q. stop_by _ _ _ c.frame_shape-a.ensures c.in-Refused.is
+returns-in-Err c = λ q. stop_by _ _ _ c.frame_shape-a.ensures c.in-Err.is
 
 pub frame_given-b-requires : goal.frame_given-b-requires
 frame_given-b-requires c = shape_sized _ _ c.frame_shape-a.ensures c.in_default.is
 
-pub returns-in-Refused-b : goal.returns-in-Refused-b
+pub returns-in-Err-b : goal.returns-in-Err-b
 unfolding frame_early
-returns-in-Refused-b c = λ q. go_on_by _ _ _ _ c.frame_shape-a.ensures c.in_default.is (stop_by _ _ _ (c.frame_given-b.ensures q) c.in-Refused-b.is)
+returns-in-Err-b c = λ q. go_on_by _ _ _ _ c.frame_shape-a.ensures c.in_default.is (stop_by _ _ _ (c.frame_given-b.ensures q) c.in-Err-b.is)
 
 pub frame_keep-requires : goal.frame_keep-requires
 frame_keep-requires c =

@@ -8,9 +8,9 @@ pub returns-then-not-is : goal.returns-then-not-is
 unfolding frame_shape
 returns-then-not-is c = stop _ _ (unless_bad _ _ (told_no _ _ c.is.ensures c.if-not-is.true))
 
-pub returns-in-Refused : goal.returns-in-Refused
+pub returns-in-Err : goal.returns-in-Err
 unfolding frame_shape
-returns-in-Refused c = go_on _ _ _ (unless_good _ _ (told_yes _ _ c.is.ensures c.if-not-is.false)) (stop_by _ _ _ c.frame_sizes-a.ensures c.in-Refused.is)
+returns-in-Err c = go_on _ _ _ (unless_good _ _ (told_yes _ _ c.is.ensures c.if-not-is.false)) (stop_by _ _ _ c.frame_sizes-a.ensures c.in-Err.is)
 
 pub returns : goal.returns
 unfolding frame_shape

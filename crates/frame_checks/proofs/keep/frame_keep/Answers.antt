@@ -4,9 +4,9 @@ use Rattle.rules.specs.Frame.{frame_keep}
 use Rattle.checks.proofs.Checks.{stop_by, go_on_by}
 use Rattle.frame_checks.proofs.keep.frame_keep.Goals as goal
 
-pub returns-in-Refused : goal.returns-in-Refused
+pub returns-in-Err : goal.returns-in-Err
 unfolding frame_keep only_if
-returns-in-Refused c = stop_by _ _ _ c.kind_keep-a.ensures c.in-Refused.is
+returns-in-Err c = stop_by _ _ _ c.kind_keep-a.ensures c.in-Err.is
 
 pub returns : goal.returns
 unfolding frame_keep only_if

@@ -5,8 +5,8 @@ use Rattle.rules.specs.declared.refusals.Refusal.TheVariants.{Leaf}
 use Rattle.checks.proofs.Checks.{checks}
 use Rattle.frame_checks.proofs.leaves.list_leaves.Goals as goal
 
-pub returns-in-At : goal.returns-in-At
-returns-in-At c = found_bad_by _ _ Leaf _ c.bad_leaf-f.ensures c.in-At.is refl
+pub returns-in-Some : goal.returns-in-Some
+returns-in-Some c = found_bad_by _ _ Leaf _ c.bad_leaf-f.ensures c.in-Some.is refl
 
 pub returns : goal.returns
 returns c = search checks

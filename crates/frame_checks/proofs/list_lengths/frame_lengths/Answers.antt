@@ -12,9 +12,9 @@ pub returns-then-not-luma_long : goal.returns-then-not-luma_long
 unfolding frame_lengths
 returns-then-not-luma_long c = stop _ _ (unless_bad _ _ (told_no _ _ c.luma_long.ensures c.if-not-luma_long.true))
 
-pub returns-in-Refused : goal.returns-in-Refused
+pub returns-in-Err : goal.returns-in-Err
 unfolding frame_lengths
-returns-in-Refused c = go_on _ _ _ (unless_good _ _ (told_yes _ _ c.luma_long.ensures c.if-not-luma_long.false)) (stop_by _ _ _ c.chroma_lengths-a.ensures c.in-Refused.is)
+returns-in-Err c = go_on _ _ _ (unless_good _ _ (told_yes _ _ c.luma_long.ensures c.if-not-luma_long.false)) (stop_by _ _ _ c.chroma_lengths-a.ensures c.in-Err.is)
 
 pub given_long-requires : goal.given_long-requires
 given_long-requires c = frame_sized _ c.requires

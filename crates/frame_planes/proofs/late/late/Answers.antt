@@ -4,11 +4,11 @@ use Rattle.checks.proofs.Checks.{stop_by, go_on_by}
 use Rattle.frame_planes.proofs.Parts.{late_is}
 use Rattle.frame_planes.proofs.late.late.Goals as goal
 
-pub returns-in-Refused : goal.returns-in-Refused
-returns-in-Refused c = λ q d ks es. stop_by _ _ _ (c.room-a.ensures q ks) c.in-Refused.is ∙ sym (late_is _ _ _ _)
+pub returns-in-Err : goal.returns-in-Err
+returns-in-Err c = λ q d ks es. stop_by _ _ _ (c.room-a.ensures q ks) c.in-Err.is ∙ sym (late_is _ _ _ _)
 
-pub returns-in-Refused-b : goal.returns-in-Refused-b
-returns-in-Refused-b c = λ q d ks es. go_on_by _ _ _ _ (c.room-a.ensures q ks) c.in_default.is (stop_by _ _ _ (c.room-b.ensures d es) c.in-Refused-b.is) ∙ sym (late_is _ _ _ _)
+pub returns-in-Err-b : goal.returns-in-Err-b
+returns-in-Err-b c = λ q d ks es. go_on_by _ _ _ _ (c.room-a.ensures q ks) c.in_default.is (stop_by _ _ _ (c.room-b.ensures d es) c.in-Err-b.is) ∙ sym (late_is _ _ _ _)
 
 pub returns : goal.returns
 returns c =

@@ -4,8 +4,8 @@ use Rattle.grid.proofs.Checked.{start_fit, start_refused, start_done}
 use Rattle.grid.proofs.Places.{tx_cells_fit}
 use Rattle.grid.proofs.start.start.Goals as goal
 
-pub returns-in-Refused : goal.returns-in-Refused
-returns-in-Refused c = start_refused c.check-a.ensures c.in-Refused.is
+pub returns-in-Err : goal.returns-in-Err
+returns-in-Err c = start_refused c.check-a.ensures c.in-Err.is
 
 pub overflow_mul-cells : goal.overflow_mul-cells
 overflow_mul-cells c = tx_cells_fit (start_fit _ _ _ _ _ _ _ _ _ c.check-a.ensures c.in_default.is).0

@@ -4,14 +4,14 @@ use Rattle.grid.proofs.Checked.{check_is, after_refused, all_fit, after_accepted
 use Rattle.grid.proofs.Places.{fit_same}
 use Rattle.grid.proofs.tx_grid.build_tx_grid.Goals as goal
 
-pub returns-in-Refused : goal.returns-in-Refused
-returns-in-Refused c =
+pub returns-in-Err : goal.returns-in-Err
+returns-in-Err c =
     after_refused _ _
     (check_is _ _ _ _ _ _ _
     c.leaves_fours-fours.ensures
     c.leaves_ok-nine.ensures)
     c.start-a.ensures
-    c.in-Refused.is
+    c.in-Err.is
 
 pub paint_lists-requires : goal.paint_lists-requires
 paint_lists-requires c =

@@ -5,11 +5,11 @@ use Rattle.rules.specs.declared.refusals.Refusal.TheVariants.{Leaf}
 use Rattle.checks.proofs.Checks.{stop, go_on, found_bad_by, found_good_by}
 use Rattle.grid.proofs.tx_grid.leaves_ok.Goals as goal
 
-pub returns-in-At : goal.returns-in-At
-returns-in-At c = stop _ _ (found_bad_by _ _ Leaf _ c.bad_leaf-f.ensures c.in-At.is refl)
+pub returns-in-Some : goal.returns-in-Some
+returns-in-Some c = stop _ _ (found_bad_by _ _ Leaf _ c.bad_leaf-f.ensures c.in-Some.is refl)
 
-pub returns-in-At-g : goal.returns-in-At-g
-returns-in-At-g c = go_on _ _ _ (found_good_by _ _ Leaf c.bad_leaf-f.ensures c.in_default.is) (found_bad_by _ _ Leaf _ c.bad_leaf-g.ensures c.in-At-g.is refl)
+pub returns-in-Some-g : goal.returns-in-Some-g
+returns-in-Some-g c = go_on _ _ _ (found_good_by _ _ Leaf c.bad_leaf-f.ensures c.in_default.is) (found_bad_by _ _ Leaf _ c.bad_leaf-g.ensures c.in-Some-g.is refl)
 
 pub returns : goal.returns
 returns c = go_on _ _ _ (found_good_by _ _ Leaf c.bad_leaf-f.ensures c.in_default.is) (found_good_by _ _ Leaf c.bad_leaf-g.ensures c.in_default-g.is)

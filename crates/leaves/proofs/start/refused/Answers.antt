@@ -4,10 +4,10 @@ use mathlib.Core.Path.{sym, ap}
 use borrow.Author.Rules.{rules}
 use Rattle.leaves.proofs.start.refused.Goals as goal
 
-pub returns-in-Accepted : goal.returns-in-Accepted
+pub returns-in-Ok : goal.returns-in-Ok
 unfolding refused_of
-returns-in-Accepted c = sym (ap refused_of c.in-Accepted.is)
+returns-in-Ok c = sym (ap refused_of c.in-Ok.is)
 
-pub returns-in-Refused : goal.returns-in-Refused
+pub returns-in-Err : goal.returns-in-Err
 unfolding refused_of
-returns-in-Refused c = sym (ap refused_of c.in-Refused.is)
+returns-in-Err c = sym (ap refused_of c.in-Err.is)

@@ -9,8 +9,8 @@ top-requires c = depth_passed _ _ _ c.lone_check-a.ensures (search rules)
 pub filter_edge-o-requires : goal.filter_edge-o-requires
 filter_edge-o-requires c = plane_passed _ _ _ c.lone_check-a.ensures (search rules) c.edge_of.ensures.0
 
-pub returns-in-Refused : goal.returns-in-Refused
-returns-in-Refused c = lone_refused _ _ _ c.lone_check-a.ensures (search rules)
+pub returns-in-Err : goal.returns-in-Err
+returns-in-Err c = lone_refused _ _ _ c.lone_check-a.ensures (search rules)
 
-pub returns-in-Accepted : goal.returns-in-Accepted
-returns-in-Accepted c = lone_accepted _ _ _ c.lone_check-a.ensures (search rules) c.edge_of.ensures.0 c.top.ensures c.filter_edge-o.ensures
+pub returns-in-Ok : goal.returns-in-Ok
+returns-in-Ok c = lone_accepted _ _ _ c.lone_check-a.ensures (search rules) c.edge_of.ensures.0 c.top.ensures c.filter_edge-o.ensures

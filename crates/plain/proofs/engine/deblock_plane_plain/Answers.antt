@@ -4,8 +4,8 @@ use Rattle.plane.proofs.Accepting.{stated_refused}
 use Rattle.plain.proofs.Plain.{whole_asks, stated_plain}
 use Rattle.plain.proofs.engine.deblock_plane_plain.Goals as goal
 
-pub returns-in-Refused : goal.returns-in-Refused
-returns-in-Refused c = stated_refused _ _ _ _ c.plane_check-a.ensures (search rules)
+pub returns-in-Err : goal.returns-in-Err
+returns-in-Err c = stated_refused _ _ _ _ c.plane_check-a.ensures (search rules)
 
 pub run_band-done-requires : goal.run_band-done-requires
 run_band-done-requires c = whole_asks _ _ _ _ c.plane_check-a.ensures (search rules)

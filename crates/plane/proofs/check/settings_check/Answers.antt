@@ -24,23 +24,23 @@ pub returns-then-not-lengths_ok : goal.returns-then-not-lengths_ok
 unfolding settings_check
 returns-then-not-lengths_ok c = go_on _ _ _ (unless_good _ _ (told_yes_not _ _ c.is.ensures c.if-not-is.false-raw)) (go_on _ _ _ (unless_good _ _ (told_yes_not _ _ c.sizes_ok.ensures c.if-not-sizes_ok.false-raw)) (stop _ _ (unless_bad _ _ (told_no_not _ _ (c.lengths_ok.ensures _) c.if-not-lengths_ok.true-raw))))
 
-pub returns-in-Refused : goal.returns-in-Refused
-returns-in-Refused c =
+pub returns-in-Err : goal.returns-in-Err
+returns-in-Err c =
     past_lengths _ _ _ _ c.is.ensures c.if-not-is.false-raw
     c.sizes_ok.ensures c.if-not-sizes_ok.false-raw
     (c.lengths_ok.ensures _) c.if-not-lengths_ok.false-raw
     (stop_by _ _ _ c.steps_check-table.ensures (search rules))
 
-pub returns-in-Refused-deltas : goal.returns-in-Refused-deltas
-returns-in-Refused-deltas c =
+pub returns-in-Err-deltas : goal.returns-in-Err-deltas
+returns-in-Err-deltas c =
     past_lengths _ _ _ _ c.is.ensures c.if-not-is.false-raw
     c.sizes_ok.ensures c.if-not-sizes_ok.false-raw
     (c.lengths_ok.ensures _) c.if-not-lengths_ok.false-raw
     (go_on _ _ _ (accepted_by _ _ c.steps_check-table.ensures (search rules)) (stop_by _ _ _ (deltas_read (record { sfits = c.struct_told-2-1.given.1.1.1.1.1.1.1.1.1.0.1 })
     (record { sfits = c.struct_told-2-1.given.1.1.1.1.1.1.1.1.1.1.0.1 }) c.deltas_check-deltas.ensures) (search rules)))
 
-pub returns-in-Refused-starts : goal.returns-in-Refused-starts
-returns-in-Refused-starts c =
+pub returns-in-Err-starts : goal.returns-in-Err-starts
+returns-in-Err-starts c =
     past_deltas _ _ _ _ c.is.ensures c.if-not-is.false-raw
     c.sizes_ok.ensures c.if-not-sizes_ok.false-raw
     (c.lengths_ok.ensures _) c.if-not-lengths_ok.false-raw

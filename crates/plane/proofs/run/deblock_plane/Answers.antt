@@ -3,8 +3,8 @@ use borrow.Author.Rules.{rules}
 use Rattle.plane.proofs.Accepting.{stated_refused, stated_run, checked_by}
 use Rattle.plane.proofs.run.deblock_plane.Goals as goal
 
-pub returns-in-Refused : goal.returns-in-Refused
-returns-in-Refused c = stated_refused _ _ _ _ c.plane_check-a.ensures (search rules)
+pub returns-in-Err : goal.returns-in-Err
+returns-in-Err c = stated_refused _ _ _ _ c.plane_check-a.ensures (search rules)
 
 pub run_plane-done-requires : goal.run_plane-done-requires
 run_plane-done-requires c = checked_by _ _ _ _ c.plane_check-a.ensures (search rules)

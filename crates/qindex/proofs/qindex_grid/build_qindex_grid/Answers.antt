@@ -6,11 +6,11 @@ use Rattle.checks.proofs.Checks.{refused_by_holds, accepted_by, settle_refused_b
 use Rattle.qindex.proofs.Checked.{q_accepted}
 use Rattle.qindex.proofs.qindex_grid.build_qindex_grid.Goals as goal
 
-pub returns-in-Refused : goal.returns-in-Refused
+pub returns-in-Err : goal.returns-in-Err
 unfolding q_grid_after
-returns-in-Refused c = (
-  refused_by_holds _ _ (c.q_check-a.ensures.of c.args.sbq.now c.args.qindex.now refl refl) c.in-Refused.is,
-  settle_refused_by _ _ _ _ (c.q_check-a.ensures.of c.args.sbq.now c.args.qindex.now refl refl) c.in-Refused.is,
+returns-in-Err c = (
+  refused_by_holds _ _ (c.q_check-a.ensures.of c.args.sbq.now c.args.qindex.now refl refl) c.in-Err.is,
+  settle_refused_by _ _ _ _ (c.q_check-a.ensures.of c.args.sbq.now c.args.qindex.now refl refl) c.in-Err.is,
 )
 
 pub qindex_grid-requires : goal.qindex_grid-requires

@@ -4,8 +4,8 @@ use borrow.Author.Rules.{rules}
 use Rattle.recorded.proofs.Recording.{plane_refused, room_refused, room_given, marks_by}
 use Rattle.recorded.proofs.entry.record_check.Goals as goal
 
-pub returns-in-Refused : goal.returns-in-Refused
-returns-in-Refused c = plane_refused _ _ _ _ _ c.plane_check-a.ensures (search rules)
+pub returns-in-Err : goal.returns-in-Err
+returns-in-Err c = plane_refused _ _ _ _ _ c.plane_check-a.ensures (search rules)
 
 pub edge_count-requires : goal.edge_count-requires
 edge_count-requires c = marks_by _ _ _ _ _ _ _ _ _ _ c.plane_check-a.ensures (search rules)

@@ -4,8 +4,8 @@ use borrow.Author.Rules.{rules}
 use Rattle.recorded.proofs.Recording.{passed_by, stated_refused, stated_run}
 use Rattle.recorded.proofs.entry.record_plane.Goals as goal
 
-pub returns-in-Refused : goal.returns-in-Refused
-returns-in-Refused c = stated_refused _ _ _ _ _ c.record_check-a.ensures (search rules)
+pub returns-in-Err : goal.returns-in-Err
+returns-in-Err c = stated_refused _ _ _ _ _ c.record_check-a.ensures (search rules)
 
 pub put_header-requires : goal.put_header-requires
 put_header-requires c = let ok = passed_by _ _ _ _ _ c.record_check-a.ensures (search rules) in omega (arith, ok.fits)

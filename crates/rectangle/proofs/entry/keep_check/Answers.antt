@@ -17,9 +17,9 @@ pub returns-then-keep-n : goal.returns-then-keep-n
 unfolding keep_check
 returns-then-keep-n c = search checks
 
-pub returns-in-At : goal.returns-in-At
+pub returns-in-Some : goal.returns-in-Some
 unfolding keep_check
-returns-in-At c = search checks
+returns-in-Some c = search checks
 
 pub returns : goal.returns
 unfolding keep_check

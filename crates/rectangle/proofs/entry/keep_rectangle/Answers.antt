@@ -3,8 +3,8 @@ use borrow.Author.Rules.{rules}
 use Rattle.rectangle.proofs.Checked.{keep_refused, keep_fit, keep_stated}
 use Rattle.rectangle.proofs.entry.keep_rectangle.Goals as goal
 
-pub returns-in-Refused : goal.returns-in-Refused
-returns-in-Refused c = search keep_refused
+pub returns-in-Err : goal.returns-in-Err
+returns-in-Err c = search keep_refused
 
 pub set_rectangle-requires : goal.set_rectangle-requires
 set_rectangle-requires c = search keep_fit

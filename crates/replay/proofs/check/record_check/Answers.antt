@@ -17,8 +17,8 @@ overflow_sub-bytes c = omega (arith, header_there _ (told_yes _ _ c.header_ok.en
 pub returns-then-bytes-ne0 : goal.returns-then-bytes-ne0
 returns-then-bytes-ne0 c = cut_refused _ (told_yes _ _ c.header_ok.ensures c.if-not-header_ok.false) (cut_at _ _ c.count-n.ensures c.if-bytes-ne0.true)
 
-pub returns-in-At : goal.returns-in-At
-returns-in-At c = entry_refused _ (told_yes _ _ c.header_ok.ensures c.if-not-header_ok.false) (cut_none _ c.if-bytes-ne0.false) c.bad_entry-bad.ensures (search rules)
+pub returns-in-Some : goal.returns-in-Some
+returns-in-Some c = entry_refused _ (told_yes _ _ c.header_ok.ensures c.if-not-header_ok.false) (cut_none _ c.if-bytes-ne0.false) c.bad_entry-bad.ensures (search rules)
 
 pub returns : goal.returns
 returns c = record_passed _ (told_yes _ _ c.header_ok.ensures c.if-not-header_ok.false) (cut_none _ c.if-bytes-ne0.false) c.bad_entry-bad.ensures (search rules)

@@ -28,8 +28,8 @@ returns-then-not-lengths_ok c =
     let its-lengths-ok = c.lengths_ok in
     go_on _ _ _ (unless_good _ _ (told_yes _ _ its-is.ensures its-if1.false)) (go_on _ _ _ (unless_good _ _ (told_yes _ _ its-sizes-ok.ensures its-if2.false)) (stop _ _ (unless_bad _ _ (told_no _ _ its-lengths-ok.ensures c.if-not-lengths_ok.true))))
 
-pub returns-in-Refused : goal.returns-in-Refused
-returns-in-Refused c =
+pub returns-in-Err : goal.returns-in-Err
+returns-in-Err c =
     record_refused _ _ _ _
     (told_yes _ _ c.is.ensures c.if-not-is.false)
     (told_yes _ _ c.sizes_ok.ensures c.if-not-sizes_ok.false)

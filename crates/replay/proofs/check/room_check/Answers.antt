@@ -5,14 +5,14 @@ use Rattle.replay.proofs.Entries.{cells_most}
 use Rattle.replay.proofs.Checking.{keep_refused, room_refused, sample_refused, room_passed}
 use Rattle.replay.proofs.check.room_check.Goals as goal
 
-pub returns-in-At : goal.returns-in-At
-returns-in-At c = keep_refused _ _ _ _ c.bad_keep-bad.ensures (search rules)
+pub returns-in-Some : goal.returns-in-Some
+returns-in-Some c = keep_refused _ _ _ _ c.bad_keep-bad.ensures (search rules)
 
-pub returns-in-At-narrow : goal.returns-in-At-narrow
-returns-in-At-narrow c = room_refused _ _ _ _ c.bad_keep-bad.ensures (search rules) c.no_room-narrow.ensures (search rules)
+pub returns-in-Some-narrow : goal.returns-in-Some-narrow
+returns-in-Some-narrow c = room_refused _ _ _ _ c.bad_keep-bad.ensures (search rules) c.no_room-narrow.ensures (search rules)
 
-pub returns-in-At-over : goal.returns-in-At-over
-returns-in-At-over c =
+pub returns-in-Some-over : goal.returns-in-Some-over
+returns-in-Some-over c =
     let its-bad-keep = c.bad_keep-bad in
     let its-no-room = c.no_room-narrow in
     let its-top = c.top in

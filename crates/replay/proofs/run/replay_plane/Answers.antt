@@ -6,8 +6,8 @@ use Rattle.replay.proofs.Checking.{replayed_refused, replayed_run, depth_by, run
 use Rattle.replay.proofs.Marked.{ran_asked}
 use Rattle.replay.proofs.run.replay_plane.Goals as goal
 
-pub returns-in-Refused : goal.returns-in-Refused
-returns-in-Refused c = replayed_refused _ _ _ _ c.replay_check-a.ensures (search rules)
+pub returns-in-Err : goal.returns-in-Err
+returns-in-Err c = replayed_refused _ _ _ _ c.replay_check-a.ensures (search rules)
 
 pub overflow_mul-s : goal.overflow_mul-s
 overflow_mul-s c = let ok = runnable_by _ _ _ _ c.replay_check-a.ensures (search rules) refl in omega (arith, cells_most ok.sized)

@@ -6,8 +6,8 @@ use Rattle.rows.proofs.check.rows_check.Goals as goal
 pub returns-then-state : goal.returns-then-state
 returns-then-state c = λ steps g is. spent_refused _ _ _ _ _ _ c.if-state.true
 
-pub returns-in-Refused : goal.returns-in-Refused
-returns-in-Refused c = λ steps g is. settings_refused _ _ _ _ _ _ c.if-state.false is (search rules)
+pub returns-in-Err : goal.returns-in-Err
+returns-in-Err c = λ steps g is. settings_refused _ _ _ _ _ _ c.if-state.false is (search rules)
 
 pub returns-then-not-counts_ok : goal.returns-then-not-counts_ok
 returns-then-not-counts_ok c = λ steps g is. counts_refused _ _ _ _ _ _ c.if-state.false is (search rules) c.counts_ok.ensures c.if-not-counts_ok.true-raw
@@ -15,8 +15,8 @@ returns-then-not-counts_ok c = λ steps g is. counts_refused _ _ _ _ _ _ c.if-st
 pub over_new-over-requires : goal.over_new-over-requires
 over_new-over-requires c = new_asks (c.requires (search rules)) _ _ c.counts_ok.ensures c.if-not-counts_ok.false-raw
 
-pub returns-in-At : goal.returns-in-At
-returns-in-At c = λ steps g is.
+pub returns-in-Some : goal.returns-in-Some
+returns-in-Some c = λ steps g is.
     sample_refused _ _ _ _ _ _ c.if-state.false is (search rules) c.counts_ok.ensures c.if-not-counts_ok.false-raw c.over_new-over.ensures (search rules)
 
 pub returns : goal.returns
