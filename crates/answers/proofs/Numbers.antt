@@ -16,7 +16,8 @@ use Rattle.rules.specs.declared.refusals.Refusal.{Refusal}
 use Rattle.rules.specs.declared.refusals.Refusal.TheVariants.{Length}
 use Rattle.rules.specs.Refusals.{Answer}
 use Rattle.std.specs.declared.result.Result.TheVariants.{Ok, Err}
-use Rattle.rules.specs.declared.refusals.PlaneAnswer.{PlaneAnswer}
+use Rattle.rules.specs.declared.counts.Counts.{Counts}
+use Rattle.rules.specs.Refusals.{answered, changed_in, stored_in}
 use Rattle.std.specs.declared.result.Result.{Result}
 use Rattle.rules.specs.declared.refusals.Refusal.{Refusal}
 use Rattle.rules.specs.Refusals.{number_of, place_refused, settle}
@@ -178,8 +179,8 @@ module _ {A : Type 0} {check : Answer} (lent new : A) (stored changed : ℕ) {p 
   filter_refused e t = record { reported = reported_refused lent new e t.0; counts_are = t.1 ∙ ap₂ (λ (s c : ℕ). tallied s c k) (settle_refused _ _ _ e) (settle_refused _ _ _ e) }
 
   -- those of a check of the entry's own
-  pub filter_on : {own : Answer} {a : PlaneAnswer} {left : A} → own ≡ check → a.answer ≡ own → left ≡ settle own lent new → a.stored ≡ settle own 0 stored → a.changed ≡ settle own 0 changed
-      → Told a.answer p z q × (m ≡ tallied a.stored a.changed k)
+  pub filter_on : {own : Answer} {a : Result Counts Refusal} {left : A} → own ≡ check → answered a ≡ own → left ≡ settle own lent new → stored_in a ≡ settle own 0 stored → changed_in a ≡ settle own 0 changed
+      → Told (answered a) p z q × (m ≡ tallied (stored_in a) (changed_in a) k)
       → FilterTold check lent new stored changed p k (to_z w32 (of_z w32 z)) left q m
   filter_on e f g s c t = record {
     reported = reported_on lent new e f g t.0;

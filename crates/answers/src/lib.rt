@@ -3,10 +3,11 @@
 
 ghost use Rattle.std.specs.Prelude.{◌≡◌, ◌+◌, ◌*◌, ◌≤◌, ◌<◌, pos, neg_ℤ, set};
 ghost use Rattle.std.specs.declared.result.Result.TheVariants.{Err};
-ghost use Rattle.rules.specs.Refusals.{number_of};
+ghost use Rattle.rules.specs.Refusals.{number_of, answered, stored_in, changed_in};
 ghost use Rattle.answers.specs.Told.{Told, Counted, Few, bytes_in, refusal_in, tallied};
 
-use rules::refusals::{PlaneAnswer, RecordAnswer, Refusal, number, place as place_of};
+use rules::counts::Counts;
+use rules::refusals::{RecordAnswer, Refusal, number, place as place_of};
 use rules::rows::RowsAnswer;
 
 // Minus the number of a refusal.
@@ -78,12 +79,20 @@ pub fn told_bytes(a: Result<usize, Refusal>, place: &mut [usize]) -> i32
 }
 
 // What is told of an entry that filters, with its counts put into a list.
-pub fn told_counts(a: PlaneAnswer, place: &mut [usize], counts: &mut [usize]) -> i32
-    ensures { Told a.answer place.old result place.new × (counts.new ≡ tallied a.stored a.changed counts.old) }
+pub fn told_counts(
+    a: Result<Counts, Refusal>,
+    place: &mut [usize],
+    counts: &mut [usize],
+) -> i32
+    ensures { Told (answered a) place.old result place.new × (counts.new ≡ tallied (stored_in a) (changed_in a) counts.old) }
 {
-    put_counts(counts, a.stored, a.changed);
-    let answer = a.answer;
-    told(answer, place)
+    match a {
+        Ok(n) => {
+            put_counts(counts, n.stored, n.changed);
+            0
+        }
+        Err(r) => told_refusal(r, place, counts),
+    }
 }
 
 // The same of a plane whose edges are recorded.

@@ -18,7 +18,9 @@ use Rattle.rules.specs.declared.refusals.Refusal.{Refusal}
 use Rattle.rules.specs.declared.refusals.Refusal.TheVariants.{Length}
 use Rattle.rules.specs.Refusals.{Answer}
 use Rattle.std.specs.declared.result.Result.TheVariants.{Ok, Err}
-use Rattle.rules.specs.declared.refusals.PlaneAnswer.{PlaneAnswer}
+use Rattle.std.specs.declared.result.Result.{Result}
+use Rattle.rules.specs.declared.counts.Counts.{Counts}
+use Rattle.rules.specs.Refusals.{answered, changed_in, stored_in}
 use Rattle.rules.specs.Refusals.{settle}
 use Rattle.rules.specs.Plane.{Grid, plane_after, plane_stored, plane_changed}
 use Rattle.rules.specs.Replay.{replay_after, replay_stored, replay_changed}
@@ -47,7 +49,7 @@ module _ (settings : List ℤ) (steps : List ℕ) (g : Grid) (l : List ℕ) {a :
   unfolding c_plane_check
   plane_refused e u = filter_refused l _ _ _ (stop_by _ _ _ is e) u
 
-  pub plane_told : {s : Plane} {x : PlaneAnswer} {m : List ℕ} → a ≡ Ok tt → s ≡ plane_of settings → «PlaneStated» s steps g l x m → Told x.answer p z q × (t ≡ tallied x.stored x.changed k)
+  pub plane_told : {s : Plane} {x : Result Counts Refusal} {m : List ℕ} → a ≡ Ok tt → s ≡ plane_of settings → «PlaneStated» s steps g l x m → Told (answered x) p z q × (t ≡ tallied (stored_in x) (changed_in x) k)
       → PlaneTold settings steps g l p k (to_z w32 (of_z w32 z)) m q t
   unfolding c_plane_check plane_after plane_stored plane_changed
   plane_told {s} {x} {m} e read d u =
@@ -67,7 +69,7 @@ module _ (settings : List ℤ) (bytes keep l : List ℕ) {p q k t : List ℕ} {z
   pub replay_short : length settings < 4 → Told (Err Length) p z q × (t ≡ tallied 0 0 k) → ReplayTold settings bytes keep l p k (to_z w32 (of_z w32 z)) l q t
   replay_short h u = filter_refused l _ _ _ (short_is 4 settings _ h) u
 
-  pub replay_told : {s : Replay} {x : PlaneAnswer} {m : List ℕ} → 4 ≤ length settings → s ≡ replay_settings settings → Replayed s bytes keep l x m → Told x.answer p z q × (t ≡ tallied x.stored x.changed k)
+  pub replay_told : {s : Replay} {x : Result Counts Refusal} {m : List ℕ} → 4 ≤ length settings → s ≡ replay_settings settings → Replayed s bytes keep l x m → Told (answered x) p z q × (t ≡ tallied (stored_in x) (changed_in x) k)
       → ReplayTold settings bytes keep l p k (to_z w32 (of_z w32 z)) m q t
   unfolding replay_after replay_stored replay_changed
   replay_told {s} {x} {m} enough read d u =

@@ -28,13 +28,11 @@ pub extern "C" fn bihargesh_segment(
     }
     let mut l = lent::samples(window);
     let s = lent::edge(depth, pair, q, side);
-    let a = filter_lone(&mut l, s);
-    let w = a.width;
-    match w {
-        Ok(n) => {
+    match filter_lone(&mut l, s) {
+        Ok(f) => {
             lent::put_samples(window, &l);
-            put_counts(counts, a.stored, a.changed);
-            count(n)
+            put_counts(counts, f.stored, f.changed);
+            count(f.width)
         }
         Err(r) => minus(r),
     }

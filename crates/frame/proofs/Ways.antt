@@ -11,7 +11,7 @@ use Rattle.rules.specs.declared.refusals.Refusal.{Refusal}
 use Rattle.rules.specs.declared.refusals.Refusal.TheVariants.{Room, Sample}
 use Rattle.rules.specs.Refusals.{Answer}
 use Rattle.std.specs.declared.result.Result.TheVariants.{Ok, Err}
-use Rattle.rules.specs.declared.refusals.PlaneAnswer.{PlaneAnswer}
+use Rattle.std.specs.declared.result.Result.{Result}
 use Rattle.std.specs.declared.option.Option.TheVariants.{None}
 use Rattle.rules.specs.declared.counts.Counts.{Counts}
 use Rattle.rules.specs.Refusals.{settle}
@@ -20,7 +20,7 @@ use Rattle.rules.specs.Frame.{Planes, Grids, Given, grids, lent, done, grid_leng
 use Rattle.checks.proofs.Checks.{else_parts, found_nothing, only_part, settle_refused, settle_accepted}
 use Rattle.frame_planes.specs.Ran.{FrameRun}
 use Rattle.frame.specs.Fit.{lengths_for}
-use Rattle.frame.specs.Stated.{refused_by, Finished, Stated}
+use Rattle.frame.specs.Stated.{Finished, Stated}
 
 -- ---- room and samples, by the accepted late checks
 
@@ -54,7 +54,7 @@ module _ (f : Frame) (l c : Grid) (p : Planes) {a : Answer} (is : a ≡ frame_la
 -- ---- the ways out of a frame whose grids are built
 
 module _ (f : Frame) (steps : List ℕ) (l c : Grid) (p : Planes) {a : Answer} (is : a ≡ frame_late f (grids l c) p) where
-  pub late_stop : {r : Refusal} → a ≡ Err r → Finished f steps (grids l c) p (refused_by r) p
+  pub late_stop : {r : Refusal} → a ≡ Err r → Finished f steps (grids l c) p (Err r) p
   late_stop e = record {
     answer = sym e ∙ is;
     planes = settle_refused _ _ _ (sym e ∙ is);
@@ -62,7 +62,7 @@ module _ (f : Frame) (steps : List ℕ) (l c : Grid) (p : Planes) {a : Answer} (
     changed = settle_refused _ _ _ (sym e ∙ is);
   }
 
-  pub late_run : {x : Counts} {q : Planes} → a ≡ Ok tt → FrameRun f steps (grids l c) p x q → Finished f steps (grids l c) p (record { answer = Ok tt; stored = x.stored; changed = x.changed }) q
+  pub late_run : {x : Counts} {q : Planes} → a ≡ Ok tt → FrameRun f steps (grids l c) p x q → Finished f steps (grids l c) p (Ok x) q
   late_run e run = record {
     answer = sym e ∙ is;
     planes = settle_accepted _ _ _ _ (sym e ∙ is) run.planes;
@@ -80,7 +80,7 @@ module _ (f : Frame) (n : Given) (p : Planes) (l c : Grid) {a : Answer} {x y : G
   unfolding frame_of or_done
   refused_is e = rw (sym is ∙ e)
 
-  pub frame_refused : {r : Refusal} → a ≡ Err r → Stated f n (lent p (grids l c)) (refused_by r) (lent p (grids l c))
+  pub frame_refused : {r : Refusal} → a ≡ Err r → Stated f n (lent p (grids l c)) (Err r) (lent p (grids l c))
   unfolding frame_stored frame_changed settle
   frame_refused e = let d = refused_is e in record { answer = rw d; lists = rw d; stored = rw d; changed = rw d }
 
@@ -88,17 +88,17 @@ module _ (f : Frame) (n : Given) (p : Planes) (l c : Grid) {a : Answer} {x y : G
   unfolding frame_of or_done
   built_is ok = rw (sym is ∙ ok)
 
-  on_built : {b : PlaneAnswer} {q : Planes} → a ≡ Ok tt → Finished f n.steps (built_grids f n (grids l c)) p b q → Stated f n (lent p (grids l c)) b (lent q (built_grids f n (grids l c)))
+  on_built : {b : Result Counts Refusal} {q : Planes} → a ≡ Ok tt → Finished f n.steps (built_grids f n (grids l c)) p b q → Stated f n (lent p (grids l c)) b (lent q (built_grids f n (grids l c)))
   unfolding frame_built frame_stored frame_changed
   on_built ok z =
       let d = built_is ok in
       record { answer = rw d z.answer; lists = rw d (ap (λ (x : Planes). lent x (built_grids f n (grids l c))) z.planes); stored = rw d z.stored; changed = rw d z.changed }
 
-  built_by : (g : Grids) {b : PlaneAnswer} {q : Planes} → a ≡ Ok tt → g ≡ built_grids f n (grids l c) → Finished f n.steps g p b q → Stated f n (lent p (grids l c)) b (lent q g)
+  built_by : (g : Grids) {b : Result Counts Refusal} {q : Planes} → a ≡ Ok tt → g ≡ built_grids f n (grids l c) → Finished f n.steps g p b q → Stated f n (lent p (grids l c)) b (lent q g)
   built_by g ok e z = rw e (on_built ok (rw e at z))
 
   -- both grids built, as l' and c'
-  pub frame_built_holds : {l' c' : Grid} {b : PlaneAnswer} {q : Planes} → a ≡ Ok tt → l' ≡ pick true (built_grid (luma_tu f) (luma_q f) n.leaves n.skips n.sbq l) l → c' ≡ pick (chroma_on f) (built_grid (chroma_tu f) (chroma_q f) n.chroma_leaves n.skips n.sbq c) c
+  pub frame_built_holds : {l' c' : Grid} {b : Result Counts Refusal} {q : Planes} → a ≡ Ok tt → l' ≡ pick true (built_grid (luma_tu f) (luma_q f) n.leaves n.skips n.sbq l) l → c' ≡ pick (chroma_on f) (built_grid (chroma_tu f) (chroma_q f) n.chroma_leaves n.skips n.sbq c) c
       → Finished f n.steps (grids l' c') p b q → Stated f n (lent p (grids l c)) b (lent q (grids l' c'))
   unfolding built_grids pick
   frame_built_holds {l'} {c'} ok luma chroma z = built_by (grids l' c') ok (ap₂ grids luma chroma) z

@@ -7,7 +7,9 @@ use lib.ListN.{length, get_or}
 use Rattle.rules.specs.declared.settings.Frame.{Frame}
 use Rattle.rules.specs.declared.refusals.Refusal.{Refusal}
 use Rattle.rules.specs.declared.refusals.Refusal.TheVariants.{Depth, Size, Length, Steps, Setting, Cell, Room, Sample, Leaf, Buffer, Header, Cut, Entry, Filled, Spent}
-use Rattle.rules.specs.declared.refusals.PlaneAnswer.{PlaneAnswer}
+use Rattle.std.specs.declared.result.Result.{Result}
+use Rattle.rules.specs.declared.counts.Counts.{Counts}
+use Rattle.rules.specs.Refusals.{answered, changed_in, stored_in}
 use Rattle.rules.specs.Refusals.{Answer}
 use Rattle.std.specs.declared.result.Result.TheVariants.{Ok, Err}
 use Rattle.rules.specs.Frame.{Planes, Given}
@@ -86,27 +88,27 @@ pub ruleset refusing = (rules, at_sample, at_room, at_leaf, at_step, of_depth, o
 
 -- ---- what a deblocked frame tells
 
-module _ {f : Frame} {n : Given} {t : Starts} {k : Keeps} {p left : Planes} {a : PlaneAnswer} (d : Deblocked f n t k p a left) where
+module _ {f : Frame} {n : Given} {t : Starts} {k : Keeps} {p left : Planes} {a : Result Counts Refusal} (d : Deblocked f n t k p a left) where
   -- a frame that lacks room has passed its early checks
-  pub luma_fit : {r : Refusal} {i : ℕ} → a.answer ≡ Err r → r ≡ Room i → LumaFit f n.leaves n.skips (length n.sbq)
+  pub luma_fit : {r : Refusal} {i : ℕ} → answered a ≡ Err r → r ≡ Room i → LumaFit f n.leaves n.skips (length n.sbq)
   unfolding deblocked
   luma_fit e is =
       let ok = room_early f n (over_zeros t k p) (sym d.answer ∙ e ∙ ap Err is) in
       record { size = length p.y; sampled = luma_sampled _ _ _ _ _ _ _ ok; built = luma_built _ _ _ _ _ _ _ ok }
 
   -- a refused one has its planes as lent
-  kept : {r : Refusal} → a.answer ≡ Err r → left ≡ p
+  kept : {r : Refusal} → answered a ≡ Err r → left ≡ p
   unfolding deblocked
   kept e = d.samples ∙ refused_kept f n (over_zeros t k p) (sym d.answer ∙ e)
 
-  as_told : {x : Answer} → a.answer ≡ x → Deblocked f n t k p (record { answer = x; stored = a.stored; changed = a.changed }) left
+  as_told : {x : Answer} → answered a ≡ x → Deblocked f n t k p (record { answer = x; stored = stored_in a; changed = changed_in a }) left
   as_told e = record { answer = sym e ∙ d.answer; samples = d.samples; stored = d.stored; changed = d.changed }
 
-  pub told_refused : {r : Refusal} {x : Place} → a.answer ≡ Err r → x ≡ refusal_place f n t.luma left r → DeblockedAt f n t k p (record { answer = Err r; place = x; stored = a.stored; changed = a.changed }) left
+  pub told_refused : {r : Refusal} {x : Place} → answered a ≡ Err r → x ≡ refusal_place f n t.luma left r → DeblockedAt f n t k p (record { answer = Err r; place = x; stored = stored_in a; changed = changed_in a }) left
   unfolding answer_place
   told_refused e g = record { deblocked = as_told e; place = rw (kept e) at g }
 
-  pub told_accepted : {x : Place} → a.answer ≡ Ok tt → x ≡ place_in 8 0 0 → DeblockedAt f n t k p (record { answer = Ok tt; place = x; stored = a.stored; changed = a.changed }) left
+  pub told_accepted : {x : Place} → answered a ≡ Ok tt → x ≡ place_in 8 0 0 → DeblockedAt f n t k p (record { answer = Ok tt; place = x; stored = stored_in a; changed = changed_in a }) left
   unfolding answer_place
   told_accepted e g = record { deblocked = as_told e; place = g }
 

@@ -11,7 +11,8 @@ use Rattle.rules.specs.declared.settings.Frame.{Frame}
 use Rattle.rules.specs.declared.refusals.Refusal.{Refusal}
 use Rattle.rules.specs.Refusals.{Answer}
 use Rattle.std.specs.declared.result.Result.TheVariants.{Ok, Err}
-use Rattle.rules.specs.declared.refusals.PlaneAnswer.{PlaneAnswer}
+use Rattle.std.specs.declared.result.Result.{Result}
+use Rattle.rules.specs.declared.counts.Counts.{Counts}
 use Rattle.rules.specs.declared.refusals.Refusal.TheVariants.{Room}
 use Rattle.std.specs.declared.option.Option.{Option}
 use Rattle.std.specs.declared.option.Option.TheVariants.{Some, None}
@@ -26,7 +27,7 @@ use Rattle.by_settings.specs.declared.places.Place.{Place}
 use Rattle.by_settings.specs.Places.{place_in, if_found}
 use Rattle.frame_by_settings.specs.Deblocked.{zeros, starts, keeps, deblocked, Deblocked, luma_grid, room_place}
 
-module _ (f : Frame) (n : Given) (p : Planes) {a : PlaneAnswer} {left : Planes} {g : Grids} {lv lh lw lt lq ls lk cv ch cw ct cq cs ck : List ℕ} where
+module _ (f : Frame) (n : Given) (p : Planes) {a : Result Counts Refusal} {left : Planes} {g : Grids} {lv lh lw lt lq ls lk cv ch cw ct cq cs ck : List ℕ} where
   pub by_zeros : Stated f n (lent p (grids (keeping lv lh lw lt lq ls lk) (keeping cv ch cw ct cq cs ck))) a (lent left g)
       → lv ≡ zeros → lh ≡ zeros → lw ≡ zeros → lt ≡ zeros → lq ≡ zeros
       → cv ≡ zeros → ch ≡ zeros → cw ≡ zeros → ct ≡ zeros → cq ≡ zeros

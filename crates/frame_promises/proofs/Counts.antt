@@ -10,7 +10,9 @@ use Rattle.rules.specs.declared.settings.Frame.{Frame}
 use Rattle.rules.specs.declared.refusals.Refusal.{Refusal}
 use Rattle.rules.specs.Refusals.{Answer}
 use Rattle.std.specs.declared.result.Result.TheVariants.{Ok, Err}
-use Rattle.rules.specs.declared.refusals.PlaneAnswer.{PlaneAnswer}
+use Rattle.std.specs.declared.result.Result.{Result}
+use Rattle.rules.specs.declared.counts.Counts.{Counts}
+use Rattle.rules.specs.Refusals.{answered, changed_in, stored_in}
 use Rattle.rules.specs.Refusals.{settle}
 use Rattle.rules.specs.Frame.{Grids, Given, Lent, chroma_on, built_grids, run_frame_stored, run_frame_changed, frame_of, frame_stored, frame_changed}
 use Rattle.promises.proofs.Counts.{plane_changed_holds, plane_stored_holds, plane_fits}
@@ -54,8 +56,8 @@ module _ (f : Frame) (n : Given) (l : Lent) where
 
   -- ---- whatever the entry may answer
 
-  module _ {a : PlaneAnswer} {m : Lent} (done : Stated f n l a m) where
-    pub counts_most : (a.stored ≤ most_stored f) × (a.changed ≤ a.stored) × (a.stored ≤ 402259968)
+  module _ {a : Result Counts Refusal} {m : Lent} (done : Stated f n l a m) where
+    pub counts_most : (stored_in a ≤ most_stored f) × (changed_in a ≤ stored_in a) × (stored_in a ≤ 402259968)
     unfolding frame_stored frame_changed settle
     counts_most = go (frame_of f n l).answer refl done.stored done.changed
       where
@@ -64,7 +66,7 @@ module _ (f : Frame) (n : Given) (l : Lent) where
         go (Err r) ok p q = (omega (arith, p), omega (arith, p, q), omega (arith, p))
 
     -- "A refusal reports zero for both."
-    pub counts_refused : {r : Refusal} → a.answer ≡ Err r → (a.stored ≡ 0) × (a.changed ≡ 0)
+    pub counts_refused : {r : Refusal} → answered a ≡ Err r → (stored_in a ≡ 0) × (changed_in a ≡ 0)
     unfolding frame_stored frame_changed settle
     counts_refused e =
         let no = sym done.answer ∙ e in (

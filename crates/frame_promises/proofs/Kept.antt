@@ -9,7 +9,9 @@ use Rattle.laws.specs.Choose.{pick}
 use Rattle.rules.specs.declared.settings.Frame.{Frame}
 use Rattle.rules.specs.Refusals.{Answer}
 use Rattle.std.specs.declared.result.Result.TheVariants.{Ok, Err}
-use Rattle.rules.specs.declared.refusals.PlaneAnswer.{PlaneAnswer}
+use Rattle.std.specs.declared.result.Result.{Result}
+use Rattle.rules.specs.declared.counts.Counts.{Counts}
+use Rattle.rules.specs.declared.refusals.Refusal.{Refusal}
 use Rattle.rules.specs.Plane.{kept_by}
 use Rattle.rules.specs.Frame.{Planes, Grids, Given, Lent, luma_plane, chroma_plane, chroma_tu, chroma_q, chroma_on, built_grid, built_grids, frame_built, or_done, frame_of}
 use Rattle.promises.proofs.Edges.{plane_held}
@@ -64,7 +66,7 @@ module _ (f : Frame) (n : Given) (l : Lent) where
 
   -- ---- whatever the entry may answer and leave
 
-  module _ {a : PlaneAnswer} {m : Lent} (done : Stated f n l a m) where
+  module _ {a : Result Counts Refusal} {m : Lent} (done : Stated f n l a m) where
     -- "never writes them"
     pub marks_as_lent : MarksAsLent l m
     marks_as_lent = rw done.lists marks_after

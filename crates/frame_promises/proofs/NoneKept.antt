@@ -14,7 +14,10 @@ use Rattle.rules.specs.declared.settings.Plane.{Plane}
 use Rattle.rules.specs.declared.refusals.Refusal.TheVariants.{Length, Cell}
 use Rattle.rules.specs.Refusals.{Answer}
 use Rattle.std.specs.declared.result.Result.TheVariants.{Ok, Err}
-use Rattle.rules.specs.declared.refusals.PlaneAnswer.{PlaneAnswer}
+use Rattle.std.specs.declared.result.Result.{Result}
+use Rattle.rules.specs.declared.counts.Counts.{Counts}
+use Rattle.rules.specs.declared.refusals.Refusal.{Refusal}
+use Rattle.rules.specs.Refusals.{answered, changed_in, stored_in}
 use Rattle.std.specs.declared.option.Option.TheVariants.{None}
 use Rattle.rules.specs.Refusals.{or_else, unless, found, only_if, settle, over_top}
 use Rattle.rules.specs.Plane.{Grid, bad_keep}
@@ -176,8 +179,8 @@ module _ (f : Frame) (n : Given) (l : Lent) (none : FrameKeepUpTo 0 f l) where
   counted (Err r) e h = refl
   counted (Ok tt) e h = h e
 
-  pub stated_unkept : {a : PlaneAnswer} {m : Lent} → Stated f n l a m
-      → (a.answer ≡ (frame_before f n (bare l)).answer) × (bare m ≡ (frame_before f n (bare l)).lists) × (a.stored ≡ frame_stored_before f n (bare l)) × (a.changed ≡ frame_changed_before f n (bare l))
+  pub stated_unkept : {a : Result Counts Refusal} {m : Lent} → Stated f n l a m
+      → (answered a ≡ (frame_before f n (bare l)).answer) × (bare m ≡ (frame_before f n (bare l)).lists) × (stored_in a ≡ frame_stored_before f n (bare l)) × (changed_in a ≡ frame_changed_before f n (bare l))
   unfolding frame_stored frame_changed frame_stored_before frame_changed_before
   stated_unkept done =
       let same = answer_before f n l good in (

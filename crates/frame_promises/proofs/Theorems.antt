@@ -13,7 +13,9 @@ use Rattle.rules.specs.declared.refusals.Refusal.{Refusal}
 use Rattle.rules.specs.declared.refusals.Refusal.TheVariants.{Depth, Size, Length, Steps, Setting, Cell, Room, Sample, Leaf, Buffer, Header, Cut, Entry, Filled, Spent}
 use Rattle.rules.specs.Refusals.{Answer}
 use Rattle.std.specs.declared.result.Result.TheVariants.{Ok, Err}
-use Rattle.rules.specs.declared.refusals.PlaneAnswer.{PlaneAnswer}
+use Rattle.std.specs.declared.result.Result.{Result}
+use Rattle.rules.specs.declared.counts.Counts.{Counts}
+use Rattle.rules.specs.Refusals.{answered, changed_in, stored_in}
 use Rattle.std.specs.declared.option.Option.{Option}
 use Rattle.std.specs.declared.option.Option.TheVariants.{Some, None}
 use Rattle.rules.specs.Refusals.{or_else, unless, found, only_if, settle}
@@ -24,8 +26,8 @@ use Rattle.frame.specs.Stated.{Stated}
 use Rattle.frame_promises.proofs.Answers.{early_of}
 
 -- any two results that the statement allows are equal: answer, every list, and both counts
-pub one_result : {f : Frame} {n : Given} {l : Lent} {a b : PlaneAnswer} {m k : Lent} → Stated f n l a m → Stated f n l b k
-    → (a.answer ≡ b.answer) × (m ≡ k) × (a.stored ≡ b.stored) × (a.changed ≡ b.changed)
+pub one_result : {f : Frame} {n : Given} {l : Lent} {a b : Result Counts Refusal} {m k : Lent} → Stated f n l a m → Stated f n l b k
+    → (answered a ≡ answered b) × (m ≡ k) × (stored_in a ≡ stored_in b) × (changed_in a ≡ changed_in b)
 one_result x y = (x.answer ∙ sym y.answer, x.lists ∙ sym y.lists, x.stored ∙ sym y.stored, x.changed ∙ sym y.changed)
 
 -- ---- 7 and 8 are not among the early checks

@@ -148,7 +148,7 @@ module _ (s : Lone) (l : List ℕ) (a : Answer) (h : a ≡ lone_check s l) where
   plane_passed e q = rw q (passed s l (sym h ∙ e)).inside
 
   -- "A refusal reports zero for both."
-  pub lone_refused : {r : Refusal} → a ≡ Err r → Stated s l record { width = Err r; stored = 0; changed = 0 } l
+  pub lone_refused : {r : Refusal} → a ≡ Err r → Stated s l (Err r) l
   unfolding lone_width answer_width lone_plane lone_stored lone_changed
   lone_refused e = record {
     width = rw (← h, e);
@@ -158,7 +158,7 @@ module _ (s : Lone) (l : List ℕ) (a : Answer) (h : a ≡ lone_check s l) where
   }
 
   pub lone_accepted : {e : Edge} {top : ℕ} {o : Outcome} {m : List ℕ} → a ≡ Ok tt → e ≡ edge_of s → top ≡ top_of s.depth → EdgeFiltered top s.stride none_kept e l o m
-      → Stated s l record { width = Ok o.width; stored = o.stored; changed = o.changed } m
+      → Stated s l (Ok (record { width = o.width; stored = o.stored; changed = o.changed })) m
   unfolding lone_width answer_width lone_plane lone_stored lone_changed
   lone_accepted {e} {top} {o} {m} q he ht f =
       let w : o.width ≡ width_at s.stride (edge_of s) l = cc f.width in

@@ -13,7 +13,8 @@ use Rattle.rules.specs.Figures.{flat}
 use Rattle.rules.specs.Orders.{orders}
 use Rattle.checks.specs.Exactly.{Exactly}
 use Rattle.checks.proofs.Exactly.{exactly}
-use Rattle.lone.specs.Exactly.{tests, answered}
+use Rattle.rules.specs.Refusals.{answered}
+use Rattle.lone.specs.Exactly.{tests}
 
 answered_is : (a : Answer) (w : ℕ) → answered (answer_width a w) ≡ a
 unfolding answer_width

@@ -17,7 +17,7 @@ use Rattle.std.specs.declared.result.Result.TheVariants.{Ok, Err}
 use Rattle.rules.specs.declared.refusals.Refusal.{Refusal}
 use Rattle.std.specs.declared.result.Result.{Result}
 use Rattle.rules.specs.declared.refusals.Refusal.{Refusal}
-use Rattle.rules.specs.declared.refusals.LoneAnswer.{LoneAnswer}
+use Rattle.rules.specs.declared.refusals.Filtered.{Filtered}
 use Rattle.rules.specs.Numbers.{top_of}
 use Rattle.rules.specs.Refusals.{settle}
 use Rattle.rules.specs.Lengths.{reach_before, reach_after}
@@ -31,7 +31,7 @@ use Rattle.segment.proofs.Edges.{fit_of}
 use Rattle.segment.proofs.Window.{window_agree}
 use Rattle.segment.proofs.Demand.{demand_3, edge_kept, edge_most, edge_length}
 use Rattle.segment.proofs.Counts.{stored_is, stored_most, changed_most}
-use Rattle.lone.specs.Stated.{Stated}
+use Rattle.lone.specs.Stated.{width_in, stored_in, changed_in, Stated}
 use Rattle.lone.proofs.Accepted.{passed}
 
 -- ---- the plane afterwards
@@ -107,15 +107,17 @@ module _ (s : Lone) (l m : List ℕ) (hl : lone_check s l ≡ Ok tt) (hm : lone_
       }
 
 -- ---- two results that the entry's statement allows are equal
-pub lone_unique : (s : Lone) (l : List ℕ) {r t : LoneAnswer} {m n : List ℕ} → Stated s l r m → Stated s l t n → (r ≡ t) × (m ≡ n)
-lone_unique s l {r} {t} a b =
-    let w : r.width ≡ t.width = a.width ∙ sym b.width in
-    let st : r.stored ≡ t.stored = a.stored ∙ sym b.stored in
-    let ch : r.changed ≡ t.changed = a.changed ∙ sym b.changed in (
-      ap (λ (x : Result ℕ Refusal). record { width = x; stored = r.stored; changed = r.changed }) w
-          ∙ ap₂ (λ (x y : ℕ). record { width = t.width; stored = x; changed = y }) st ch,
-      a.plane ∙ sym b.plane,
-    )
+same_filtered : (r t : Result Filtered Refusal) → width_in r ≡ width_in t → stored_in r ≡ stored_in t → changed_in r ≡ changed_in t → r ≡ t
+same_filtered (Ok f) (Ok g) w s c =
+    let k : f.width ≡ g.width = cc in
+    ap (λ (x : ℕ). Ok (record { width = x; stored = f.stored; changed = f.changed })) k
+    ∙ ap₂ (λ (x y : ℕ). Ok (record { width = g.width; stored = x; changed = y })) s c
+same_filtered (Ok f) (Err r) w s c = absurd (let z : ◌≡◌ {A = ℕ} 0 1 = cc in omega arith)
+same_filtered (Err r) (Ok g) w s c = absurd (let z : ◌≡◌ {A = ℕ} 0 1 = cc in omega arith)
+same_filtered (Err r) (Err t) w s c = cc
+
+pub lone_unique : (s : Lone) (l : List ℕ) {r t : Result Filtered Refusal} {m n : List ℕ} → Stated s l r m → Stated s l t n → (r ≡ t) × (m ≡ n)
+lone_unique s l {r} {t} a b = (same_filtered r t (a.width ∙ sym b.width) (a.stored ∙ sym b.stored) (a.changed ∙ sym b.changed), a.plane ∙ sym b.plane)
 
 -- ---- document 02, ticket 4: stored is 4(n+w), 0 where no sample after the edge is filtered, at most 64; and changed is never more
 module _ (s : Lone) (l : List ℕ) (h : lone_check s l ≡ Ok tt) where

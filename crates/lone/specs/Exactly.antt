@@ -2,10 +2,6 @@
 -- Assumes nothing.
 use Rattle.std.specs.Prelude.{List, [], ◌∷◌, ℕ, ◌*◌, leb, length}
 use Rattle.rules.specs.declared.settings.Lone.{Lone}
-use Rattle.rules.specs.Refusals.{Answer}
-use Rattle.std.specs.declared.result.Result.TheVariants.{Ok, Err}
-use Rattle.std.specs.declared.result.Result.{Result}
-use Rattle.rules.specs.declared.refusals.Refusal.{Refusal}
 use Rattle.rules.specs.Numbers.{depth_ok, top_of}
 use Rattle.rules.specs.Segment.{has_room}
 use Rattle.rules.specs.Lone.{edge_of, sizes_ok, settings_ok, over_edge}
@@ -20,8 +16,3 @@ tests s l =
     ∷ check 7 (ask (has_room s.columns s.rows (edge_of s)))
     ∷ check 8 (seek (over_edge (top_of s.depth) s.stride (edge_of s) l))
     ∷ []
-
--- whether there is a width, and if not why
-abbrev pub answered : Result ℕ Refusal → Answer
-answered (Ok w) = Ok tt
-answered (Err r) = Err r

@@ -12,7 +12,7 @@ use lengths::ranges::ranges_ok;
 use lengths::room::has_room;
 use rules::depth::Depth;
 use rules::edge::Edge;
-use rules::refusals::{LoneAnswer, Refusal};
+use rules::refusals::{Filtered, Refusal};
 use rules::settings::Lone;
 use segment::filter_edge;
 
@@ -98,24 +98,15 @@ fn lone_check(plane: &[u16], s: Lone) -> Result<(), Refusal>
 
 // Filters one edge of a plane, and answers how many samples after it were filtered, or why not, and how many were stored and changed; a
 // refusal leaves the plane as it was and counts none.
-pub fn filter_lone(plane: &mut [u16], s: Lone) -> LoneAnswer
+pub fn filter_lone(plane: &mut [u16], s: Lone) -> Result<Filtered, Refusal>
     ensures { Stated s plane.old result plane.new }
 {
-    let a = lone_check(plane, s);
-    match a {
-        Err(r) => LoneAnswer {
-            width: Err(r),
-            stored: 0,
-            changed: 0,
-        },
-        Ok(()) => {
-            let d = Depth { bits: s.depth };
-            let o = filter_edge(plane, s.stride, s.columns, s.rows, edge_of(s), d.top());
-            LoneAnswer {
-                width: Ok(o.width),
-                stored: o.stored,
-                changed: o.changed,
-            }
-        }
-    }
+    lone_check(plane, s)?;
+    let d = Depth { bits: s.depth };
+    let o = filter_edge(plane, s.stride, s.columns, s.rows, edge_of(s), d.top());
+    Ok(Filtered {
+        width: o.width,
+        stored: o.stored,
+        changed: o.changed,
+    })
 }

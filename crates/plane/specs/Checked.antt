@@ -5,7 +5,10 @@ use Rattle.rules.specs.declared.settings.Plane.{Plane}
 use Rattle.rules.specs.declared.refusals.Refusal.TheVariants.{Cell, Room}
 use Rattle.rules.specs.Refusals.{Answer}
 use Rattle.std.specs.declared.result.Result.TheVariants.{Ok}
-use Rattle.rules.specs.declared.refusals.PlaneAnswer.{PlaneAnswer}
+use Rattle.std.specs.declared.result.Result.{Result}
+use Rattle.rules.specs.declared.counts.Counts.{Counts}
+use Rattle.rules.specs.declared.refusals.Refusal.{Refusal}
+use Rattle.rules.specs.Refusals.{answered, changed_in, stored_in}
 use Rattle.std.specs.declared.option.Option.TheVariants.{None}
 use Rattle.rules.specs.Numbers.{depth_ok, delta_ok}
 use Rattle.rules.specs.Refusals.{or_else, found}
@@ -55,8 +58,8 @@ pub record Noted (s : Plane) (steps : List ℕ) (g : Grid) (l b : List ℕ) (a :
   pub changed : a.changed ≡ run_changed s steps g l
 
 -- all that the entry states: its answer a with the counts, and the plane afterwards m, of a plane l
-pub record Stated (s : Plane) (steps : List ℕ) (g : Grid) (l : List ℕ) (a : PlaneAnswer) (m : List ℕ) : Type 0 where
-  pub answer : a.answer ≡ plane_check s steps g l
+pub record Stated (s : Plane) (steps : List ℕ) (g : Grid) (l : List ℕ) (a : Result Counts Refusal) (m : List ℕ) : Type 0 where
+  pub answer : answered a ≡ plane_check s steps g l
   pub plane : m ≡ plane_after s steps g l
-  pub stored : a.stored ≡ plane_stored s steps g l
-  pub changed : a.changed ≡ plane_changed s steps g l
+  pub stored : stored_in a ≡ plane_stored s steps g l
+  pub changed : changed_in a ≡ plane_changed s steps g l

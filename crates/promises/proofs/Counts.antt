@@ -17,7 +17,9 @@ use Rattle.rules.specs.declared.settings.Plane.{Plane}
 use Rattle.rules.specs.declared.refusals.Refusal.{Refusal}
 use Rattle.rules.specs.Refusals.{Answer}
 use Rattle.std.specs.declared.result.Result.TheVariants.{Ok, Err}
-use Rattle.rules.specs.declared.refusals.PlaneAnswer.{PlaneAnswer}
+use Rattle.std.specs.declared.result.Result.{Result}
+use Rattle.rules.specs.declared.counts.Counts.{Counts}
+use Rattle.rules.specs.Refusals.{answered, changed_in, stored_in}
 use Rattle.rules.specs.Numbers.{top_of}
 use Rattle.rules.specs.Refusals.{settle}
 use Rattle.rules.specs.Segment.{none_kept, width_at, segment_of}
@@ -92,12 +94,12 @@ module _ (s : Plane) (steps : List ℕ) (g : Grid) (l : List ℕ) where
 
   -- ---- whatever the entry may answer
 
-  module _ {a : PlaneAnswer} {m : List ℕ} (done : Stated s steps g l a m) where
-    pub counts_sum : a.answer ≡ Ok tt → a.stored ≤ sum_by_widths s (kept_by s g) (edges_of s steps g) l
+  module _ {a : Result Counts Refusal} {m : List ℕ} (done : Stated s steps g l a m) where
+    pub counts_sum : answered a ≡ Ok tt → stored_in a ≤ sum_by_widths s (kept_by s g) (edges_of s steps g) l
     unfolding plane_stored settle
     counts_sum e = omega (arith, done.stored ∙ ap (λ (x : Answer). settle x 0 (run_stored s steps g l)) (sym done.answer ∙ e), plane_sum)
 
-    pub counts_most : (a.stored ≤ most_edges s * 64) × (a.changed ≤ a.stored) × (a.stored ≤ 134086656)
+    pub counts_most : (stored_in a ≤ most_edges s * 64) × (changed_in a ≤ stored_in a) × (stored_in a ≤ 134086656)
     unfolding plane_stored plane_changed settle
     counts_most = go (plane_check s steps g l) refl done.stored done.changed
       where
@@ -106,7 +108,7 @@ module _ (s : Plane) (steps : List ℕ) (g : Grid) (l : List ℕ) where
         go (Err r) ok p q = (omega (arith, p), omega (arith, p, q), omega (arith, p))
 
     -- "A refusal reports zero for both."
-    pub counts_refused : {r : Refusal} → a.answer ≡ Err r → (a.stored ≡ 0) × (a.changed ≡ 0)
+    pub counts_refused : {r : Refusal} → answered a ≡ Err r → (stored_in a ≡ 0) × (changed_in a ≡ 0)
     unfolding plane_stored plane_changed settle
     counts_refused e =
         let no = sym done.answer ∙ e in (

@@ -11,7 +11,10 @@ use Rattle.rules.specs.declared.edge.Edge.{Edge}
 use Rattle.rules.specs.declared.settings.Plane.{Plane}
 use Rattle.rules.specs.Refusals.{Answer}
 use Rattle.std.specs.declared.result.Result.TheVariants.{Ok, Err}
-use Rattle.rules.specs.declared.refusals.PlaneAnswer.{PlaneAnswer}
+use Rattle.std.specs.declared.result.Result.{Result}
+use Rattle.rules.specs.declared.counts.Counts.{Counts}
+use Rattle.rules.specs.declared.refusals.Refusal.{Refusal}
+use Rattle.rules.specs.Refusals.{answered}
 use Rattle.rules.specs.Numbers.{top_of}
 use Rattle.rules.specs.Refusals.{settle}
 use Rattle.rules.specs.Segment.{segment_of, run_edges}
@@ -95,8 +98,8 @@ module _ (s : Plane) (steps : List ℕ) (g : Grid) (l : List ℕ) where
 
   -- ---- the same of whatever `deblock_plane`, or the plain engine by the same statement, may answer and leave
 
-  module _ {a : PlaneAnswer} {m : List ℕ} (done : Stated s steps g l a m) where
-    pub stated_demand_3 : a.answer ≡ Ok tt → EachPromised s g (edges_of s steps g) l × (m ≡ left_by s g (edges_of s steps g) l)
+  module _ {a : Result Counts Refusal} {m : List ℕ} (done : Stated s steps g l a m) where
+    pub stated_demand_3 : answered a ≡ Ok tt → EachPromised s g (edges_of s steps g) l × (m ≡ left_by s g (edges_of s steps g) l)
     unfolding plane_after run_plane settle
     stated_demand_3 e =
         let ok : plane_check s steps g l ≡ (Ok tt) = sym done.answer ∙ e in

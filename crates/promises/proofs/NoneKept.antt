@@ -18,7 +18,10 @@ use Rattle.rules.specs.declared.settings.Plane.{Plane}
 use Rattle.rules.specs.declared.refusals.Refusal.TheVariants.{Depth, Size, Length, Cell, Room, Sample}
 use Rattle.rules.specs.Refusals.{Answer}
 use Rattle.std.specs.declared.result.Result.TheVariants.{Ok}
-use Rattle.rules.specs.declared.refusals.PlaneAnswer.{PlaneAnswer}
+use Rattle.std.specs.declared.result.Result.{Result}
+use Rattle.rules.specs.declared.counts.Counts.{Counts}
+use Rattle.rules.specs.declared.refusals.Refusal.{Refusal}
+use Rattle.rules.specs.Refusals.{answered, changed_in, stored_in}
 use Rattle.std.specs.declared.option.Option.{Option}
 use Rattle.rules.specs.Numbers.{depth_ok, top_of}
 use Rattle.rules.specs.Refusals.{or_else, unless, found, settle, first, sooner, found_unless}
@@ -131,9 +134,9 @@ module _ (s : Plane) (steps : List ℕ) (g : Grid) (l : List ℕ) (none : (k : �
     sum_unkept = stored_noted ∙ sum_widths s (edges_of s steps g) l
 
   -- of whatever the entry may answer and leave
-  pub stated_unkept : {a : PlaneAnswer} {m : List ℕ} → Stated s steps g l a m → a.answer ≡ Ok tt
-      → (m ≡ run_before (top_of s.depth) s.stride (edges_of s steps (unmarked g)) l) × (a.stored ≡ stored_before (top_of s.depth) s.stride (edges_of s steps (unmarked g)) l)
-      × (a.changed ≡ changed_before (top_of s.depth) s.stride (edges_of s steps (unmarked g)) l)
+  pub stated_unkept : {a : Result Counts Refusal} {m : List ℕ} → Stated s steps g l a m → answered a ≡ Ok tt
+      → (m ≡ run_before (top_of s.depth) s.stride (edges_of s steps (unmarked g)) l) × (stored_in a ≡ stored_before (top_of s.depth) s.stride (edges_of s steps (unmarked g)) l)
+      × (changed_in a ≡ changed_before (top_of s.depth) s.stride (edges_of s steps (unmarked g)) l)
   unfolding plane_after plane_stored plane_changed settle
   stated_unkept done e =
       let ok : plane_check s steps g l ≡ (Ok tt) = sym done.answer ∙ e in (

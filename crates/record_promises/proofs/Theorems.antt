@@ -15,7 +15,9 @@ use Rattle.rules.specs.declared.settings.Plane.{Plane}
 use Rattle.rules.specs.declared.refusals.Refusal.{Refusal}
 use Rattle.rules.specs.Refusals.{Answer}
 use Rattle.std.specs.declared.result.Result.TheVariants.{Ok, Err}
-use Rattle.rules.specs.declared.refusals.PlaneAnswer.{PlaneAnswer}
+use Rattle.std.specs.declared.result.Result.{Result}
+use Rattle.rules.specs.declared.counts.Counts.{Counts}
+use Rattle.rules.specs.Refusals.{answered, changed_in, stored_in}
 use Rattle.rules.specs.declared.refusals.RecordAnswer.{RecordAnswer}
 use Rattle.rules.specs.Refusals.{settle}
 use Rattle.rules.specs.Plane.{Grid, keeping, kept_by, is_edge, index_at, shortened_at, marks_of, indices_of, visit_of, sweep_of, column_of, turn_of, edge_at, edges_of, run_plane, run_stored, run_changed, plane_check, plane_after, plane_stored, plane_changed}
@@ -97,14 +99,14 @@ module _ (s : Plane) (steps : List ℕ) (g : Grid) (l b : List ℕ) {a : RecordA
   )
 
   -- "the plane ends as without it": the run without a record is accepted too, leaves the same plane and tells the same counts
-  module _ {x : PlaneAnswer} {p : List ℕ} (alone : «PlaneStated» s steps g l x p) where
-    pub plane_as_without : (x.answer ≡ Ok tt) × (m ≡ p)
+  module _ {x : Result Counts Refusal} {p : List ℕ} (alone : «PlaneStated» s steps g l x p) where
+    pub plane_as_without : (answered x ≡ Ok tt) × (m ≡ p)
     unfolding plane_after settle
     plane_as_without =
         let same : p ≡ run_plane s steps g l = alone.plane ∙ ap (λ (y : Answer). settle y l (run_plane s steps g l)) ok.plane in
         (alone.answer ∙ ok.plane, plane_ran ∙ sym same)
 
-    pub counts_as_without : (a.stored ≡ x.stored) × (a.changed ≡ x.changed)
+    pub counts_as_without : (a.stored ≡ stored_in x) × (a.changed ≡ changed_in x)
     unfolding plane_stored plane_changed settle
     counts_as_without = (
       counts_ran.0 ∙ sym (alone.stored ∙ ap (λ (y : Answer). settle y 0 (run_stored s steps g l)) ok.plane),

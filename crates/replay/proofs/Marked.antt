@@ -4,7 +4,10 @@ use Rattle.std.proofs.Common.{◌≡◌, ℕ, ◌*◌, ◌/◌, ◌%◌, ◌<◌
 use Rattle.rules.specs.declared.settings.Replay.{Replay}
 use Rattle.rules.specs.Refusals.{Answer}
 use Rattle.std.specs.declared.result.Result.TheVariants.{Ok}
-use Rattle.rules.specs.declared.refusals.PlaneAnswer.{PlaneAnswer}
+use Rattle.std.specs.declared.result.Result.{Result}
+use Rattle.rules.specs.declared.counts.Counts.{Counts}
+use Rattle.rules.specs.declared.refusals.Refusal.{Refusal}
+use Rattle.rules.specs.Refusals.{answered}
 use Rattle.rules.specs.Numbers.{top_of}
 use Rattle.rules.specs.Segment.{none_kept, run_edges}
 use Rattle.rules.specs.Counts.{stored_by, changed_by}
@@ -40,7 +43,7 @@ ran_asked s bytes keep l {n = n} is e asked run =
     }
 
 -- "Without kept cells all answers stay.": the plane is that of the entries' edges with nothing kept
-pub runs_unkept : (s : Replay) (bytes keep l : List ℕ) {a : PlaneAnswer} {m : List ℕ} → Replayed s bytes keep l a m → a.answer ≡ Ok tt → ((k : ℕ) → k < s.rows * s.cols → get_or keep k 0 ≡ 0)
+pub runs_unkept : (s : Replay) (bytes keep l : List ℕ) {a : Result Counts Refusal} {m : List ℕ} → Replayed s bytes keep l a m → answered a ≡ Ok tt → ((k : ℕ) → k < s.rows * s.cols → get_or keep k 0 ≡ 0)
     → m ≡ run_edges (top_of s.depth) s.stride none_kept (edges_in bytes) l
 runs_unkept s bytes keep l done e zero =
     runs_entries s bytes keep l done e

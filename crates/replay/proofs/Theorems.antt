@@ -10,7 +10,9 @@ use Rattle.rules.specs.declared.settings.Replay.{Replay}
 use Rattle.rules.specs.declared.refusals.Refusal.{Refusal}
 use Rattle.rules.specs.Refusals.{Answer}
 use Rattle.std.specs.declared.result.Result.TheVariants.{Ok, Err}
-use Rattle.rules.specs.declared.refusals.PlaneAnswer.{PlaneAnswer}
+use Rattle.std.specs.declared.result.Result.{Result}
+use Rattle.rules.specs.declared.counts.Counts.{Counts}
+use Rattle.rules.specs.Refusals.{answered, changed_in, stored_in}
 use Rattle.std.specs.declared.option.Option.TheVariants.{None}
 use Rattle.rules.specs.Numbers.{depth_ok, top_of}
 use Rattle.rules.specs.Refusals.{settle, first, sooner, found_unless, found, unless, or_else}
@@ -29,18 +31,18 @@ use Rattle.replay.specs.Fit.{in_word, held, Replayed}
 use Rattle.replay.proofs.Entries.{entry_runs}
 use Rattle.replay.proofs.Checking.{own, passed}
 
-module _ (s : Replay) (bytes keep l : List ℕ) {a : PlaneAnswer} {m : List ℕ} (done : Replayed s bytes keep l a m) where
+module _ (s : Replay) (bytes keep l : List ℕ) {a : Result Counts Refusal} {m : List ℕ} (done : Replayed s bytes keep l a m) where
   -- any two results that the statement allows are equal
-  pub one_result : {b : PlaneAnswer} {n : List ℕ} → Replayed s bytes keep l b n → (a.answer ≡ b.answer) × (m ≡ n) × (a.stored ≡ b.stored) × (a.changed ≡ b.changed)
+  pub one_result : {b : Result Counts Refusal} {n : List ℕ} → Replayed s bytes keep l b n → (answered a ≡ answered b) × (m ≡ n) × (stored_in a ≡ stored_in b) × (changed_in a ≡ changed_in b)
   one_result other = (done.answer ∙ sym other.answer, done.plane ∙ sym other.plane, done.stored ∙ sym other.stored, done.changed ∙ sym other.changed)
 
   -- "Refusals, all before writing"
-  pub refused_kept : {r : Refusal} → a.answer ≡ Err r → m ≡ l
+  pub refused_kept : {r : Refusal} → answered a ≡ Err r → m ≡ l
   unfolding replay_after settle
   refused_kept e = done.plane ∙ ap (λ (x : Answer). settle x l (replay_of s bytes keep l)) (sym done.answer ∙ e)
 
   -- ticket 4: "A refusal reports zero for both."
-  pub refused_none : {r : Refusal} → a.answer ≡ Err r → (a.stored ≡ 0) × (a.changed ≡ 0)
+  pub refused_none : {r : Refusal} → answered a ≡ Err r → (stored_in a ≡ 0) × (changed_in a ≡ 0)
   unfolding replay_stored replay_changed settle
   refused_none e =
       let no = sym done.answer ∙ e in (
@@ -49,24 +51,24 @@ module _ (s : Replay) (bytes keep l : List ℕ) {a : PlaneAnswer} {m : List ℕ}
       )
 
   -- "Any well-formed list is run": the entries' edges one after the other, on the cells or off them, once or twice
-  pub runs_entries : a.answer ≡ Ok tt → m ≡ run_edges (top_of s.depth) s.stride (held s keep) (edges_in bytes) l
+  pub runs_entries : answered a ≡ Ok tt → m ≡ run_edges (top_of s.depth) s.stride (held s keep) (edges_in bytes) l
   unfolding replay_after replay_of settle
   runs_entries e = done.plane ∙ ap (λ (x : Answer). settle x l (replay_of s bytes keep l)) (sym done.answer ∙ e)
 
   -- and so a written list of edges
-  pub runs_list : (es : List Edge) → Each InBytes es → bytes ≡ record_of es → a.answer ≡ Ok tt → m ≡ run_edges (top_of s.depth) s.stride (held s keep) es l
+  pub runs_list : (es : List Edge) → Each InBytes es → bytes ≡ record_of es → answered a ≡ Ok tt → m ≡ run_edges (top_of s.depth) s.stride (held s keep) es l
   runs_list es fit is e =
       runs_entries e ∙ ap (λ (xs : List Edge). run_edges (top_of s.depth) s.stride (held s keep) xs l) (ap edges_in is ∙ read_record es fit)
 
   -- "also one with an edge twice: the segments are applied one after the other"
-  pub runs_twice : (e : Edge) → InBytes e → bytes ≡ record_of (e ∷ e ∷ []) → a.answer ≡ Ok tt
+  pub runs_twice : (e : Edge) → InBytes e → bytes ≡ record_of (e ∷ e ∷ []) → answered a ≡ Ok tt
       → m ≡ segment_of (top_of s.depth) s.stride (held s keep) e (segment_of (top_of s.depth) s.stride (held s keep) e l)
   unfolding run_edges
   runs_twice e fit is ok = runs_list (e ∷ e ∷ []) (fit, (fit, tt)) is ok
 
 -- ---- ticket 7: "records of Ticket 2 are run with the same marks"
 
-module _ (s : Replay) (bytes keep l : List ℕ) {a : PlaneAnswer} {m : List ℕ} (done : Replayed s bytes keep l a m) where
+module _ (s : Replay) (bytes keep l : List ℕ) {a : Result Counts Refusal} {m : List ℕ} (done : Replayed s bytes keep l a m) where
   -- a sample in a kept cell is as lent, accepted or refused
   pub replay_held : (i : ℕ) → held s keep i ≡ true → get_or m i 0 ≡ get_or l i 0
   unfolding replay_after replay_of settle
@@ -188,9 +190,9 @@ module _ (s : Replay) (bytes keep l : List ℕ) where
       let all : length (edges_in bytes) ≡ entry_count bytes = edges_in_length bytes in
       omega (arith, most)
 
-  module _ {a : PlaneAnswer} {m : List ℕ} (done : Replayed s bytes keep l a m) (few : entry_count bytes < 288230376151711744) where
+  module _ {a : Result Counts Refusal} {m : List ℕ} (done : Replayed s bytes keep l a m) (few : entry_count bytes < 288230376151711744) where
     -- a record of fewer than 2^58 entries is counted as it is
-    pub counts_exact : (a.stored ≡ replay_stored s bytes keep l) × (a.changed ≡ replay_changed s bytes keep l)
+    pub counts_exact : (stored_in a ≡ replay_stored s bytes keep l) × (changed_in a ≡ replay_changed s bytes keep l)
     unfolding replay_stored replay_changed settle
     counts_exact = go (replay_check s bytes keep l) refl done.stored done.changed
       where
@@ -198,7 +200,7 @@ module _ (s : Replay) (bytes keep l : List ℕ) where
         go (Ok tt) ok p q = (omega (arith, p, replay_stored_holds ok), omega (arith, q, replay_stored_holds ok, replay_changed_holds))
         go (Err r) ok p q = (p, q)
 
-    pub counts_most : (a.stored ≤ entry_count bytes * 64) × (a.changed ≤ a.stored)
+    pub counts_most : (stored_in a ≤ entry_count bytes * 64) × (changed_in a ≤ stored_in a)
     unfolding replay_stored replay_changed settle
     counts_most = go (replay_check s bytes keep l) refl counts_exact.0 counts_exact.1
       where

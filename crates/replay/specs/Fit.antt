@@ -5,7 +5,10 @@ use Rattle.rules.specs.declared.edge.Edge.{Edge}
 use Rattle.rules.specs.declared.settings.Replay.{Replay}
 use Rattle.rules.specs.declared.refusals.Refusal.TheVariants.{Cell, Room, Sample}
 use Rattle.rules.specs.Refusals.{Answer}
-use Rattle.rules.specs.declared.refusals.PlaneAnswer.{PlaneAnswer}
+use Rattle.std.specs.declared.result.Result.{Result}
+use Rattle.rules.specs.declared.counts.Counts.{Counts}
+use Rattle.rules.specs.declared.refusals.Refusal.{Refusal}
+use Rattle.rules.specs.Refusals.{answered, changed_in, stored_in}
 use Rattle.std.specs.declared.option.Option.TheVariants.{None}
 use Rattle.rules.specs.Numbers.{depth_ok, top_of}
 use Rattle.rules.specs.Refusals.{or_else, found}
@@ -62,8 +65,8 @@ pub record Ran (s : Replay) (keep : List ℕ) (es : List Edge) (l : List ℕ) (s
   pub changed_is : changed ≡ in_word (changed_by (top_of s.depth) s.stride (held s keep) es l)
 
 -- all that the entry states: its answer a with the counts, and the plane afterwards m, of a plane l
-pub record Replayed (s : Replay) (bytes keep l : List ℕ) (a : PlaneAnswer) (m : List ℕ) : Type 0 where
-  pub answer : a.answer ≡ replay_check s bytes keep l
+pub record Replayed (s : Replay) (bytes keep l : List ℕ) (a : Result Counts Refusal) (m : List ℕ) : Type 0 where
+  pub answer : answered a ≡ replay_check s bytes keep l
   pub plane : m ≡ replay_after s bytes keep l
-  pub stored : a.stored ≡ in_word (replay_stored s bytes keep l)
-  pub changed : a.changed ≡ in_word (replay_changed s bytes keep l)
+  pub stored : stored_in a ≡ in_word (replay_stored s bytes keep l)
+  pub changed : changed_in a ≡ in_word (replay_changed s bytes keep l)

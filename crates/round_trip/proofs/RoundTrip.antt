@@ -15,7 +15,10 @@ use Rattle.rules.specs.declared.settings.Plane.{Plane}
 use Rattle.rules.specs.declared.refusals.Refusal.TheVariants.{Size, Sample}
 use Rattle.std.specs.declared.result.Result.TheVariants.{Ok}
 use Rattle.std.specs.declared.option.Option.TheVariants.{None}
-use Rattle.rules.specs.declared.refusals.PlaneAnswer.{PlaneAnswer}
+use Rattle.std.specs.declared.result.Result.{Result}
+use Rattle.rules.specs.declared.counts.Counts.{Counts}
+use Rattle.rules.specs.declared.refusals.Refusal.{Refusal}
+use Rattle.rules.specs.Refusals.{answered, changed_in, stored_in}
 use Rattle.rules.specs.declared.refusals.RecordAnswer.{RecordAnswer}
 use Rattle.rules.specs.Numbers.{top_of}
 use Rattle.rules.specs.Refusals.{settle}
@@ -118,20 +121,20 @@ module _ (s : Plane) (steps : List ℕ) (g : Grid) (l : List ℕ) (ok : plane_ch
 -- whatever ticket 1's entry may answer and leave, n bytes, the plane m and the buffer c, ticket 2's accepts those bytes with the plane and the keep marks as they
 -- were lent, leaves m and tells the same counts; ticket 7: "records of Ticket 2 are run with the same marks"
 module _ (s : Plane) (steps : List ℕ) (g : Grid) (l b : List ℕ) {a : RecordAnswer} {n : ℕ} {m c : List ℕ} (written : Stated s steps g l b a m c) (told : a.«record» ≡ Ok n)
-    {x : PlaneAnswer} {k : List ℕ} (done : Replayed (again_of s) (take n c) g.keep l x k) where
+    {x : Result Counts Refusal} {k : List ℕ} (done : Replayed (again_of s) (take n c) g.keep l x k) where
   ok : plane_check s steps g l ≡ Ok tt
   ok = plane_passed s steps g l b written told
 
   is : take n c ≡ record_of (edges_of s steps g)
   is = record_is s steps g l b written told
 
-  pub round_trip : (x.answer ≡ Ok tt) × (k ≡ m)
+  pub round_trip : (answered x ≡ Ok tt) × (k ≡ m)
   round_trip = (
     done.answer ∙ ap (λ (r : List ℕ). replay_check (again_of s) r g.keep l) is ∙ again_accepted s steps g l ok,
     done.plane ∙ ap (λ (r : List ℕ). replay_after (again_of s) r g.keep l) is ∙ again_plane s steps g l ok ∙ sym (plane_ran s steps g l b written told),
   )
 
-  pub counts_trip : (x.stored ≡ a.stored) × (x.changed ≡ a.changed)
+  pub counts_trip : (stored_in x ≡ a.stored) × (changed_in x ≡ a.changed)
   counts_trip =
       let exact = counts_exact (again_of s) (take n c) g.keep l done (rw is (again_few s steps g l ok)) in
       let run = counts_ran s steps g l b written told in (

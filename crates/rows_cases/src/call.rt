@@ -1,7 +1,6 @@
 // One call on filled rows: what the caller does before it, what it is asked, and what the stream says that it answers and leaves.
 use crate::samples;
 use rows::deblock_rows;
-use rules::refusals::PlaneAnswer;
 use rules::rows::{RowState, RowsAnswer};
 use rules::settings::Plane;
 use text::{Answered, Cursor};
@@ -97,12 +96,9 @@ fn same_state(a: RowState, b: RowState) -> bool {
 fn answered(a: RowsAnswer, call: Call) -> bool {
     let told = call.told;
     let answer = a.answer;
-    let counted = PlaneAnswer {
-        answer,
-        stored: a.stored,
-        changed: a.changed,
-    };
-    tally::same_counted(counted, told.number, told.place, told.stored, told.changed)
+    tally::same(answer, told.number, told.place)
+        && a.stored == told.stored
+        && a.changed == told.changed
         && a.finalrows == call.finalrows
         && same_state(a.state, call.next)
 }

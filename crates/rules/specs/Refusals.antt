@@ -1,6 +1,7 @@
 -- Document 01, "Refusal numbers": the number and place of each case, the order of checks, and the first bad place.
 -- Assumes nothing.
 use Rattle.std.specs.Prelude.{ℕ, zero, suc, ◌+◌, ◌*◌, Bool, true, false, List, get_or, ltb, Result, ⊤}
+use Rattle.rules.specs.declared.counts.Counts.{Counts}
 use Rattle.rules.specs.declared.refusals.Refusal.{Refusal}
 use Rattle.rules.specs.declared.refusals.Refusal.TheVariants.{Depth, Size, Length, Steps, Setting, Cell, Room, Sample, Leaf, Buffer, Header, Cut, Entry, Filled, Spent}
 use Rattle.std.specs.declared.result.Result.TheVariants.{Ok, Err}
@@ -10,6 +11,20 @@ use Rattle.std.specs.declared.option.Option.TheVariants.{Some, None}
 -- what a check answers, or an entry that gives back nothing but the lent lists
 abbrev pub Answer : Type 0
 Answer = Result ⊤ Refusal
+
+-- of an entry that answers more: whether it accepts, and if not why
+abbrev pub answered : {A : Type 0} → Result A Refusal → Answer
+answered (Ok x) = Ok tt
+answered (Err r) = Err r
+
+-- ticket 4: how many samples an entry stored and changed; "A refusal reports zero for both."
+abbrev pub stored_in : Result Counts Refusal → ℕ
+stored_in (Ok c) = c.stored
+stored_in (Err r) = 0
+
+abbrev pub changed_in : Result Counts Refusal → ℕ
+changed_in (Ok c) = c.changed
+changed_in (Err r) = 0
 
 -- the table's first column
 abbrev pub number_of : Refusal → ℕ

@@ -29,23 +29,15 @@ pub struct Thresholds {
     pub side: u32,
 }
 
-// A lone segment's width or refusal, how many samples it stored, and how many of those differ from before.
+// How many samples after a lone segment's edge were filtered, how many were stored on both sides, and how many of those differ from before.
 #[derive(Clone, Copy)]
-pub struct LoneAnswer {
-    pub width: Result<usize, Refusal>,
+pub struct Filtered {
+    pub width: usize,
     pub stored: usize,
     pub changed: usize,
 }
 
-// A plane's or a frame's answer, how many samples it stored, and how many of those differ from before.
-#[derive(Clone, Copy)]
-pub struct PlaneAnswer {
-    pub answer: Result<(), Refusal>,
-    pub stored: usize,
-    pub changed: usize,
-}
-
-// The same of a recorded plane, with its record's length or refusal.
+// A recorded plane's record: its length or the plane's refusal; how many samples were stored, and how many of those differ from before.
 #[derive(Clone, Copy)]
 pub struct RecordAnswer {
     pub record: Result<usize, Refusal>,

@@ -88,18 +88,19 @@ fn read(text: &[u8], c: Cursor, plane: &mut [u16]) -> Case
     }
 }
 
-// Whether the width or the refusal is the stream's.
-fn same_width(width: Result<usize, Refusal>, told: Answered) -> bool {
-    match width {
-        Ok(w) => told.number == 0 && w == told.place,
-        Err(r) => tally::refused(r, told.number, told.place),
+// Whether the width and both counts, or the refusal, are the stream's.
+fn same(a: Result<Filtered, Refusal>, told: Answered) -> bool {
+    match a {
+        Ok(f) => {
+            told.number == 0
+                && f.width == told.place
+                && f.stored == told.stored
+                && f.changed == told.changed
+        }
+        Err(r) => {
+            told.stored == 0 && told.changed == 0 && tally::refused(r, told.number, told.place)
+        }
     }
-}
-
-// Whether the answer and both counts are the stream's.
-fn same(a: LoneAnswer, told: Answered) -> bool {
-    let w = a.width;
-    a.stored == told.stored && a.changed == told.changed && same_width(w, told)
 }
 
 // Whether the plane is the stream's, the one after the answer or where refused the one that was lent, and the line ends where it should.

@@ -4,7 +4,9 @@ use borrow.Author.Tests.{not-true, not-false}
 use Rattle.laws.specs.Choose.{pick_yes, pick_no, both_bad, both_ok, is_lt, not_lt, is_eq, not_eq}
 use Rattle.rules.specs.Refusals.{number_of, place_refused}
 use Rattle.rules.specs.declared.refusals.Refusal.{Refusal}
-use Rattle.rules.specs.declared.refusals.PlaneAnswer.{PlaneAnswer}
+use Rattle.std.specs.declared.result.Result.{Result}
+use Rattle.rules.specs.declared.counts.Counts.{Counts}
+use Rattle.rules.specs.Refusals.{answered, changed_in, stored_in}
 use Rattle.tally.specs.declared.Tally.{Tally}
 use Rattle.tally.specs.Counts.{next_of, bumped, counts, unread_more, no_case, different_more, number_more, case_more, width_more, is_refusal, is_answer, is_counted}
 
@@ -62,17 +64,17 @@ unfolding is_refusal
 refusal_placed r m n p k e f g = both_ok _ _ _ (is_eq (number_of r) n (sym e ∙ f)) (ap (λ (x : ℕ). eqb x k) g)
 
 -- another count, and both counts: then the answer decides
-pub stored_other : (a : PlaneAnswer) (n k s t : ℕ) → (a.stored ≡ s → ⊥) → false ≡ is_counted a n k s t
+pub stored_other : (a : Result Counts Refusal) (n k s t : ℕ) → (stored_in a ≡ s → ⊥) → false ≡ is_counted a n k s t
 unfolding is_counted
-stored_other a n k s t h = both_bad _ _ (not_eq a.stored s h)
+stored_other a n k s t h = both_bad _ _ (not_eq (stored_in a) s h)
 
-pub changed_other : (a : PlaneAnswer) (n k s t : ℕ) → a.stored ≡ s → (a.changed ≡ t → ⊥) → false ≡ is_counted a n k s t
+pub changed_other : (a : Result Counts Refusal) (n k s t : ℕ) → stored_in a ≡ s → (changed_in a ≡ t → ⊥) → false ≡ is_counted a n k s t
 unfolding is_counted
-changed_other a n k s t e h = both_ok _ _ _ (is_eq a.stored s e) (both_bad _ _ (not_eq a.changed t h))
+changed_other a n k s t e h = both_ok _ _ _ (is_eq (stored_in a) s e) (both_bad _ _ (not_eq (changed_in a) t h))
 
-pub counts_same : (a : PlaneAnswer) (n k s t : ℕ) (b : Bool) → a.stored ≡ s → a.changed ≡ t → b ≡ is_answer a.answer n k → b ≡ is_counted a n k s t
+pub counts_same : (a : Result Counts Refusal) (n k s t : ℕ) (b : Bool) → stored_in a ≡ s → changed_in a ≡ t → b ≡ is_answer (answered a) n k → b ≡ is_counted a n k s t
 unfolding is_counted
-counts_same a n k s t b e f h = both_ok _ _ _ (is_eq a.stored s e) (both_ok _ _ _ (is_eq a.changed t f) h)
+counts_same a n k s t b e f h = both_ok _ _ _ (is_eq (stored_in a) s e) (both_ok _ _ _ (is_eq (changed_in a) t f) h)
 
 pub ruleset counting =
     (rules, unread_counted, line_read, line_unread, number_counted, number_unknown, case_same, case_different, width_counted, width_unknown, refusal_other, refusal_placed, stored_other, changed_other, counts_same)

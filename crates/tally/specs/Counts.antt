@@ -3,9 +3,10 @@ use Rattle.std.specs.Prelude.{ℕ, ◌+◌, ◌%◌, ◌^◌, Bool, List, [], �
 use Rattle.laws.specs.Choose.{pick, both}
 use Rattle.rules.specs.Refusals.{number_of, place_refused}
 use Rattle.rules.specs.declared.refusals.Refusal.{Refusal}
-use Rattle.rules.specs.Refusals.{Answer}
+use Rattle.rules.specs.Refusals.{Answer, answered, stored_in, changed_in}
 use Rattle.std.specs.declared.result.Result.TheVariants.{Ok, Err}
-use Rattle.rules.specs.declared.refusals.PlaneAnswer.{PlaneAnswer}
+use Rattle.std.specs.declared.result.Result.{Result}
+use Rattle.rules.specs.declared.counts.Counts.{Counts}
 use Rattle.tally.specs.declared.Tally.{Tally}
 
 -- a count and one more, as 64 bits hold it
@@ -52,5 +53,5 @@ is_answer (Ok tt) n k = n == 0
 is_answer (Err r) n k = is_refusal r n k
 
 -- an answer with its counts is what the stream says
-unfoldable pub is_counted : PlaneAnswer → ℕ → ℕ → ℕ → ℕ → Bool
+unfoldable pub is_counted : Result Counts Refusal → ℕ → ℕ → ℕ → ℕ → Bool
 is_counted a n k stored changed = both (a.stored == stored) (both (a.changed == changed) (is_answer a.answer n k))

@@ -5,7 +5,8 @@ ghost use Rattle.std.specs.Prelude.{◌≡◌};
 ghost use Rattle.tally.specs.Counts.{next_of, no_counts, unread_more, no_case, number_more, case_more, width_more, is_refusal, is_answer, is_counted};
 
 use rules::refusals;
-use rules::refusals::{PlaneAnswer, Refusal};
+use rules::counts::Counts;
+use rules::refusals::Refusal;
 use std::io::Write;
 use std::num::wrapping_add_u64;
 use system::bytes::{print_decimal, write_all};
@@ -112,7 +113,7 @@ pub fn same(answer: Result<(), Refusal>, number: usize, place: usize) -> bool
 
 // Whether a plane's or a frame's answer is this one, with both counts.
 pub fn same_counted(
-    a: PlaneAnswer,
+    a: Result<Counts, Refusal>,
     number: usize,
     place: usize,
     stored: usize,
@@ -120,14 +121,10 @@ pub fn same_counted(
 ) -> bool
     ensures { result ≡ is_counted a number place stored changed }
 {
-    let answer = a.answer;
-    if a.stored != stored {
-        return false;
+    match a {
+        Ok(n) => number == 0 && n.stored == stored && n.changed == changed,
+        Err(r) => stored == 0 && changed == 0 && refused(r, number, place),
     }
-    if a.changed != changed {
-        return false;
-    }
-    same(answer, number, place)
 }
 
 // A number after its name.

@@ -17,7 +17,8 @@ use Rattle.rules.specs.Refusals.{or_else, unless, found, sooner, first, found_un
 use Rattle.rules.specs.Thresholds.{index_of, step_of, quant_of, lowered, side_of, both_of, q_threshold, side_threshold, step_good, bad_step, steps_check, deltas_check, thresholds_check, answer_thresholds, thresholds_of}
 use Rattle.checks.specs.Exactly.{Exactly}
 use Rattle.checks.proofs.Exactly.{exactly}
-use Rattle.thresholds.specs.Exactly.{tests, answered}
+use Rattle.rules.specs.Refusals.{answered}
+use Rattle.thresholds.specs.Exactly.{tests}
 
 answered_is : (a : Answer) (q side : ℕ) → answered (answer_thresholds a q side) ≡ a
 unfolding answer_thresholds
