@@ -20,8 +20,7 @@ fn keep_check(keep: &[u8], s: Keep) -> Result<(), Refusal>
     if keep.len() < n {
         return Err(Refusal::Length);
     }
-    let f = bad_keep(keep, n);
-    if let Some(k) = f {
+    if let Some(k) = bad_keep(keep, n) {
         return Err(Refusal::Cell(k));
     }
     Ok(())
