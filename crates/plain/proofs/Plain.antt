@@ -32,7 +32,7 @@ module _ (s : Plane) (steps : List ℕ) (g : Grid) (l : List ℕ) {a : Answer} (
   edges_whole = and_then (edges_plain s steps g whole_asks.0.sizes_ok) (same_eq (sym (whole_band s steps g)))
 
   -- an accepted plane in the plain order is as document 01's order leaves it
-  pub stated_plain : {x : Visited} {m : List ℕ} → RanBand s steps g 0 s.rows l x m → Stated s steps g l (record { answer = Ok tt; stored = x.stored; changed = x.changed }) m
+  pub stated_plain : {x : Visited} {m : List ℕ} → RanBand s steps g 0 s.rows l x m → Stated s steps g l (Ok (record { stored = x.stored; changed = x.changed })) m
   unfolding plane_after plane_stored plane_changed
   stated_plain run = record {
     answer = sym e ∙ is;

@@ -234,7 +234,7 @@ module _ {s : Plane} {steps : List ℕ} (v h w t q ts ks : List ℕ) {n : ℕ} {
 -- ---- the entry
 
 module _ (s : Plane) (steps : List ℕ) (g : Grid) (l : List ℕ) {a : Answer} (is : a ≡ plane_check s steps g l) where
-  pub stated_refused : {r : Refusal} → a ≡ Err r → Stated s steps g l (record { answer = Err r; stored = 0; changed = 0 }) l
+  pub stated_refused : {r : Refusal} → a ≡ Err r → Stated s steps g l (Err r) l
   unfolding plane_after plane_stored plane_changed
   stated_refused e = record {
     answer = sym e ∙ is;
@@ -243,7 +243,7 @@ module _ (s : Plane) (steps : List ℕ) (g : Grid) (l : List ℕ) {a : Answer} (
     changed = settle_refused _ _ _ (sym e ∙ is);
   }
 
-  pub stated_run : {x : Visited} {m : List ℕ} → a ≡ Ok tt → Filtered s steps g l x m → Stated s steps g l (record { answer = Ok tt; stored = x.stored; changed = x.changed }) m
+  pub stated_run : {x : Visited} {m : List ℕ} → a ≡ Ok tt → Filtered s steps g l x m → Stated s steps g l (Ok (record { stored = x.stored; changed = x.changed })) m
   unfolding plane_after plane_stored plane_changed
   stated_run e run = record {
     answer = sym e ∙ is;

@@ -64,7 +64,7 @@ filtered_kept = (refl, refl, refl)
 -- the statement of an accepted plane, from what its run leaves and counts
 told : (kept : ℕ) {m : List ℕ} {stored changed : ℕ} → plane_check settings steps (cells kept) samples ≡ Ok tt → run_plane settings steps (cells kept) samples ≡ m
     → run_stored settings steps (cells kept) samples ≡ stored → run_changed settings steps (cells kept) samples ≡ changed
-    → Stated settings steps (cells kept) samples (record { answer = Ok tt; stored = stored; changed = changed }) m
+    → Stated settings steps (cells kept) samples (Ok (record { stored = stored; changed = changed })) m
 unfolding plane_after plane_stored plane_changed settle
 told kept ok p n k = record {
   answer = sym ok;
@@ -74,8 +74,8 @@ told kept ok p n k = record {
 }
 
 -- what `deblock_plane` must answer and leave
-pub witness : Stated settings steps (cells 0) samples (record { answer = Ok tt; stored = 24; changed = 24 }) (four (100 ∷ 101 ∷ 102 ∷ 103 ∷ 105 ∷ 106 ∷ 107 ∷ 108 ∷ []))
+pub witness : Stated settings steps (cells 0) samples (Ok (record { stored = 24; changed = 24 })) (four (100 ∷ 101 ∷ 102 ∷ 103 ∷ 105 ∷ 106 ∷ 107 ∷ 108 ∷ []))
 witness = told 0 accepted.0 filtered.0 filtered.1 filtered.2
 
-pub witness_kept : Stated settings steps (cells 1) samples (record { answer = Ok tt; stored = 12; changed = 12 }) (four (100 ∷ 100 ∷ 100 ∷ 100 ∷ 105 ∷ 106 ∷ 107 ∷ 108 ∷ []))
+pub witness_kept : Stated settings steps (cells 1) samples (Ok (record { stored = 12; changed = 12 })) (four (100 ∷ 100 ∷ 100 ∷ 100 ∷ 105 ∷ 106 ∷ 107 ∷ 108 ∷ []))
 witness_kept = told 1 accepted.1 filtered_kept.0 filtered_kept.1 filtered_kept.2
