@@ -3,11 +3,11 @@
 
 ghost use Rattle.std.specs.Prelude.{◌≡◌, ◌+◌, ◌*◌, ◌≤◌, ◌<◌, pos, neg_ℤ, set};
 ghost use Rattle.std.specs.declared.result.Result.TheVariants.{Err};
-ghost use Rattle.rules.specs.Refusals.{number_of, answered, stored_in, changed_in};
+ghost use Rattle.rules.specs.Refusals.{number_of, answered, length_told, counted, stored_in, changed_in};
 ghost use Rattle.answers.specs.Told.{Told, Counted, Few, bytes_in, refusal_in, tallied};
 
-use rules::counts::Counts;
-use rules::refusals::{RecordAnswer, Refusal, number, place as place_of};
+use rules::counts::{Counts, Visited};
+use rules::refusals::{Refusal, number, place as place_of};
 use rules::rows::RowsAnswer;
 
 // Minus the number of a refusal.
@@ -64,20 +64,6 @@ pub fn told_refusal(r: Refusal, place: &mut [usize], counts: &mut [usize]) -> i3
     told(Err(r), place)
 }
 
-// How many bytes a record takes, or minus the number of a refusal, whose place is put into a list.
-pub fn told_bytes(a: Result<usize, Refusal>, place: &mut [usize]) -> i32
-    requires { Few a }
-    ensures { Counted (refusal_in a) (bytes_in a) place.old result place.new }
-{
-    match a {
-        Ok(n) => count(n),
-        Err(r) => {
-            put(place, 0, place_of(r));
-            minus(r)
-        }
-    }
-}
-
 // What is told of an entry that filters, with its counts put into a list.
 pub fn told_counts(
     a: Result<Counts, Refusal>,
@@ -95,14 +81,22 @@ pub fn told_counts(
     }
 }
 
-// The same of a plane whose edges are recorded.
-pub fn told_record(a: RecordAnswer, place: &mut [usize], counts: &mut [usize]) -> i32
-    requires { Few a.«record» }
-    ensures { Counted (refusal_in a.«record») (bytes_in a.«record») place.old result place.new × (counts.new ≡ tallied a.stored a.changed counts.old) }
+// The same of a plane whose edges are recorded: how many bytes its record takes.
+pub fn told_record(
+    a: Result<Visited, Refusal>,
+    place: &mut [usize],
+    counts: &mut [usize],
+) -> i32
+    requires { Few (length_told a) }
+    ensures { Counted (refusal_in (length_told a)) (bytes_in (length_told a)) place.old result place.new × (counts.new ≡ tallied (stored_in (counted a)) (changed_in (counted a)) counts.old) }
 {
-    put_counts(counts, a.stored, a.changed);
-    let record = a.record;
-    told_bytes(record, place)
+    match a {
+        Ok(v) => {
+            put_counts(counts, v.stored, v.changed);
+            count(v.bytes)
+        }
+        Err(r) => told_refusal(r, place, counts),
+    }
 }
 
 // How many rows are final, or minus the number of a refusal, whose place is put into a list, with the counts in another.

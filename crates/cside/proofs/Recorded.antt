@@ -13,7 +13,8 @@ use Rattle.rules.specs.declared.settings.Plane.{Plane}
 use Rattle.rules.specs.declared.refusals.Refusal.{Refusal}
 use Rattle.rules.specs.Refusals.{Answer}
 use Rattle.std.specs.declared.result.Result.TheVariants.{Ok, Err}
-use Rattle.rules.specs.declared.refusals.RecordAnswer.{RecordAnswer}
+use Rattle.rules.specs.declared.counts.Visited.{Visited}
+use Rattle.rules.specs.Refusals.{changed_in, counted, length_told, stored_in}
 use Rattle.std.specs.declared.result.Result.{Result}
 use Rattle.rules.specs.declared.refusals.Refusal.{Refusal}
 use Rattle.rules.specs.Refusals.{settle}
@@ -43,7 +44,7 @@ record_few s steps g l room is n e =
     omega (arith, p.1, record_length_holds (edges_of s steps g), (passed s steps g l room p.0).few)
 
 -- so are the bytes that the entry answers
-pub record_held : (s : Plane) (steps : List ℕ) (g : Grid) (l b : List ℕ) {x : RecordAnswer} {m c : List ℕ} → Stated s steps g l b x m c → Few x.«record»
+pub record_held : (s : Plane) (steps : List ℕ) (g : Grid) (l b : List ℕ) {x : Result Visited Refusal} {m c : List ℕ} → Stated s steps g l b x m c → Few (length_told x)
 record_held s steps g l b d = record_few s steps g l (length b) d.answer
 
 module _ (settings : List ℤ) (steps : List ℕ) (g : Grid) (l b : List ℕ) {a : Answer} (is : a ≡ list_check settings) {p q k t : List ℕ} {z : ℤ} where
@@ -58,8 +59,8 @@ module _ (settings : List ℤ) (steps : List ℕ) (g : Grid) (l b : List ℕ) {a
         counts_are = u.1 ∙ ap₂ (λ (s c : ℕ). tallied s c k) (settle_refused _ _ _ no) (settle_refused _ _ _ no);
       }
 
-  pub record_told : {s : Plane} {x : RecordAnswer} {m c : List ℕ} → a ≡ Ok tt → s ≡ plane_of settings → Stated s steps g l b x m c
-      → Counted (refusal_in x.«record») (bytes_in x.«record») p z q × (t ≡ tallied x.stored x.changed k)
+  pub record_told : {s : Plane} {x : Result Visited Refusal} {m c : List ℕ} → a ≡ Ok tt → s ≡ plane_of settings → Stated s steps g l b x m c
+      → Counted (refusal_in (length_told x)) (bytes_in (length_told x)) p z q × (t ≡ tallied (stored_in (counted x)) (changed_in (counted x)) k)
       → RecordTold settings steps g l b p k (to_z w32 (of_z w32 z)) m c q t
   unfolding c_record_check c_record_plane c_record_buffer c_record_stored c_record_changed record_length recorded_answer recorded_plane recorded_buffer recorded_stored recorded_changed
   record_told {s} {x} {m} {c} e read d u =

@@ -20,7 +20,7 @@ use Rattle.rules.specs.Plane.{Grid, kept_by, edges_of, run_stored, run_changed, 
 use Rattle.rules.specs.Frame.{planes, grids, run_frame, run_frame_stored, run_frame_changed}
 use Rattle.segment.proofs.Counts.{run_stored_holds, run_changed_holds}
 use Rattle.plane.specs.Checked.{Checked, Filtered, Stated}
-use Rattle.plane.specs.declared.visited.Visited.{Visited}
+use Rattle.rules.specs.declared.counts.Visited.{Visited}
 use Rattle.plane.proofs.Accepting.{checked}
 use Rattle.plane.proofs.Everywhere.{edges_inside}
 use Rattle.orders.proofs.Once.{edges_most}

@@ -13,7 +13,7 @@ use Rattle.rules.specs.Plane.{Grid, edges_of, plane_check, plane_after, plane_st
 use Rattle.rules.specs.Rows.{band_of}
 use Rattle.checks.proofs.Checks.{settle_accepted}
 use Rattle.segment.specs.Boxes.{Free}
-use Rattle.plane.specs.declared.visited.Visited.{Visited}
+use Rattle.rules.specs.declared.counts.Visited.{Visited}
 use Rattle.plane.specs.Checked.{Checked, Stated}
 use Rattle.plane.proofs.Accepting.{checked}
 use Rattle.orders.proofs.Plain.{edges_plain, same_run, same_stored, same_changed}

@@ -37,7 +37,7 @@ use Rattle.plane_checks.proofs.Reach.{edge_room_is}
 use Rattle.plane.proofs.Edges.{short_is}
 use Rattle.plane.specs.Run.{table_at, IsTable, start_by, Table, Levels, Field, none, state, Ran}
 use Rattle.plane.specs.Checked.{Sized, Checked, Filtered, Noted, Stated}
-use Rattle.plane.specs.declared.visited.Visited.{Visited}
+use Rattle.rules.specs.declared.counts.Visited.{Visited}
 
 -- ---- lengths
 

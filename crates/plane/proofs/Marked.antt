@@ -19,7 +19,7 @@ use Rattle.plane_checks.specs.Fit.{bad_of}
 use Rattle.plane_checks.proofs.Marks.{none_bad}
 use Rattle.kept.proofs.Same.{marks_agree, run_same, stored_same, changed_same, run_holds}
 use Rattle.plane.specs.Checked.{Checked, Noted}
-use Rattle.plane.specs.declared.visited.Visited.{Visited}
+use Rattle.rules.specs.declared.counts.Visited.{Visited}
 use Rattle.plane.proofs.Everywhere.{edges_inside}
 
 -- ---- the run of a checked plane

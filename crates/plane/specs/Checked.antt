@@ -17,7 +17,7 @@ use Rattle.rules.specs.Plane.{Grid, tiles_check, bad_cell, no_room, plane_length
 use Rattle.cell_edges.specs.Cells.{Sizes}
 use Rattle.plane_checks.specs.Fit.{CellsLong}
 use Rattle.records.specs.Noted.{noted}
-use Rattle.plane.specs.declared.visited.Visited.{Visited}
+use Rattle.rules.specs.declared.counts.Visited.{Visited}
 
 -- depth, sizes and lengths are good
 pub record Sized (s : Plane) (n v h w t k : ℕ) : Type 0 where

@@ -17,7 +17,7 @@ use Rattle.cell_edges.specs.Cells.{Ready, Cell, one_way, sized, marked, short_by
 use Rattle.plane_checks.specs.Fit.{room_of}
 use Rattle.records.specs.Noted.{noted}
 use Rattle.plane.specs.declared.part.Part.{Part}
-use Rattle.plane.specs.declared.visited.Visited.{Visited}
+use Rattle.rules.specs.declared.counts.Visited.{Visited}
 
 -- ---- a table that is made once a plane
 

@@ -7,7 +7,9 @@ use lib.ListN.{length}
 use Rattle.rules.specs.declared.settings.Plane.{Plane}
 use Rattle.rules.specs.Refusals.{Answer}
 use Rattle.std.specs.declared.result.Result.TheVariants.{Ok, Err}
-use Rattle.rules.specs.declared.refusals.RecordAnswer.{RecordAnswer}
+use Rattle.rules.specs.declared.counts.Visited.{Visited}
+use Rattle.rules.specs.declared.refusals.Refusal.{Refusal}
+use Rattle.rules.specs.Refusals.{length_told}
 use Rattle.rules.specs.Refusals.{or_else}
 use Rattle.rules.specs.Plane.{Grid}
 use Rattle.rules.specs.Record.{recorded_check, answer_bytes, recorded_answer}
@@ -36,6 +38,6 @@ module _ (s : Plane) (steps : List ℕ) (g : Grid) (l : List ℕ) where
       exactly (recorded_tests s steps g l n) refl (e ∙ ap (λ (x : Answer). or_else x (chain (room_test s g n ∷ []))) (plane_chain s steps g l) ∙ one_more (plane_tests s steps g l) (room_test s g n))
 
   -- of whatever the entry may answer
-  pub stated_exactly : (b : List ℕ) {a : RecordAnswer} {m c : List ℕ} → Stated s steps g l b a m c → Exactly (answered a.«record») (recorded_tests s steps g l (length b))
+  pub stated_exactly : (b : List ℕ) {a : Result Visited Refusal} {m c : List ℕ} → Stated s steps g l b a m c → Exactly (answered (length_told a)) (recorded_tests s steps g l (length b))
   unfolding recorded_answer
   stated_exactly b done = recorded_exactly (length b) (ap answered done.answer ∙ answered_is (recorded_check s steps g l (length b)) _)

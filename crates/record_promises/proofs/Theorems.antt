@@ -18,7 +18,8 @@ use Rattle.std.specs.declared.result.Result.TheVariants.{Ok, Err}
 use Rattle.std.specs.declared.result.Result.{Result}
 use Rattle.rules.specs.declared.counts.Counts.{Counts}
 use Rattle.rules.specs.Refusals.{answered, changed_in, stored_in}
-use Rattle.rules.specs.declared.refusals.RecordAnswer.{RecordAnswer}
+use Rattle.rules.specs.declared.counts.Visited.{Visited}
+use Rattle.rules.specs.Refusals.{counted, length_told}
 use Rattle.rules.specs.Refusals.{settle}
 use Rattle.rules.specs.Plane.{Grid, keeping, kept_by, is_edge, index_at, shortened_at, marks_of, indices_of, visit_of, sweep_of, column_of, turn_of, edge_at, edges_of, run_plane, run_stored, run_changed, plane_check, plane_after, plane_stored, plane_changed}
 use Rattle.rules.specs.Record.{record_of, buffer_after, edges_in, edge_count, recorded_check, answer_bytes, recorded_answer, recorded_plane, recorded_buffer, recorded_stored, recorded_changed}
@@ -72,7 +73,7 @@ module _ (s : Plane) (steps : List ℕ) (g : Grid) (l : List ℕ) (ok : plane_ch
 
 -- ---- where the answer is a number of bytes
 
-module _ (s : Plane) (steps : List ℕ) (g : Grid) (l b : List ℕ) {a : RecordAnswer} {n : ℕ} {m c : List ℕ} (done : Stated s steps g l b a m c) (told : a.«record» ≡ Ok n) where
+module _ (s : Plane) (steps : List ℕ) (g : Grid) (l b : List ℕ) {a : Result Visited Refusal} {n : ℕ} {m c : List ℕ} (done : Stated s steps g l b a m c) (told : length_told a ≡ Ok n) where
   accepted : (recorded_check s steps g l (length b) ≡ Ok tt) × (n ≡ length (record_of (edges_of s steps g)))
   unfolding recorded_answer
   accepted = bytes_accepted (recorded_check s steps g l (length b)) _ (sym told ∙ done.answer)
@@ -91,7 +92,7 @@ module _ (s : Plane) (steps : List ℕ) (g : Grid) (l b : List ℕ) {a : RecordA
   unfolding recorded_plane settle
   plane_ran = done.plane ∙ ap (λ (a : Answer). settle a l (run_plane s steps g l)) accepted.0
 
-  pub counts_ran : (a.stored ≡ run_stored s steps g l) × (a.changed ≡ run_changed s steps g l)
+  pub counts_ran : (stored_in (counted a) ≡ run_stored s steps g l) × (changed_in (counted a) ≡ run_changed s steps g l)
   unfolding recorded_stored recorded_changed settle
   counts_ran = (
     done.stored ∙ ap (λ (x : Answer). settle x 0 (run_stored s steps g l)) accepted.0,
@@ -106,7 +107,7 @@ module _ (s : Plane) (steps : List ℕ) (g : Grid) (l b : List ℕ) {a : RecordA
         let same : p ≡ run_plane s steps g l = alone.plane ∙ ap (λ (y : Answer). settle y l (run_plane s steps g l)) ok.plane in
         (alone.answer ∙ ok.plane, plane_ran ∙ sym same)
 
-    pub counts_as_without : (a.stored ≡ stored_in x) × (a.changed ≡ changed_in x)
+    pub counts_as_without : (stored_in (counted a) ≡ stored_in x) × (changed_in (counted a) ≡ changed_in x)
     unfolding plane_stored plane_changed settle
     counts_as_without = (
       counts_ran.0 ∙ sym (alone.stored ∙ ap (λ (y : Answer). settle y 0 (run_stored s steps g l)) ok.plane),
@@ -139,19 +140,19 @@ module _ (s : Plane) (steps : List ℕ) (g : Grid) (l b : List ℕ) {a : RecordA
   others_not_listed e k = ap (count same_edge e) record_edges ∙ other_never s steps g ok.checks.sizes_ok e k
 
 -- what a record says does not depend on a sample
-pub record_by_grid : (s : Plane) (steps : List ℕ) (g : Grid) (l k b d : List ℕ) {x y : RecordAnswer} {n i : ℕ} {m o c e : List ℕ}
-    → Stated s steps g l b x m c → x.«record» ≡ Ok n → Stated s steps g k d y o e → y.«record» ≡ Ok i → take n c ≡ take i e
+pub record_by_grid : (s : Plane) (steps : List ℕ) (g : Grid) (l k b d : List ℕ) {x y : Result Visited Refusal} {n i : ℕ} {m o c e : List ℕ}
+    → Stated s steps g l b x m c → length_told x ≡ Ok n → Stated s steps g k d y o e → length_told y ≡ Ok i → take n c ≡ take i e
 record_by_grid s steps g l k b d x told y also = record_is s steps g l b x told ∙ sym (record_is s steps g k d y also)
 
 -- nor on the keep marks
-pub record_by_marks : (s : Plane) (steps v h w t q ts ks us l k b d : List ℕ) {x y : RecordAnswer} {n i : ℕ} {m o c e : List ℕ} → Stated s steps (keeping v h w t q ts ks) l b x m c → x.«record» ≡ Ok n
-    → Stated s steps (keeping v h w t q ts us) k d y o e → y.«record» ≡ Ok i → take n c ≡ take i e
+pub record_by_marks : (s : Plane) (steps v h w t q ts ks us l k b d : List ℕ) {x y : Result Visited Refusal} {n i : ℕ} {m o c e : List ℕ} → Stated s steps (keeping v h w t q ts ks) l b x m c → length_told x ≡ Ok n
+    → Stated s steps (keeping v h w t q ts us) k d y o e → length_told y ≡ Ok i → take n c ≡ take i e
 unfolding edges_of turn_of column_of sweep_of visit_of is_edge edge_at index_at shortened_at marks_of indices_of
 record_by_marks s steps v h w t q ts ks us l k b d x told y also =
     record_is s steps (keeping v h w t q ts ks) l b x told ∙ sym (record_is s steps (keeping v h w t q ts us) k d y also)
 
 -- ticket 7: a sample in a kept cell is as lent, accepted or refused
-pub recorded_held : (s : Plane) (steps : List ℕ) (g : Grid) (l b : List ℕ) {a : RecordAnswer} {m c : List ℕ} → Stated s steps g l b a m c → (i : ℕ) → kept_by s g i ≡ true → get_or m i 0 ≡ get_or l i 0
+pub recorded_held : (s : Plane) (steps : List ℕ) (g : Grid) (l b : List ℕ) {a : Result Visited Refusal} {m c : List ℕ} → Stated s steps g l b a m c → (i : ℕ) → kept_by s g i ≡ true → get_or m i 0 ≡ get_or l i 0
 unfolding recorded_plane settle
 recorded_held s steps g l b done i h = ap (λ (x : List ℕ). get_or x i 0) done.plane ∙ go (recorded_check s steps g l (length b))
   where
@@ -161,7 +162,7 @@ recorded_held s steps g l b done i h = ap (λ (x : List ℕ). get_or x i 0) done
 
 -- ---- "the plane and buffer stay unchanged", and ticket 4: "A refusal reports zero for both."
 
-module _ (s : Plane) (steps : List ℕ) (g : Grid) (l b : List ℕ) {a : RecordAnswer} {r : Refusal} {m c : List ℕ} (done : Stated s steps g l b a m c) (told : a.«record» ≡ Err r) where
+module _ (s : Plane) (steps : List ℕ) (g : Grid) (l b : List ℕ) {a : Result Visited Refusal} {r : Refusal} {m c : List ℕ} (done : Stated s steps g l b a m c) (told : length_told a ≡ Err r) where
   not_accepted : recorded_check s steps g l (length b) ≡ Err r
   unfolding recorded_answer
   not_accepted = refused_refused (recorded_check s steps g l (length b)) _ (sym told ∙ done.answer)
@@ -173,7 +174,7 @@ module _ (s : Plane) (steps : List ℕ) (g : Grid) (l b : List ℕ) {a : RecordA
     done.buffer ∙ ap (λ (x : Answer). settle x b (buffer_after (edges_of s steps g) b)) not_accepted,
   )
 
-  pub refused_none : (a.stored ≡ 0) × (a.changed ≡ 0)
+  pub refused_none : (stored_in (counted a) ≡ 0) × (changed_in (counted a) ≡ 0)
   unfolding recorded_stored recorded_changed settle
   refused_none = (
     done.stored ∙ ap (λ (x : Answer). settle x 0 (run_stored s steps g l)) not_accepted,
@@ -182,9 +183,9 @@ module _ (s : Plane) (steps : List ℕ) (g : Grid) (l b : List ℕ) {a : RecordA
 
 -- ---- the statement leaves one result
 
-module _ {s : Plane} {steps : List ℕ} {g : Grid} {l b : List ℕ} {a a' : RecordAnswer} {m m' c c' : List ℕ} (x : Stated s steps g l b a m c) (y : Stated s steps g l b a' m' c') where
-  pub one_result : (a.«record» ≡ a'.«record») × (m ≡ m') × (c ≡ c')
+module _ {s : Plane} {steps : List ℕ} {g : Grid} {l b : List ℕ} {a a' : Result Visited Refusal} {m m' c c' : List ℕ} (x : Stated s steps g l b a m c) (y : Stated s steps g l b a' m' c') where
+  pub one_result : (length_told a ≡ length_told a') × (m ≡ m') × (c ≡ c')
   one_result = (x.answer ∙ sym y.answer, x.plane ∙ sym y.plane, x.buffer ∙ sym y.buffer)
 
-  pub one_count : (a.stored ≡ a'.stored) × (a.changed ≡ a'.changed)
+  pub one_count : (stored_in (counted a) ≡ stored_in (counted a')) × (changed_in (counted a) ≡ changed_in (counted a'))
   one_count = (x.stored ∙ sym y.stored, x.changed ∙ sym y.changed)

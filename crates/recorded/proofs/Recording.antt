@@ -20,7 +20,7 @@ use Rattle.rules.specs.Record.{header, record_of, edge_count, recorded_check, an
 use Rattle.checks.proofs.Checks.{stop_by, go_on_by, unless_bad, unless_good, unless_true, else_parts, settle_refused_by, settle_accepted_by}
 use Rattle.records.proofs.RoundTrip.{record_length_holds}
 use Rattle.records.proofs.Noted.{record_noted}
-use Rattle.plane.specs.declared.visited.Visited.{Visited}
+use Rattle.rules.specs.declared.counts.Visited.{Visited}
 use Rattle.plane.specs.Checked.{Checked, Noted}
 use Rattle.plane.proofs.Accepting.{lengths, checked}
 use Rattle.orders.proofs.Once.{edges_length, edges_most}

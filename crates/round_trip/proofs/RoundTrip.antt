@@ -19,7 +19,8 @@ use Rattle.std.specs.declared.result.Result.{Result}
 use Rattle.rules.specs.declared.counts.Counts.{Counts}
 use Rattle.rules.specs.declared.refusals.Refusal.{Refusal}
 use Rattle.rules.specs.Refusals.{answered, changed_in, stored_in}
-use Rattle.rules.specs.declared.refusals.RecordAnswer.{RecordAnswer}
+use Rattle.rules.specs.declared.counts.Visited.{Visited}
+use Rattle.rules.specs.Refusals.{counted, length_told}
 use Rattle.rules.specs.Numbers.{top_of}
 use Rattle.rules.specs.Refusals.{settle}
 use Rattle.rules.specs.Segment.{ranges_ok, has_room, run_edges}
@@ -120,7 +121,7 @@ module _ (s : Plane) (steps : List ℕ) (g : Grid) (l : List ℕ) (ok : plane_ch
 
 -- whatever ticket 1's entry may answer and leave, n bytes, the plane m and the buffer c, ticket 2's accepts those bytes with the plane and the keep marks as they
 -- were lent, leaves m and tells the same counts; ticket 7: "records of Ticket 2 are run with the same marks"
-module _ (s : Plane) (steps : List ℕ) (g : Grid) (l b : List ℕ) {a : RecordAnswer} {n : ℕ} {m c : List ℕ} (written : Stated s steps g l b a m c) (told : a.«record» ≡ Ok n)
+module _ (s : Plane) (steps : List ℕ) (g : Grid) (l b : List ℕ) {a : Result Visited Refusal} {n : ℕ} {m c : List ℕ} (written : Stated s steps g l b a m c) (told : length_told a ≡ Ok n)
     {x : Result Counts Refusal} {k : List ℕ} (done : Replayed (again_of s) (take n c) g.keep l x k) where
   ok : plane_check s steps g l ≡ Ok tt
   ok = plane_passed s steps g l b written told
@@ -134,7 +135,7 @@ module _ (s : Plane) (steps : List ℕ) (g : Grid) (l b : List ℕ) {a : RecordA
     done.plane ∙ ap (λ (r : List ℕ). replay_after (again_of s) r g.keep l) is ∙ again_plane s steps g l ok ∙ sym (plane_ran s steps g l b written told),
   )
 
-  pub counts_trip : (stored_in x ≡ a.stored) × (changed_in x ≡ a.changed)
+  pub counts_trip : (stored_in x ≡ stored_in (counted a)) × (changed_in x ≡ changed_in (counted a))
   counts_trip =
       let exact = counts_exact (again_of s) (take n c) g.keep l done (rw is (again_few s steps g l ok)) in
       let run = counts_ran s steps g l b written told in (

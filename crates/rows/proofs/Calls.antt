@@ -26,7 +26,7 @@ use Rattle.rules.specs.Rows.{count_ok, counts_ok, settings_check, over_new, rows
 use Rattle.checks.specs.Rows.{Box}
 use Rattle.checks.proofs.Rows.{box_inner}
 use Rattle.checks.proofs.Checks.{stop, stop_by, go_on, go_on_by, unless_bad, unless_good, found_bad_by, found_good_by, else_parts, unless_true, found_nothing, settle_refused, settle_accepted}
-use Rattle.plane.specs.declared.visited.Visited.{Visited}
+use Rattle.rules.specs.declared.counts.Visited.{Visited}
 use Rattle.plane.specs.Checked.{Checked}
 use Rattle.plane.proofs.Accepting.{settled}
 use Rattle.cell_edges.specs.Cells.{Sizes}

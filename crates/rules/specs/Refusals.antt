@@ -2,6 +2,7 @@
 -- Assumes nothing.
 use Rattle.std.specs.Prelude.{ℕ, zero, suc, ◌+◌, ◌*◌, Bool, true, false, List, get_or, ltb, Result, ⊤}
 use Rattle.rules.specs.declared.counts.Counts.{Counts}
+use Rattle.rules.specs.declared.counts.Visited.{Visited}
 use Rattle.rules.specs.declared.refusals.Refusal.{Refusal}
 use Rattle.rules.specs.declared.refusals.Refusal.TheVariants.{Depth, Size, Length, Steps, Setting, Cell, Room, Sample, Leaf, Buffer, Header, Cut, Entry, Filled, Spent}
 use Rattle.std.specs.declared.result.Result.TheVariants.{Ok, Err}
@@ -25,6 +26,15 @@ stored_in (Err r) = 0
 abbrev pub changed_in : Result Counts Refusal → ℕ
 changed_in (Ok c) = c.changed
 changed_in (Err r) = 0
+
+-- of a recorded plane: the length of its record or the refusal, and the counts alone
+abbrev pub length_told : Result Visited Refusal → Result ℕ Refusal
+length_told (Ok v) = Ok v.bytes
+length_told (Err r) = Err r
+
+abbrev pub counted : Result Visited Refusal → Result Counts Refusal
+counted (Ok v) = Ok (record { stored = v.stored; changed = v.changed })
+counted (Err r) = Err r
 
 -- the table's first column
 abbrev pub number_of : Refusal → ℕ

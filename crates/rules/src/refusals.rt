@@ -37,14 +37,6 @@ pub struct Filtered {
     pub changed: usize,
 }
 
-// A recorded plane's record: its length or the plane's refusal; how many samples were stored, and how many of those differ from before.
-#[derive(Clone, Copy)]
-pub struct RecordAnswer {
-    pub record: Result<usize, Refusal>,
-    pub stored: usize,
-    pub changed: usize,
-}
-
 // Document 01's number of a refusal.
 pub fn number(r: Refusal) -> u32
     ensures { result ≡ number_of r }
