@@ -34,19 +34,22 @@ pub fn tx_grid(
     paint_lists(vedge, hedge, sqw, sqh, ls, skips, s);
 }
 
+// Refusal 9 of a list of leaves.
+fn list_ok(ls: &[u16], skip: bool) -> Result<(), Refusal>
+    ensures { result ≡ found (bad_leaf skip ls.now) Leaf }
+{
+    match bad_leaf(ls, skip) {
+        Some(k) => Err(Refusal::Leaf(k)),
+        None => Ok(()),
+    }
+}
+
 // Refusal 9 of the leaves, and then of the skip leaves.
 fn leaves_ok(ls: &[u16], skips: &[u16]) -> Result<(), Refusal>
     ensures { result ≡ or_else (found (bad_leaf false ls.now) Leaf) (found (bad_leaf true skips.now) Leaf) }
 {
-    let f = bad_leaf(ls, false);
-    if let Some(k) = f {
-        return Err(Refusal::Leaf(k));
-    }
-    let g = bad_leaf(skips, true);
-    if let Some(k) = g {
-        return Err(Refusal::Leaf(k));
-    }
-    Ok(())
+    list_ok(ls, false)?;
+    list_ok(skips, true)
 }
 
 // The TU grid of any settings and lists, with no cell kept, or why there is none.
