@@ -2,7 +2,7 @@
 -- Assumes nothing.
 use mathlib.Core.Path.{◌≡◌, refl, sym}
 use mathlib.Core.Bool.{Bool, true, false}
-use mathlib.Core.List.{List, [], ◌∷◌}
+use mathlib.Core.List.{List}
 use Prim.Native.Nat.{ℕ, ◌%◌, ◌≤◌, ◌<◌}
 use native.Mathlib.Nat.{le_refl}
 use native.Mathlib.Omega.{arith}
@@ -11,6 +11,7 @@ use lib.Dec.{ltb}
 use borrow.Author.Tests.{lt-ltb, le-ltb}
 use Rattle.laws.specs.Choose.{all, is_eq, is_lt, not_lt}
 use Rattle.rules.specs.declared.settings.TuGrid.{TuGrid}
+use Rattle.rules.specs.declared.refusals.Refusal.{Refusal}
 use Rattle.rules.specs.Refusals.{Answer}
 use Rattle.std.specs.declared.result.Result.TheVariants.{Ok, Err}
 use Rattle.std.specs.declared.option.Option.{Option}
@@ -25,7 +26,7 @@ use Rattle.grid.specs.Stated.{Stated}
 use Rattle.grid.proofs.Painted.{lists_painted}
 use Rattle.grid.proofs.Checked.{check_is as grid-check, after_refused as grid-refused, after_accepted as grid-accepted, all_fit}
 use Rattle.leaves.specs.declared.records.Leaf.{Leaf}
-use Rattle.leaves.specs.Records.{flat, place_or, good_of, refused_of, bad_after, leaves_check}
+use Rattle.leaves.specs.Records.{flat, place_or, good_of, bad_after, leaves_check}
 use Rattle.leaves.proofs.Flat.{flat_length, flat_count}
 
 -- ---- refusal 9
@@ -73,23 +74,15 @@ check_is s ls skips g keep = grid-check s true _ (flat ls) (flat skips) g keep (
 pub started_by : (nine nine' : Answer) {s : TuGrid} {fours : Bool} {g g' : Marks} {k k' : List ℕ} {a : Answer} → nine ≡ nine' → Started s fours nine g k a g' k' → Started s fours nine' g k a g' k'
 started_by nine nine' e p = rw e at p
 
--- what an answer that is no refusal leaves
-pub accepted_is : (a : Answer) → refused_of a ≡ false → a ≡ Ok tt
-unfolding refused_of
-accepted_is (Ok tt) e = refl
-accepted_is (Err r) e = absurd (let z : ◌≡◌ {A = ℕ} 0 1 = cc in omega arith)
-
 -- ---- the entry's ways out, where `start` left the answer a, the lists g1 and the keep marks k1
 
 module _ (s : TuGrid) (nine : Answer) (ls skips : List Leaf) (g g1 : Marks) (k k1 : List ℕ) (same : start_check s true nine g k ≡ tx_grid_check s (flat ls) (flat skips) g k) where
-  pub after_refused : (a : Answer) → refused_of a ≡ true → Started s true nine g k a g1 k1 → Stated s (flat ls) (flat skips) g k a g1 k1
-  unfolding refused_of
-  after_refused (Ok tt) f p = absurd (let z : ◌≡◌ {A = ℕ} 0 1 = cc in omega arith)
-  after_refused (Err r) f p = grid-refused (flat ls) (flat skips) same p refl
+  pub after_refused : {r : Refusal} → Started s true nine g k (Err r) g1 k1 → Stated s (flat ls) (flat skips) g k (Err r) g1 k1
+  after_refused p = grid-refused (flat ls) (flat skips) same p refl
 
-  module _ (a : Answer) (acc : a ≡ Ok tt) (p : Started s true nine g k a g1 k1) where
+  module _ (p : Started s true nine g k (Ok tt) g1 k1) where
     pub all_accepted : GridFits s (length g.vedge) (length g.hedge) (length g.sqw) (length g.sqh) × Cut s × AllGood (flat ls) × AllGood (flat skips)
-    all_accepted = all_fit (flat ls) (flat skips) same p acc
+    all_accepted = all_fit (flat ls) (flat skips) same p refl
 
-    pub after_accepted : (g2 : Marks) {g3 : Marks} → g2 ≡ leaves_of s false (flat ls) g1 → g3 ≡ leaves_of s true (flat skips) g2 → Stated s (flat ls) (flat skips) g k a g3 k1
-    after_accepted g2 b c = rw acc (grid-accepted (flat ls) (flat skips) same p acc (lists_painted s (flat ls) (flat skips) g1 g2 b c))
+    pub after_accepted : (g2 : Marks) {g3 : Marks} → g2 ≡ leaves_of s false (flat ls) g1 → g3 ≡ leaves_of s true (flat skips) g2 → Stated s (flat ls) (flat skips) g k (Ok tt) g3 k1
+    after_accepted g2 b c = grid-accepted (flat ls) (flat skips) same p refl (lists_painted s (flat ls) (flat skips) g1 g2 b c)

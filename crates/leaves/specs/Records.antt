@@ -1,9 +1,8 @@
 -- Lists of leaf records as document 01's lists of four numbers a leaf, and refusal 9 by what a look through them found.
 -- Assumes nothing.
-use Rattle.std.specs.Prelude.{Bool, true, false, List, [], ◌∷◌, ℕ, ltb, length}
+use Rattle.std.specs.Prelude.{Bool, List, [], ◌∷◌, ℕ, ltb, length}
 use Rattle.rules.specs.declared.refusals.Refusal.TheVariants.{Leaf as BadLeaf}
 use Rattle.rules.specs.Refusals.{Answer}
-use Rattle.std.specs.declared.result.Result.TheVariants.{Ok, Err}
 use Rattle.std.specs.declared.option.Option.{Option}
 use Rattle.std.specs.declared.option.Option.TheVariants.{Some, None}
 use Rattle.rules.specs.Refusals.{or_else, found, found_if}
@@ -27,10 +26,6 @@ place_or None n = n
 -- how many leaves stand before the first bad one
 unfoldable pub good_of : Bool → List Leaf → ℕ
 good_of skip ls = place_or (bad_leaf skip (flat ls)) (length ls)
-
-unfoldable pub refused_of : Answer → Bool
-refused_of (Ok tt) = false
-refused_of (Err r) = true
 
 -- the first bad one of n leaves, of which so many good ones stand before it
 unfoldable pub bad_after : ℕ → ℕ → Option ℕ

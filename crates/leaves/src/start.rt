@@ -2,19 +2,10 @@
 ghost use Rattle.std.specs.Prelude.{◌≡◌, true};
 ghost use Rattle.rules.specs.TuGrid.{marks};
 ghost use Rattle.grid.specs.Start.{Started};
-ghost use Rattle.leaves.specs.Records.{refused_of, leaves_check};
+ghost use Rattle.leaves.specs.Records.{leaves_check};
 
 use rules::refusals::Refusal;
 use rules::settings::TuGrid;
-
-pub fn refused(a: Result<(), Refusal>) -> bool
-    ensures { result ≡ refused_of a }
-{
-    match a {
-        Ok(()) => false,
-        Err(_) => true,
-    }
-}
 
 // Refusal 9 of n leaves, and then of m skip leaves, by how many good ones each list starts with.
 fn leaves_ok(n: usize, good: usize, m: usize, sound: usize) -> Result<(), Refusal>

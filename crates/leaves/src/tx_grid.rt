@@ -4,7 +4,7 @@ ghost use Rattle.grid.specs.Stated.{Stated};
 ghost use Rattle.leaves.specs.Records.{flat};
 
 use super::records::{Leaf, good_leaves, paint_leaves};
-use super::start::{refused, start};
+use super::start::start;
 use rules::refusals::Refusal;
 use rules::settings::TuGrid;
 
@@ -24,7 +24,7 @@ pub fn build_tx_grid(
 {
     let good = good_leaves(ls, false);
     let sound = good_leaves(skips, true);
-    let a = start(
+    start(
         vedge,
         hedge,
         sqw,
@@ -35,11 +35,8 @@ pub fn build_tx_grid(
         good,
         skips.len(),
         sound,
-    );
-    if refused(a) {
-        return a;
-    }
+    )?;
     paint_leaves(vedge, hedge, sqw, sqh, ls, s, false);
     paint_leaves(vedge, hedge, sqw, sqh, skips, s, true);
-    a
+    Ok(())
 }
