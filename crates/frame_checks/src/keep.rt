@@ -20,11 +20,10 @@ fn kind_keep(keep: &[u8], f: Frame, chroma: bool) -> Result<(), Refusal>
         return Ok(());
     }
     let s = plane_of(f, chroma);
-    let bad = bad_keep(keep, s.rows * s.cols);
-    if let Some(k) = bad {
-        return Err(Refusal::Cell(k));
+    match bad_keep(keep, s.rows * s.cols) {
+        Some(k) => Err(Refusal::Cell(k)),
+        None => Ok(()),
     }
-    Ok(())
 }
 
 // Refusal 6 of both lists.

@@ -11,11 +11,10 @@ use tiles::leaf::bad_leaf;
 fn list_leaves(leaves: &[u16], skip: bool) -> Result<(), Refusal>
     ensures { result ≡ found (bad_leaf skip leaves.now) Leaf }
 {
-    let f = bad_leaf(leaves, skip);
-    if let Some(k) = f {
-        return Err(Refusal::Leaf(k));
+    match bad_leaf(leaves, skip) {
+        Some(k) => Err(Refusal::Leaf(k)),
+        None => Ok(()),
     }
-    Ok(())
 }
 
 // Refusal 9.
