@@ -144,7 +144,7 @@ passed s bytes keep l h =
 -- ---- the entry, by the answer of its checks
 
 module _ (s : Replay) (bytes keep l : List ℕ) {a : Answer} (is : a ≡ replay_check s bytes keep l) where
-  pub replayed_refused : {r : Refusal} → a ≡ Err r → Replayed s bytes keep l (record { answer = Err r; stored = 0; changed = 0 }) l
+  pub replayed_refused : {r : Refusal} → a ≡ Err r → Replayed s bytes keep l (Err r) l
   unfolding replay_after replay_stored replay_changed
   replayed_refused e = record {
     answer = sym e ∙ is;
@@ -153,7 +153,7 @@ module _ (s : Replay) (bytes keep l : List ℕ) {a : Answer} (is : a ≡ replay_
     changed = ap in_word (settle_refused _ 0 _ (sym e ∙ is));
   }
 
-  pub replayed_run : {x y : ℕ} {m : List ℕ} → a ≡ Ok tt → Ran s keep (edges_in bytes) l x y m → Replayed s bytes keep l (record { answer = Ok tt; stored = x; changed = y }) m
+  pub replayed_run : {x y : ℕ} {m : List ℕ} → a ≡ Ok tt → Ran s keep (edges_in bytes) l x y m → Replayed s bytes keep l (Ok (record { stored = x; changed = y })) m
   unfolding replay_after replay_of replay_stored replay_changed
   replayed_run e run = record {
     answer = sym e ∙ is;

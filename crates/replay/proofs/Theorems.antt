@@ -173,18 +173,18 @@ module _ (s : Replay) (es : List Edge) (w : Written s es) where
 -- ---- how far the counts go
 
 module _ (s : Replay) (bytes keep l : List ℕ) where
-  abbrev stored_in : ℕ
-  stored_in = stored_by (top_of s.depth) s.stride (held s keep) (edges_in bytes) l
+  abbrev stored_all : ℕ
+  stored_all = stored_by (top_of s.depth) s.stride (held s keep) (edges_in bytes) l
 
-  abbrev changed_in : ℕ
-  changed_in = changed_by (top_of s.depth) s.stride (held s keep) (edges_in bytes) l
+  abbrev changed_all : ℕ
+  changed_all = changed_by (top_of s.depth) s.stride (held s keep) (edges_in bytes) l
 
   -- "changed never exceeds stored"
-  pub replay_changed_holds : changed_in ≤ stored_in
+  pub replay_changed_holds : changed_all ≤ stored_all
   replay_changed_holds = run_changed_holds (top_of s.depth) s.stride (held s keep) (edges_in bytes) l
 
   -- "stores at most 64 samples for each"
-  pub replay_stored_holds : replay_check s bytes keep l ≡ Ok tt → stored_in ≤ entry_count bytes * 64
+  pub replay_stored_holds : replay_check s bytes keep l ≡ Ok tt → stored_all ≤ entry_count bytes * 64
   replay_stored_holds ok =
       let most = run_stored_holds (top_of s.depth) s.stride (held s keep) (4 * s.cols) (4 * s.rows) (length l) (edges_in bytes) (accepted_inside s bytes keep l ok) l in
       let all : length (edges_in bytes) ≡ entry_count bytes = edges_in_length bytes in
@@ -196,7 +196,7 @@ module _ (s : Replay) (bytes keep l : List ℕ) where
     unfolding replay_stored replay_changed settle
     counts_exact = go (replay_check s bytes keep l) refl done.stored done.changed
       where
-        go : (x : Answer) → replay_check s bytes keep l ≡ x → {u v : ℕ} → u ≡ in_word (settle x 0 stored_in) → v ≡ in_word (settle x 0 changed_in) → (u ≡ settle x 0 stored_in) × (v ≡ settle x 0 changed_in)
+        go : (x : Answer) → replay_check s bytes keep l ≡ x → {u v : ℕ} → u ≡ in_word (settle x 0 stored_all) → v ≡ in_word (settle x 0 changed_all) → (u ≡ settle x 0 stored_all) × (v ≡ settle x 0 changed_all)
         go (Ok tt) ok p q = (omega (arith, p, replay_stored_holds ok), omega (arith, q, replay_stored_holds ok, replay_changed_holds))
         go (Err r) ok p q = (p, q)
 
@@ -204,6 +204,6 @@ module _ (s : Replay) (bytes keep l : List ℕ) where
     unfolding replay_stored replay_changed settle
     counts_most = go (replay_check s bytes keep l) refl counts_exact.0 counts_exact.1
       where
-        go : (x : Answer) → replay_check s bytes keep l ≡ x → {u v : ℕ} → u ≡ settle x 0 stored_in → v ≡ settle x 0 changed_in → (u ≤ entry_count bytes * 64) × (v ≤ u)
+        go : (x : Answer) → replay_check s bytes keep l ≡ x → {u v : ℕ} → u ≡ settle x 0 stored_all → v ≡ settle x 0 changed_all → (u ≤ entry_count bytes * 64) × (v ≤ u)
         go (Ok tt) ok p q = (omega (arith, p, replay_stored_holds ok), omega (arith, p, q, replay_changed_holds))
         go (Err r) ok p q = (omega (arith, p), omega (arith, p, q))

@@ -110,11 +110,10 @@ pub fn record_check(bytes: &[u8]) -> Result<(), Refusal>
     if (bytes.len() - 5) % 10 != 0 {
         return Err(Refusal::Cut(n));
     }
-    let bad = bad_entry(bytes, n);
-    if let Some(k) = bad {
-        return Err(Refusal::Entry(k));
+    match bad_entry(bytes, n) {
+        Some(k) => Err(Refusal::Entry(k)),
+        None => Ok(()),
     }
-    Ok(())
 }
 
 // The keep marks, and what a record and its plane are to each other: 6, 7 and 8.
@@ -122,20 +121,17 @@ fn room_check(plane: &[u16], bytes: &[u8], keep: &[u8], s: Replay) -> Result<(),
     requires { Roomy s bytes.now (length plane.now) (length keep.now) }
     ensures { result ≡ room_check s bytes.now keep.now plane.now }
 {
-    let bad = bad_keep(keep, s.rows * s.cols);
-    if let Some(k) = bad {
+    if let Some(k) = bad_keep(keep, s.rows * s.cols) {
         return Err(Refusal::Cell(k));
     }
-    let narrow = no_room(bytes, count(bytes), s);
-    if let Some(k) = narrow {
+    if let Some(k) = no_room(bytes, count(bytes), s) {
         return Err(Refusal::Room(k));
     }
     let depth = Depth { bits: s.depth };
-    let over = samples(plane, 0, s.stride, 4 * s.cols, 4 * s.rows, depth.top());
-    if let Some(k) = over {
-        return Err(Refusal::Sample(k));
+    match samples(plane, 0, s.stride, 4 * s.cols, 4 * s.rows, depth.top()) {
+        Some(k) => Err(Refusal::Sample(k)),
+        None => Ok(()),
     }
-    Ok(())
 }
 
 // The first refusal, or none.

@@ -41,7 +41,12 @@ fn run_record(plane: &mut [u16], bytes: &[u8], keep: &[u8], s: Replay, top: u16)
 }
 
 // Runs a record on the unfiltered plane with its keep marks and tells how many samples it stored and changed; or refuses it, leaves the plane as lent and tells of none.
-pub fn replay_plane(plane: &mut [u16], bytes: &[u8], keep: &[u8], s: Replay) -> Result<Counts, Refusal>
+pub fn replay_plane(
+    plane: &mut [u16],
+    bytes: &[u8],
+    keep: &[u8],
+    s: Replay,
+) -> Result<Counts, Refusal>
     ensures { Replayed s bytes.now keep.now plane.old result plane.new }
 {
     replay_check(plane, bytes, keep, s)?;
