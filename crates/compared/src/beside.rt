@@ -6,7 +6,6 @@ use laws::least;
 use replay::{count, entry};
 use rules::edge::Edge;
 
-
 // Equal records of so many edges; both edges of the first entry that differs, with its number; or the first edge of the longer record that the other lacks.
 #[derive(Drop)]
 pub enum Difference {
@@ -55,8 +54,7 @@ pub fn compare(a: &[u8], b: &[u8]) -> Difference
     requires { (5 ≤ length a.now) × (5 ≤ length b.now) }
     ensures { result ≡ difference_of a.now b.now }
 {
-    let f = first_difference(a, b);
-    if let Some(k) = f {
+    if let Some(k) = first_difference(a, b) {
         return Difference::Edges(k, entry(a, k), entry(b, k));
     }
     let n = count(a);
