@@ -25,7 +25,7 @@ use Rattle.rules.specs.Frame.{superblocks}
 use Rattle.rules.specs.Refusals.{first, found_unless, over_top, over_row}
 use Rattle.rules.specs.Ccso.{target_width, target_height, ccso_sizes_ok, ccso_lengths_ok, ccso_settings_ok, band_ok, offset_count, offset_ok, bad_offset, ccso_check, ccso_of, ccso_after}
 use Rattle.checks.proofs.First.{nothing_all, over_nothing, unless_nothing}
-use Rattle.checks.proofs.Checks.{stop, go_on, unless_bad, unless_good, found_bad_by, found_good_by, else_parts, unless_true, found_nothing, settle_refused_by, settle_accepted_by}
+use Rattle.checks.proofs.Checks.{stop, go_on, unless_bad, unless_good, found_bad_by, found_good_by, else_parts, unless_true, found_nothing, settle_refused, settle_accepted}
 use Rattle.ccso_sample.specs.Ranges.{SignedWithin, Ranges}
 use Rattle.ccso.specs.Lists.{CcsoFits}
 use Rattle.ccso.specs.Stated.{Stated}
@@ -220,20 +220,18 @@ module _ (s : Ccso) (luma flags : List ℕ) (offsets : List ℤ) (t : List ℕ) 
       clean _ _ _ (found_nothing _ Sample (else_parts _ _ p5.1).1)
 
 -- the entry's two ways out
-module _ (s : Ccso) (luma flags : List ℕ) (offsets : List ℤ) (t : List ℕ) (a : Answer) (is : a ≡ ccso_check s luma flags offsets t) where
-  pub stated_refused : {r : Refusal} → a ≡ Err r → Stated s luma flags offsets t (Err r) t
+module _ (s : Ccso) (luma flags : List ℕ) (offsets : List ℤ) (t : List ℕ) where
+  pub stated_refused : {r : Refusal} → Err r ≡ ccso_check s luma flags offsets t → Stated s luma flags offsets t (Err r) t
   unfolding ccso_after
-  stated_refused e = record { answer = sym e ∙ is; target = settle_refused_by _ a _ _ is e }
+  stated_refused e = record { answer = e; target = settle_refused _ _ _ e }
 
-  pub stated_run : (q : List ℕ) → a ≡ Ok tt → q ≡ ccso_of s luma flags offsets t → Stated s luma flags offsets t (Ok tt) q
+  pub stated_run : (q : List ℕ) → Ok tt ≡ ccso_check s luma flags offsets t → q ≡ ccso_of s luma flags offsets t → Stated s luma flags offsets t (Ok tt) q
   unfolding ccso_after
-  stated_run q e g = record { answer = sym e ∙ is; target = settle_accepted_by _ a _ _ _ is e g }
+  stated_run q e g = record { answer = e; target = settle_accepted _ _ _ _ e g }
 
 -- any two results that the statement allows are equal
 pub one_result : {s : Ccso} {luma flags : List ℕ} {offsets : List ℤ} {t : List ℕ} {r r' : Answer} {q q' : List ℕ} → Stated s luma flags offsets t r q → Stated s luma flags offsets t r' q' → (r ≡ r') × (q ≡ q')
 one_result a b = (a.answer ∙ sym b.answer, a.target ∙ sym b.target)
-
-pub ruleset entry = (rules, stated_refused, stated_run)
 
 pub ruleset answers = (rules, told_yes_not, told_no_not, answer_depth, answer_size, answer_length, answer_setting, answer_offset, answer_samples)
 

@@ -3,7 +3,8 @@ ghost use Rattle.std.specs.Prelude.{◌≡◌, Bool, true, ◌≤◌, ◌*◌, p
 ghost use Rattle.std.specs.Int.Signed.{le_z};
 ghost use Rattle.rules.specs.Numbers.{depth_ok, in_range, in_range_z};
 ghost use Rattle.rules.specs.Ccso.{target_width, target_height, ccso_sizes_ok, ccso_lengths_ok, ccso_settings_ok, offset_ok, offset_count, ccso_check};
-ghost use Rattle.rules.specs.Refusals.{first, found_unless};
+ghost use Rattle.rules.specs.Refusals.{first, found, found_unless, over_row};
+ghost use Rattle.rules.specs.declared.refusals.Refusal.TheVariants.{Sample};
 ghost use Rattle.ccso.specs.Checks.{cuts_ok, classes_ok, taps_ok, samples_check};
 
 use checks::row;
@@ -163,7 +164,13 @@ fn bad_offset(offsets: &[i8], count: usize) -> Option<usize>
 }
 
 // The first refusal, or none.
-pub fn check(luma: &[u16], target: &[u16], flags: &[u8], offsets: &[i8], s: Ccso) -> Result<(), Refusal>
+pub fn check(
+    luma: &[u16],
+    target: &[u16],
+    flags: &[u8],
+    offsets: &[i8],
+    s: Ccso,
+) -> Result<(), Refusal>
     ensures { result ≡ ccso_check s luma.now flags.now offsets.now target.now }
 {
     if !Depth::is(s.depth) {
@@ -184,6 +191,17 @@ pub fn check(luma: &[u16], target: &[u16], flags: &[u8], offsets: &[i8], s: Ccso
     samples_ok(luma, target, s)
 }
 
+// Refusal 8 of the first count samples of a list.
+fn list_ok(xs: &[u16], count: usize, top: u16) -> Result<(), Refusal>
+    requires { count ≤ length xs.now }
+    ensures { result ≡ found (over_row top xs.now 0 count) Sample }
+{
+    match row(xs, 0, count, top) {
+        Some(k) => Err(Refusal::Sample(k)),
+        None => Ok(()),
+    }
+}
+
 // The last check: every sample of luma, then of the target.
 fn samples_ok(luma: &[u16], target: &[u16], s: Ccso) -> Result<(), Refusal>
     requires { (depth_ok s.depth ≡ true) × (ccso_sizes_ok s ≡ true) × (s.height * s.width ≤ length luma.now) × (target_height s * target_width s ≤ length target.now) }
@@ -191,14 +209,7 @@ fn samples_ok(luma: &[u16], target: &[u16], s: Ccso) -> Result<(), Refusal>
 {
     let d = Depth { bits: s.depth };
     let top = d.top();
-    let over = row(luma, 0, s.height * s.width, top);
-    if let Some(k) = over {
-        return Err(Refusal::Sample(k));
-    }
+    list_ok(luma, s.height * s.width, top)?;
     let count = halved(s.ssy, s.height) * halved(s.ssx, s.width);
-    let past = row(target, 0, count, top);
-    if let Some(k) = past {
-        return Err(Refusal::Sample(k));
-    }
-    Ok(())
+    list_ok(target, count, top)
 }
