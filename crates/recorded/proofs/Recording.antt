@@ -75,7 +75,7 @@ passed_by s steps g l n is e = passed s steps g l n (sym is ∙ e)
 -- ---- the entry
 
 module _ (s : Plane) (steps : List ℕ) (g : Grid) (l b : List ℕ) {a : Answer} (is : a ≡ recorded_check s steps g l (length b)) where
-  pub stated_refused : {r : Refusal} → a ≡ Err r → Stated s steps g l b (record { «record» = Err r; stored = 0; changed = 0 }) l b
+  pub stated_refused : {r : Refusal} → a ≡ Err r → Stated s steps g l b (Err r) l b
   unfolding recorded_answer answer_bytes recorded_plane recorded_buffer recorded_stored recorded_changed
   stated_refused e = record {
     answer = rw (← is, e);
@@ -86,7 +86,7 @@ module _ (s : Plane) (steps : List ℕ) (g : Grid) (l b : List ℕ) {a : Answer}
   }
 
   pub stated_run : {x : Visited} {h m c : List ℕ} → a ≡ Ok tt → h ≡ sets b 0 header → Noted s steps g l h x m c
-      → Stated s steps g l b (record { «record» = Ok x.bytes; stored = x.stored; changed = x.changed }) m c
+      → Stated s steps g l b (Ok x) m c
   unfolding recorded_answer answer_bytes recorded_plane recorded_buffer recorded_stored recorded_changed
   stated_run {x} e head run =
       let size : x.bytes ≡ length (record_of (edges_of s steps g)) = run.visited ∙ sym (record_length_holds (edges_of s steps g)) in

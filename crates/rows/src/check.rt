@@ -37,9 +37,7 @@ pub fn rows_check(plane: &[u16], s: Plane, state: RowState, filled: usize, given
     if state.spent {
         return Err(Refusal::Spent);
     }
-    if let Err(r) = given {
-        return Err(r);
-    }
+    given?;
     if !counts_ok(s.rows, state.held, filled) {
         return Err(Refusal::Filled);
     }
