@@ -17,9 +17,9 @@ use Rattle.rules.specs.declared.refusals.Refusal.TheVariants.{Length}
 use Rattle.rules.specs.Refusals.{Answer}
 use Rattle.std.specs.declared.result.Result.TheVariants.{Ok, Err}
 use Rattle.rules.specs.declared.counts.Counts.{Counts}
-use Rattle.rules.specs.Refusals.{answered, changed_in, stored_in}
+use Rattle.rules.specs.declared.counts.Visited.{Visited}
+use Rattle.rules.specs.Refusals.{answered, length_told, counted, changed_in, stored_in}
 use Rattle.std.specs.declared.result.Result.{Result}
-use Rattle.rules.specs.declared.refusals.Refusal.{Refusal}
 use Rattle.rules.specs.Refusals.{number_of, place_refused, settle}
 use Rattle.rules.specs.Record.{answer_bytes}
 use Rattle.rules.specs.CSide.{c_answer}
@@ -118,15 +118,29 @@ pub refused_by_holds : {b : Answer} (n : ℕ) {r : Refusal} {lent place : List �
 unfolding c_answer
 refused_by_holds n {r} {z = z} e t = rw (← e) (record { answer = held_minus z r t.answer; place_is = t.place_is })
 
+-- ---- an entry that filters, with its counts
+
+pub filter_counted : {a : Result Counts Refusal} (lent k : List ℕ) {n : Counts} {m : List ℕ} → a ≡ Ok n → m ≡ tallied n.stored n.changed k → Told (answered a) lent (pos 0) lent × (m ≡ tallied (stored_in a) (changed_in a) k)
+unfolding c_answer placed
+filter_counted lent k e f = rw e (record { answer = refl; place_is = refl }, f)
+
+pub none_counted : {a : Result Counts Refusal} {r : Refusal} (k : List ℕ) {p q m : List ℕ} {z : ℤ} → a ≡ Err r → Told (Err r) p z q × (m ≡ tallied 0 0 k) → Told (answered a) p (to_z w32 (of_z w32 z)) q × (m ≡ tallied (stored_in a) (changed_in a) k)
+none_counted k e t = rw e (told_by refl t.0, t.1)
+
 -- ---- a record's bytes
 
-pub bytes_told : {a : Result ℕ Refusal} (lent : List ℕ) {n : ℕ} {z : ℤ} → Few a → a ≡ Ok n → z ≡ pos n → Counted (refusal_in a) (bytes_in a) lent (to_z w32 (of_z w32 z)) lent
-unfolding refusal_in bytes_in c_answer placed
-bytes_told lent {n} {z} few e h = let most = few n e in rw e (record { answer = held z n h (omega (arith, most)); place_is = refl })
+pub bytes_few : {a : Result Visited Refusal} {v : Visited} → Few (length_told a) → a ≡ Ok v → v.bytes < 2147483648
+bytes_few {v = v} few e = let most = few v.bytes (ap length_told e) in omega (arith, most)
 
-pub bytes_refused : {a : Result ℕ Refusal} {r : Refusal} (lent : List ℕ) {z : ℤ} {k : ℕ} {place : List ℕ} → a ≡ Err r → k ≡ place_refused r → place ≡ set lent 0 k → z ≡ neg_ℤ (pos (number_of r)) → Counted (refusal_in a) (bytes_in a) lent (to_z w32 (of_z w32 z)) place
+pub bytes_told : {a : Result Visited Refusal} (lent k : List ℕ) {v : Visited} {m : List ℕ} {z : ℤ} → Few (length_told a) → a ≡ Ok v → m ≡ tallied v.stored v.changed k → z ≡ pos v.bytes
+    → Counted (refusal_in (length_told a)) (bytes_in (length_told a)) lent (to_z w32 (of_z w32 z)) lent × (m ≡ tallied (stored_in (counted a)) (changed_in (counted a)) k)
 unfolding refusal_in bytes_in c_answer placed
-bytes_refused {a} {r} lent {z} e f g h = rw e (record { answer = held_minus z r h; place_is = g ∙ ap (λ (k : ℕ). set lent 0 k) f })
+bytes_told lent k {v} {z = z} few e f h = let most = bytes_few few e in rw e (record { answer = held z v.bytes h most; place_is = refl }, f)
+
+pub bytes_refused : {a : Result Visited Refusal} {r : Refusal} (k : List ℕ) {p q m : List ℕ} {z : ℤ} → a ≡ Err r → Told (Err r) p z q × (m ≡ tallied 0 0 k)
+    → Counted (refusal_in (length_told a)) (bytes_in (length_told a)) p (to_z w32 (of_z w32 z)) q × (m ≡ tallied (stored_in (counted a)) (changed_in (counted a)) k)
+unfolding refusal_in bytes_in
+bytes_refused k e t = rw e (told_by refl t.0, t.1)
 
 -- handed on by an export: the answer a is the bytes n where the check accepts
 pub counted_by : {a : Result ℕ Refusal} (check : Answer) (n : ℕ) {lent place : List ℕ} {z : ℤ} → a ≡ answer_bytes check n → Few a → Counted (refusal_in a) (bytes_in a) lent z place → Counted check n lent (to_z w32 (of_z w32 z)) place
@@ -179,10 +193,10 @@ module _ {A : Type 0} {check : Answer} (lent new : A) (stored changed : ℕ) {p 
   filter_refused e t = record { reported = reported_refused lent new e t.0; counts_are = t.1 ∙ ap₂ (λ (s c : ℕ). tallied s c k) (settle_refused _ _ _ e) (settle_refused _ _ _ e) }
 
   -- those of a check of the entry's own
-  pub filter_on : {own : Answer} {a : Result Counts Refusal} {left : A} → own ≡ check → answered a ≡ own → left ≡ settle own lent new → stored_in a ≡ settle own 0 stored → changed_in a ≡ settle own 0 changed
+  pub filter_on : {own : Answer} (a : Result Counts Refusal) {left : A} → own ≡ check → answered a ≡ own → left ≡ settle own lent new → stored_in a ≡ settle own 0 stored → changed_in a ≡ settle own 0 changed
       → Told (answered a) p z q × (m ≡ tallied (stored_in a) (changed_in a) k)
       → FilterTold check lent new stored changed p k (to_z w32 (of_z w32 z)) left q m
-  filter_on e f g s c t = record {
+  filter_on a e f g s c t = record {
     reported = reported_on lent new e f g t.0;
     counts_are = t.1 ∙ ap₂ (λ (s c : ℕ). tallied s c k) (s ∙ ap (λ (x : Answer). settle x 0 stored) e) (c ∙ ap (λ (x : Answer). settle x 0 changed) e);
   }

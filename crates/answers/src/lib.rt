@@ -65,11 +65,7 @@ pub fn told_refusal(r: Refusal, place: &mut [usize], counts: &mut [usize]) -> i3
 }
 
 // What is told of an entry that filters, with its counts put into a list.
-pub fn told_counts(
-    a: Result<Counts, Refusal>,
-    place: &mut [usize],
-    counts: &mut [usize],
-) -> i32
+pub fn told_counts(a: Result<Counts, Refusal>, place: &mut [usize], counts: &mut [usize]) -> i32
     ensures { Told (answered a) place.old result place.new × (counts.new ≡ tallied (stored_in a) (changed_in a) counts.old) }
 {
     match a {
@@ -82,11 +78,7 @@ pub fn told_counts(
 }
 
 // The same of a plane whose edges are recorded: how many bytes its record takes.
-pub fn told_record(
-    a: Result<Visited, Refusal>,
-    place: &mut [usize],
-    counts: &mut [usize],
-) -> i32
+pub fn told_record(a: Result<Visited, Refusal>, place: &mut [usize], counts: &mut [usize]) -> i32
     requires { Few (length_told a) }
     ensures { Counted (refusal_in (length_told a)) (bytes_in (length_told a)) place.old result place.new × (counts.new ≡ tallied (stored_in (counted a)) (changed_in (counted a)) counts.old) }
 {
@@ -105,8 +97,7 @@ pub fn told_rows(a: RowsAnswer, place: &mut [usize], counts: &mut [usize]) -> i3
     ensures { Counted a.answer a.finalrows place.old result place.new × (counts.new ≡ tallied a.stored a.changed counts.old) }
 {
     put_counts(counts, a.stored, a.changed);
-    let answer = a.answer;
-    told_count(answer, a.finalrows, place)
+    told_count(a.answer, a.finalrows, place)
 }
 
 // Both thresholds in one number, q above side.
