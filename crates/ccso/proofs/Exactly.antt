@@ -1,10 +1,9 @@
 -- `apply_edge_gated` gives each number exactly when document 01's test for it fails and those before it hold; and it accepts something.
 -- Assumes nothing.
 use mathlib.Core.Path.{◌≡◌, refl, ◌∙◌}
-use mathlib.Core.Bool.{true, false}
 use mathlib.Core.List.{List, [], ◌∷◌}
 use Prim.Native.Nat.{ℕ}
-use lib.IntN.{ℤ, pos, neg_ℤ}
+use lib.IntN.{ℤ, pos}
 use lib.ListN.{replicate}
 use Rattle.laws.specs.Choose.{pick, either, both, all}
 use Rattle.rules.specs.declared.settings.Ccso.{Ccso}

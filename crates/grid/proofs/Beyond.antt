@@ -1,11 +1,11 @@
 -- "what lies beyond is kept": an entry past the plane's cells is as it was lent, in all four lists of a TU grid and in the keep marks.
 -- Assumes nothing.
-use mathlib.Core.Path.{◌≡◌, refl, sym, ap, ◌∙◌}
+use mathlib.Core.Path.{◌≡◌, refl, ◌∙◌}
 use mathlib.Core.List.{List}
 use mathlib.Core.Bool.{Bool, true, false}
 use Prim.Native.Nat.{ℕ, ◌+◌, ◌*◌, ◌/◌, ◌≤◌, ◌<◌}
 use native.Mathlib.Omega.{arith}
-use lib.ListN.{length, get_or, set}
+use lib.ListN.{length, get_or}
 use lib.Seq.{get_or-set_other}
 use lib.Dec.{ltb}
 use borrow.Author.Tests.{ltb-true}
@@ -16,7 +16,7 @@ use Rattle.rules.specs.declared.settings.Tile.{Tile}
 use Rattle.rules.specs.Refusals.{Answer}
 use Rattle.std.specs.declared.result.Result.TheVariants.{Ok, Err}
 use Rattle.rules.specs.Refusals.{settle}
-use Rattle.rules.specs.TuGrid.{Marks, marks, mark_of, log2_of, store_cell, paint_cell, paint_row, paint_of, leaf_of, leaves_of, clear_of, blank_of, tx_grid_of, tx_grid_check, tx_grid_after, cleared_after}
+use Rattle.rules.specs.TuGrid.{Marks, mark_of, log2_of, store_cell, paint_cell, paint_row, paint_of, leaf_of, leaves_of, clear_of, tx_grid_of, tx_grid_check, tx_grid_after, cleared_after}
 use Rattle.tiles.proofs.Places.{place_below}
 
 module _ (s : TuGrid) (i : ℕ) (far : s.rows * s.cols ≤ i) (v h w t : ℕ) where

@@ -1,12 +1,11 @@
 -- What a built TU grid holds: marks 0 or 1 and size indices 0..6 at every cell, so that none of its cells is bad; and its entry's keep marks, 0 at every cell.
 -- Assumes nothing.
-use mathlib.Core.Path.{◌≡◌, refl, sym, ◌∙◌}
+use mathlib.Core.Path.{◌≡◌, refl, sym}
 use mathlib.Core.List.{List, [], ◌∷◌}
 use mathlib.Core.Bool.{Bool, true, false}
 use Prim.Native.Nat.{ℕ, zero, suc, ◌+◌, ◌*◌, ◌/◌, ◌%◌, ◌≤◌, ◌<◌}
 use native.Mathlib.Omega.{arith}
-use lib.ListN.{length, get_or, set, length-set}
-use lib.Seq.{get_or-set_other, get_or-set_same}
+use lib.ListN.{length, get_or, set}
 use lib.Dec.{ltb, eqb}
 use borrow.Author.Tests.{le-leb}
 use Rattle.laws.specs.Choose.{pick, both, all}
@@ -21,7 +20,6 @@ use Rattle.rules.specs.Plane.{grid, cell_good, bad_cell}
 use Rattle.rules.specs.TuGrid.{Marks, mark_of, log2_of, paint_cell, paint_row, paint_of, leaf_of, leaves_of, clear_of, tx_grid_of, cleared_after}
 use Rattle.checks.proofs.First.{all_nothing, found_unless_not}
 use Rattle.tiles.proofs.Turns.{turns_hit, set_keeps}
-use Rattle.tiles.proofs.Places.{same_row, same_col}
 use Rattle.grid.specs.Stated.{Stated}
 use Rattle.grid.proofs.Covers.{Column, stored, vedge_column, hedge_column, sqw_column, sqh_column}
 

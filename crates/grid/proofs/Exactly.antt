@@ -1,7 +1,6 @@
 -- The TU grid gives each number exactly when document 01's test for it fails and those before it hold; and it accepts something.
 -- Assumes nothing.
 use mathlib.Core.Path.{◌≡◌, refl}
-use mathlib.Core.Bool.{true, false}
 use mathlib.Core.List.{List, [], ◌∷◌}
 use Prim.Native.Nat.{ℕ}
 use Rattle.laws.specs.Choose.{pick, either, both, all}

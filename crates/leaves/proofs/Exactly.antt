@@ -1,6 +1,6 @@
 -- The grid from records gives each number exactly when document 01's test for it, of the records' numbers, fails and those before it hold; and it accepts something.
 -- Assumes nothing.
-use mathlib.Core.Path.{◌≡◌, refl}
+use mathlib.Core.Path.{◌≡◌}
 use mathlib.Core.List.{List, [], ◌∷◌}
 use Prim.Native.Nat.{ℕ}
 use Rattle.rules.specs.declared.settings.TuGrid.{TuGrid}

@@ -10,7 +10,7 @@ use lib.ListN.{length, get_or}
 use Rattle.laws.specs.Loops.{turns, turns_more, turns_end}
 use Rattle.rules.specs.declared.settings.TuGrid.{TuGrid}
 use Rattle.std.specs.declared.option.Option.{Option}
-use Rattle.std.specs.declared.option.Option.TheVariants.{Some, None}
+use Rattle.std.specs.declared.option.Option.TheVariants.{None}
 use Rattle.rules.specs.Refusals.{first, found_unless}
 use Rattle.rules.specs.TuGrid.{Marks, tile_of, paint_of, leaf_of, leaves_of, leaf_good, leaf_good_at, bad_leaf}
 use Rattle.checks.proofs.First.{first_more, first_found, first_end, found_unless_holds, found_unless_not}

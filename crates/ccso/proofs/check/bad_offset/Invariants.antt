@@ -1,10 +1,9 @@
 -- `bad_offset`'s loop: no offset so far is bad. Assumes nothing.
 use mathlib.Core.Path.{◌≡◌}
-use Prim.Native.Nat.{ℕ, ◌+◌, ◌-◌, ◌≤◌}
+use Prim.Native.Nat.{◌-◌, ◌≤◌}
 use Rattle.std.specs.declared.option.Option.TheVariants.{None}
 use Rattle.rules.specs.Refusals.{first, found_unless}
 use Rattle.rules.specs.Ccso.{offset_ok}
-use Rattle.ccso.proofs.Lengths.{offsets_first as needs}
 use Rattle.ccso.proofs.check.bad_offset.Given as goal
 
 abbrev pub invariant-loop-k : goal.invariant-loop-k

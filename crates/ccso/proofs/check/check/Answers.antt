@@ -1,6 +1,5 @@
 -- `check` leaves at the first check that fails. Assumes nothing.
 use Rattle.ccso.proofs.Accepted.{answers, admitted, passed_yes, luma_there, target_there, offsets_there}
-use borrow.Author.Rules.{rules}
 use Rattle.ccso.proofs.check.check.Goals as goal
 
 pub returns-then-not-is : goal.returns-then-not-is

@@ -1,8 +1,5 @@
 -- `in_range` tests a signed number by its two counts. Assumes nothing.
 use Rattle.ccso.proofs.Ranged.{split_below, split_above}
-use Rattle.checks.proofs.Ranges.{range_below, range_above}
-use native.Mathlib.Omega.{arith}
-use borrow.Author.Rules.{rules}
 use Rattle.ccso.proofs.check.in_range.Goals as goal
 
 pub returns-then-low-g : goal.returns-then-low-g

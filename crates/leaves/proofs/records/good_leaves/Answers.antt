@@ -1,5 +1,5 @@
 -- `good_leaves` stops at the first bad leaf. Assumes nothing.
-use Rattle.std.proofs.Common.{◌∙◌, sym, arith, get_or}
+use Rattle.std.proofs.Common.{◌∙◌, sym, arith}
 use Rattle.checks.proofs.First.{first_none}
 use Rattle.leaves.proofs.Flat.{good_more, good_stop, good_end}
 use Rattle.leaves.proofs.records.good_leaves.Goals as goal

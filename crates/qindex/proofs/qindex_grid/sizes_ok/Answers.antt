@@ -1,5 +1,4 @@
 -- `sizes_ok` tests cells, subsampling and superblocks in turn. Assumes nothing.
-use borrow.Author.Rules.{rules}
 use Rattle.laws.specs.Choose.{tests}
 use Rattle.qindex.proofs.qindex_grid.sizes_ok.Goals as goal
 

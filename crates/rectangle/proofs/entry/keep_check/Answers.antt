@@ -1,5 +1,4 @@
 -- `keep_check` makes the checks 2, 3 and 6 in this order. Assumes nothing.
-use borrow.Author.Rules.{rules}
 use Rattle.laws.specs.Choose.{told}
 use Rattle.rules.specs.Keep.{keep_check}
 use Rattle.checks.proofs.Checks.{checks}
