@@ -1,12 +1,14 @@
 -- How a count's parts, as the code finds them, make the count. Assumes nothing.
 use Rattle.std.proofs.Common.{◌≡◌, ℕ, ◌<◌, ◌≤◌, Bool, true, false, not, eqb, ltb, get_or, set, sym, refl, ap, ◌∙◌, rules}
+use mathlib.Core.Logic.{◌⊎◌, inl, inr}
 use borrow.Author.Tests.{not-true, not-false}
-use Rattle.laws.specs.Choose.{pick_yes, pick_no, both_bad, both_ok, is_lt, not_lt, is_eq, not_eq}
+use Rattle.laws.specs.Choose.{both, pick_yes, pick_no, both_bad, both_ok, is_lt, not_lt, is_eq, not_eq}
 use Rattle.rules.specs.Refusals.{number_of, place_refused}
 use Rattle.rules.specs.declared.refusals.Refusal.{Refusal}
 use Rattle.std.specs.declared.result.Result.{Result}
 use Rattle.rules.specs.declared.counts.Counts.{Counts}
-use Rattle.rules.specs.Refusals.{answered, changed_in, stored_in}
+use Rattle.rules.specs.Refusals.{Answer}
+use Rattle.std.specs.declared.result.Result.TheVariants.{Ok, Err}
 use Rattle.tally.specs.declared.Tally.{Tally}
 use Rattle.tally.specs.Counts.{next_of, bumped, counts, unread_more, no_case, different_more, number_more, case_more, width_more, is_refusal, is_answer, is_counted}
 
@@ -63,18 +65,31 @@ pub refusal_placed : (r : Refusal) (m n p k : ℕ) → m ≡ number_of r → m �
 unfolding is_refusal
 refusal_placed r m n p k e f g = both_ok _ _ _ (is_eq (number_of r) n (sym e ∙ f)) (ap (λ (x : ℕ). eqb x k) g)
 
--- another count, and both counts: then the answer decides
-pub stored_other : (a : Result Counts Refusal) (n k s t : ℕ) → (stored_in a ≡ s → ⊥) → false ≡ is_counted a n k s t
-unfolding is_counted
-stored_other a n k s t h = both_bad _ _ (not_eq (stored_in a) s h)
+-- both counts: then the answer decides; and another count
+both_counts : (a : Answer) (x y n k s t : ℕ) {b : Bool} → (x ≡ s) × (y ≡ t) → b ≡ is_answer a n k → b ≡ both (eqb x s) (both (eqb y t) (is_answer a n k))
+both_counts a x y n k s t p e = both_ok _ _ _ (is_eq x s p.0) (both_ok _ _ _ (is_eq y t p.1) e)
 
-pub changed_other : (a : Result Counts Refusal) (n k s t : ℕ) → stored_in a ≡ s → (changed_in a ≡ t → ⊥) → false ≡ is_counted a n k s t
-unfolding is_counted
-changed_other a n k s t e h = both_ok _ _ _ (is_eq (stored_in a) s e) (both_bad _ _ (not_eq (changed_in a) t h))
+other_count : (a : Answer) (x y n k s t : ℕ) {b : Bool} → b ≡ false → ((x ≡ s) × (y ≡ t → ⊥)) ⊎ (x ≡ s → ⊥) → b ≡ both (eqb x s) (both (eqb y t) (is_answer a n k))
+other_count a x y n k s t off (inl p) = off ∙ both_ok _ _ _ (is_eq x s p.0) (both_bad _ _ (not_eq y t p.1))
+other_count a x y n k s t off (inr h) = off ∙ both_bad _ _ (not_eq x s h)
 
-pub counts_same : (a : Result Counts Refusal) (n k s t : ℕ) (b : Bool) → stored_in a ≡ s → changed_in a ≡ t → b ≡ is_answer (answered a) n k → b ≡ is_counted a n k s t
-unfolding is_counted
-counts_same a n k s t b e f h = both_ok _ _ _ (is_eq (stored_in a) s e) (both_ok _ _ _ (is_eq (changed_in a) t f) h)
+module _ {a : Result Counts Refusal} (n k s t : ℕ) {b : Bool} where
+  pub accepted_same : {c : Counts} → a ≡ Ok c → (c.stored ≡ s) × (c.changed ≡ t) → b ≡ eqb n 0 → b ≡ is_counted a n k s t
+  unfolding is_counted is_answer
+  accepted_same {c} e p h = rw e (both_counts (Ok tt) c.stored c.changed n k s t p h)
+
+  pub accepted_other : {c : Counts} → a ≡ Ok c → b ≡ false → ((c.stored ≡ s) × (c.changed ≡ t → ⊥)) ⊎ (c.stored ≡ s → ⊥) → b ≡ is_counted a n k s t
+  unfolding is_counted
+  accepted_other {c} e off h = rw e (other_count (Ok tt) c.stored c.changed n k s t off h)
+
+  pub refused_same : {r : Refusal} → a ≡ Err r → (s ≡ 0) × (t ≡ 0) → b ≡ is_refusal r n k → b ≡ is_counted a n k s t
+  unfolding is_counted is_answer
+  refused_same {r} e p h = rw e (both_counts (Err r) 0 0 n k s t (sym p.0, sym p.1) h)
+
+  pub refused_other : {r : Refusal} → a ≡ Err r → b ≡ false → ((s ≡ 0) × (t ≡ 0 → ⊥)) ⊎ (s ≡ 0 → ⊥) → b ≡ is_counted a n k s t
+  unfolding is_counted
+  refused_other {r} e off (inl p) = rw e (other_count (Err r) 0 0 n k s t off (inl (sym p.0, λ h. p.1 (sym h))))
+  refused_other {r} e off (inr h) = rw e (other_count (Err r) 0 0 n k s t off (inr (λ e. h (sym e))))
 
 pub ruleset counting =
-    (rules, unread_counted, line_read, line_unread, number_counted, number_unknown, case_same, case_different, width_counted, width_unknown, refusal_other, refusal_placed, stored_other, changed_other, counts_same)
+    (rules, unread_counted, line_read, line_unread, number_counted, number_unknown, case_same, case_different, width_counted, width_unknown, refusal_other, refusal_placed)

@@ -54,4 +54,4 @@ is_answer (Err r) n k = is_refusal r n k
 
 -- an answer with its counts is what the stream says
 unfoldable pub is_counted : Result Counts Refusal → ℕ → ℕ → ℕ → ℕ → Bool
-is_counted a n k stored changed = both (a.stored == stored) (both (a.changed == changed) (is_answer a.answer n k))
+is_counted a n k stored changed = both (stored_in a == stored) (both (changed_in a == changed) (is_answer (answered a) n k))

@@ -4,8 +4,8 @@
 ghost use Rattle.std.specs.Prelude.{◌≡◌};
 ghost use Rattle.tally.specs.Counts.{next_of, no_counts, unread_more, no_case, number_more, case_more, width_more, is_refusal, is_answer, is_counted};
 
-use rules::refusals;
 use rules::counts::Counts;
+use rules::refusals;
 use rules::refusals::Refusal;
 use std::io::Write;
 use std::num::wrapping_add_u64;
@@ -122,7 +122,7 @@ pub fn same_counted(
     ensures { result ≡ is_counted a number place stored changed }
 {
     match a {
-        Ok(n) => number == 0 && n.stored == stored && n.changed == changed,
+        Ok(n) => n.stored == stored && n.changed == changed && number == 0,
         Err(r) => stored == 0 && changed == 0 && refused(r, number, place),
     }
 }
