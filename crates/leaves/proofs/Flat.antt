@@ -4,7 +4,6 @@ use mathlib.Core.Path.{◌≡◌, refl, sym, ap, ◌∙◌}
 use mathlib.Core.Bool.{Bool, true, false}
 use mathlib.Core.List.{List, [], ◌∷◌}
 use Prim.Native.Nat.{ℕ, zero, suc, ◌+◌, ◌*◌, ◌/◌, ◌≤◌, ◌<◌}
-use native.Mathlib.Nat.{le_antisymm}
 use native.Mathlib.Omega.{arith}
 use lib.ListN.{length, get_or}
 use Rattle.laws.specs.Loops.{turns, turns_more, turns_end}
@@ -107,6 +106,6 @@ module _ (skip : Bool) (ls : List Leaf) where
   unfolding good_of bad_leaf place_or
   good_stop i p e l = rw (flat_count ls, ← first_found bad i (length ls) p (found_unless_holds _ i (sym (flat_good skip ls i ∙ e))) l)
 
-  pub good_end : (i : ℕ) → Sound i → i ≤ length ls → length ls ≤ i → i ≡ good_of skip ls
+  pub good_end : (i : ℕ) → Sound i → i ≤ length ls → length ls ≤ i → length ls ≡ good_of skip ls
   unfolding good_of bad_leaf place_or
-  good_end i p a b = rw (flat_count ls, ← first_end bad i (length ls) p a b) (le_antisymm a b)
+  good_end i p a b = rw (flat_count ls, ← first_end bad i (length ls) p a b)
