@@ -1,4 +1,5 @@
 -- A record over lists that are all zero, and by the lists that the settings have. Assumes nothing.
+use Rattle.std.specs.declared.result.Result.{Result}
 use mathlib.Core.Path.{◌≡◌, refl, ap, ◌∙◌}
 use mathlib.Core.Bool.{Bool, true, false}
 use mathlib.Core.List.{List}

@@ -11,9 +11,7 @@ use Rattle.laws.specs.Choose.{pick}
 use Rattle.rules.specs.declared.settings.Frame.{Frame}
 use Rattle.rules.specs.declared.settings.Plane.{Plane}
 use Rattle.rules.specs.declared.counts.Counts.{Counts}
-use Rattle.std.specs.declared.result.Result.{Result}
-use Rattle.rules.specs.declared.refusals.Refusal.{Refusal}
-use Rattle.rules.specs.Refusals.{changed_in, stored_in}
+use Rattle.std.specs.declared.result.Result.TheVariants.{Ok}
 use Rattle.rules.specs.Refusals.{settle}
 use Rattle.rules.specs.Numbers.{top_of}
 use Rattle.rules.specs.Plane.{Grid, kept_by, edges_of, run_stored, run_changed, plane_after, plane_stored, plane_changed}
@@ -68,10 +66,10 @@ module _ {f : Frame} {chroma : Bool} {steps : List ℕ} {g : Grid} {l : List ℕ
       }
 
   -- one that is, by the plane's entry in the plain order
-  pub plane_plain : true ≡ kind_on f chroma → Runnable f chroma steps g l → {a : Result Counts Refusal} {m : List ℕ} → Stated (plane_of f chroma) steps g l a m → PlaneRun f chroma steps g l (record { stored = stored_in a; changed = changed_in a }) m
+  pub plane_plain : true ≡ kind_on f chroma → Runnable f chroma steps g l → {a : Counts} {m : List ℕ} → Stated (plane_of f chroma) steps g l (Ok a) m → PlaneRun f chroma steps g l a m
   unfolding plane_after plane_stored plane_changed settle
   plane_plain on k {a} done =
-      plane_on on k {x = record { bytes = 5 + 10 * length (edges_of (plane_of f chroma) steps g); stored = stored_in a; changed = changed_in a }}
+      plane_on on k {x = record { bytes = 5 + 10 * length (edges_of (plane_of f chroma) steps g); stored = a.stored; changed = a.changed }}
       (record { plane = rw k.accepted at done.plane; visited = refl; stored = rw k.accepted at done.stored; changed = rw k.accepted at done.changed })
 
 -- ---- a frame

@@ -1,5 +1,6 @@
 -- `record_plane` gives each refusal number, with its place, exactly when its test fails there and those before it hold.
 -- Assumes nothing.
+use Rattle.std.specs.declared.result.Result.{Result}
 use mathlib.Core.Path.{◌≡◌, refl, ap, ◌∙◌}
 use mathlib.Core.List.{List, [], ◌∷◌, ◌++◌}
 use Prim.Native.Nat.{ℕ}
@@ -9,7 +10,7 @@ use Rattle.rules.specs.Refusals.{Answer}
 use Rattle.std.specs.declared.result.Result.TheVariants.{Ok, Err}
 use Rattle.rules.specs.declared.counts.Visited.{Visited}
 use Rattle.rules.specs.declared.refusals.Refusal.{Refusal}
-use Rattle.rules.specs.Refusals.{length_told}
+use Rattle.rules.specs.Refusals.{answered, length_told}
 use Rattle.rules.specs.Refusals.{or_else}
 use Rattle.rules.specs.Plane.{Grid}
 use Rattle.rules.specs.Record.{recorded_check, answer_bytes, recorded_answer}
@@ -18,7 +19,7 @@ use Rattle.checks.proofs.Exactly.{chain_joined, exactly}
 use Rattle.promises.specs.Exactly.{plane_tests}
 use Rattle.promises.proofs.Exactly.{plane_chain}
 use Rattle.recorded.specs.Stated.{Stated}
-use Rattle.record_promises.specs.Exactly.{room_test, recorded_tests, answered}
+use Rattle.record_promises.specs.Exactly.{room_test, recorded_tests}
 
 -- one more check after a chain
 one_more : (cs : List Check) (d : Check) → or_else (chain cs) (chain (d ∷ [])) ≡ chain (cs ++ (d ∷ []))

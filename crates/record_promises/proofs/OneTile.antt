@@ -1,5 +1,6 @@
 -- Ticket 5, "An empty list gives today's samples", of a recorded plane: its entries are those of document 01's edges (`edge_alone` in promises), and
 -- its answer, record, plane and counts are those of one tile. Assumes nothing.
+use Rattle.std.specs.declared.result.Result.{Result}
 use mathlib.Core.Path.{◌≡◌, subst}
 use mathlib.Core.List.{List, []}
 use Prim.Native.Nat.{ℕ}
