@@ -56,8 +56,7 @@ fn luma_long(f: Frame, n: FrameLengths) -> bool
     if !samples_long(s, n.y) {
         return false;
     }
-    let g = n.luma;
-    grid_long(s, g)
+    grid_long(s, n.luma)
 }
 
 fn chroma_long(f: Frame, n: FrameLengths) -> bool
@@ -71,8 +70,7 @@ fn chroma_long(f: Frame, n: FrameLengths) -> bool
     if !samples_long(s, n.v) {
         return false;
     }
-    let g = n.chroma;
-    grid_long(s, g)
+    grid_long(s, n.chroma)
 }
 
 // An entry for each superblock.

@@ -152,8 +152,7 @@ fn print_numbers<W: Write>(to: &mut W, n: [u64; 21]) {
 
 // How the cases came out, in one line.
 pub fn print<W: Write>(to: &mut W, t: Tally) {
-    let n = t.numbers;
-    print_numbers(to, n);
+    print_numbers(to, t.numbers);
     part(to, b"; different ", t.different);
     part(to, b", unread ", t.unread);
     write_all(to, b"\n");
