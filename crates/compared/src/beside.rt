@@ -2,7 +2,6 @@
 ghost use Rattle.std.specs.Prelude.{◌≡◌, ◌≤◌, length};
 ghost use Rattle.compared.specs.Compare.{same_numbers, first_difference, difference_of};
 
-use laws::least;
 use replay::{count, entry};
 use rules::edge::Edge;
 
@@ -41,7 +40,7 @@ fn first_difference(a: &[u8], b: &[u8]) -> Option<usize>
     requires { (5 ≤ length a.now) × (5 ≤ length b.now) }
     ensures { result ≡ first_difference a.now b.now }
 {
-    let n = least(count(a), count(b));
+    let n = count(a).min(count(b));
     for k in 0..n {
         if !same_numbers(entry(a, k), entry(b, k)) {
             return Some(k);
