@@ -1,6 +1,6 @@
 -- The checks in their order: the answer at each way out, and what an accepted input promises the run.
 -- Assumes nothing.
-use mathlib.Core.Path.{◌≡◌, refl, sym, ◌∙◌}
+use mathlib.Core.Path.{◌≡◌, sym, ◌∙◌}
 use mathlib.Core.Bool.{Bool, true, false, not}
 use mathlib.Core.List.{List}
 use Prim.Native.Nat.{ℕ, ◌+◌, ◌*◌, ◌≤◌, ◌<◌}
@@ -17,15 +17,16 @@ use Rattle.rules.specs.declared.refusals.Refusal.{Refusal}
 use Rattle.rules.specs.declared.refusals.Refusal.TheVariants.{Depth, Size, Length, Setting, Sample}
 use Rattle.rules.specs.Refusals.{Answer}
 use Rattle.std.specs.declared.result.Result.TheVariants.{Ok, Err}
+use Rattle.std.specs.Option.{is_some}
 use Rattle.std.specs.declared.option.Option.{Option}
 use Rattle.std.specs.declared.option.Option.TheVariants.{Some, None}
 use Rattle.rules.specs.Numbers.{depth_ok, top_of, in_range, in_range_z}
 use Rattle.rules.proofs.Depths.{by_depth}
 use Rattle.rules.specs.Frame.{superblocks}
-use Rattle.rules.specs.Refusals.{first, found_unless, over_top, over_row}
+use Rattle.rules.specs.Refusals.{first, found, found_unless, over_top, over_row}
 use Rattle.rules.specs.Ccso.{target_width, target_height, ccso_sizes_ok, ccso_lengths_ok, ccso_settings_ok, band_ok, offset_count, offset_ok, bad_offset, ccso_check, ccso_of, ccso_after}
 use Rattle.checks.proofs.First.{nothing_all, over_nothing, unless_nothing}
-use Rattle.checks.proofs.Checks.{stop, go_on, unless_bad, unless_good, found_bad_by, found_good_by, else_parts, unless_true, found_nothing, settle_refused, settle_accepted}
+use Rattle.checks.proofs.Checks.{stop, go_on, unless_bad, unless_good, else_parts, unless_true, found_nothing, settle_refused, settle_accepted}
 use Rattle.ccso_sample.specs.Ranges.{SignedWithin, Ranges}
 use Rattle.ccso.specs.Lists.{CcsoFits}
 use Rattle.ccso.specs.Stated.{Stated}
@@ -35,6 +36,17 @@ use Rattle.ccso.proofs.Ranged.{three_parts}
 use Rattle.ccso.proofs.Lengths.{sizable}
 
 -- ---- each way out of the checks
+
+-- by whether a search found one, wherever
+some_bad : (f g : Option ℕ) → f ≡ g → true ≡ is_some f → Err Setting ≡ found g (λ k. Setting)
+unfolding found
+some_bad (Some k) g e h = rw (← e)
+some_bad None g e h = absurd (let z : ◌≡◌ {A = ℕ} 0 1 = cc in omega arith)
+
+none_good : (f g : Option ℕ) → f ≡ g → false ≡ is_some f → Ok tt ≡ found g (λ k. Setting)
+unfolding found
+none_good (Some k) g e h = absurd (let z : ◌≡◌ {A = ℕ} 0 1 = cc in omega arith)
+none_good None g e h = rw (← e)
 
 module _ (s : Ccso) (luma flags : List ℕ) (offsets : List ℤ) (t : List ℕ) where
   pub answer_depth : false ≡ depth_ok s.depth → Err Depth ≡ ccso_check s luma flags offsets t
@@ -62,21 +74,21 @@ module _ (s : Ccso) (luma flags : List ℕ) (offsets : List ℤ) (t : List ℕ) 
           unfolding bad_offset
           offset_first = rw c at b
 
-          pub answer_offset : {k : ℕ} → f ≡ Some k → Err Setting ≡ ccso_check s luma flags offsets t
+          pub answer_offset : true ≡ is_some f → Err Setting ≡ ccso_check s luma flags offsets t
           unfolding ccso_check
           answer_offset h =
               go_on _ _ _ (unless_good _ _ d)
               (go_on _ _ _ (unless_good _ _ z)
               (go_on _ _ _ (unless_good _ _ l)
-              (go_on _ _ _ (unless_good _ _ o) (stop _ _ (found_bad_by _ f (λ k. Setting) Setting offset_first h refl)))))
+              (go_on _ _ _ (unless_good _ _ o) (stop _ _ (some_bad f _ offset_first h)))))
 
-          pub answer_samples : (a : Answer) → f ≡ None → a ≡ samples_check s luma t → a ≡ ccso_check s luma flags offsets t
+          pub answer_samples : (a : Answer) → false ≡ is_some f → a ≡ samples_check s luma t → a ≡ ccso_check s luma flags offsets t
           unfolding ccso_check samples_check
           answer_samples a h e =
               go_on _ _ _ (unless_good _ _ d)
               (go_on _ _ _ (unless_good _ _ z)
               (go_on _ _ _ (unless_good _ _ l)
-              (go_on _ _ _ (unless_good _ _ o) (go_on _ _ _ (found_good_by _ f (λ k. Setting) offset_first h) e))))
+              (go_on _ _ _ (unless_good _ _ o) (go_on _ _ _ (none_good f _ offset_first h) e))))
 
 -- ---- what the tests give
 

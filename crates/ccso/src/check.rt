@@ -185,7 +185,7 @@ pub fn check(
     if !settings_ok(s) {
         return Err(Refusal::Setting);
     }
-    if let Some(_) = bad_offset(offsets, count_of(s)) {
+    if bad_offset(offsets, count_of(s)).is_some() {
         return Err(Refusal::Setting);
     }
     samples_ok(luma, target, s)
