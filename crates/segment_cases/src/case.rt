@@ -3,7 +3,7 @@ ghost use Rattle.std.specs.Prelude.{◌≡◌, length};
 ghost use Rattle.text.specs.Lists.{Fills};
 
 use lone::filter_lone;
-use rules::refusals::{LoneAnswer, Refusal};
+use rules::refusals::{Filtered, Refusal};
 use rules::settings::Lone;
 use tally::Tally;
 use text::{Answered, Cursor};
