@@ -54,7 +54,7 @@ module _ (settings : List ℤ) (steps : List ℕ) (g : Grid) (l : List ℕ) {a :
   unfolding c_plane_check plane_after plane_stored plane_changed
   plane_told {s} {x} {m} e read d u =
       let w : «PlaneStated» (plane_of settings) steps g l x m = rw read at d in
-      filter_on l _ _ _ (go_on_by _ _ _ _ is e refl) w.answer w.plane w.stored w.changed u
+      filter_on l _ _ _ _ (go_on_by _ _ _ _ is e refl) w.answer w.plane w.stored w.changed u
 
 pub ruleset planes = (rules, plane_long, plane_refused, plane_told)
 
@@ -74,7 +74,7 @@ module _ (settings : List ℤ) (bytes keep l : List ℕ) {p q k t : List ℕ} {z
   unfolding replay_after replay_stored replay_changed
   replay_told {s} {x} {m} enough read d u =
       let w : Replayed (replay_settings settings) bytes keep l x m = rw read at d in
-      filter_on l _ _ _ (long_is 4 settings _ enough) w.answer w.plane (w.stored ∙ word_kept _ _) (w.changed ∙ word_kept _ _) u
+      filter_on l _ _ _ _ (long_is 4 settings _ enough) w.answer w.plane (w.stored ∙ word_kept _ _) (w.changed ∙ word_kept _ _) u
 
 pub ruleset replays = (rules, replay_short, replay_told)
 

@@ -116,8 +116,8 @@ module _ (depth pair q side : ℕ) (bytes : List ℕ) where
               }
 
           -- at the way out with a refusal
-          pub told_refused : {r : Refusal} {z : ℤ} {counts put : List ℕ} → a.width ≡ Err r → z ≡ neg_ℤ (pos (number_of r)) → put ≡ tallied 0 0 counts → SegmentTold depth pair q side bytes counts (to_z w32 (of_z w32 z)) bytes put
+          pub told_refused : {r : Refusal} {z : ℤ} {counts put : List ℕ} → a ≡ Err r → z ≡ neg_ℤ (pos (number_of r)) → put ≡ tallied 0 0 counts → SegmentTold depth pair q side bytes counts (to_z w32 (of_z w32 z)) bytes put
           unfolding lone_width
-          told_refused {r} e f none = refused_told (check_is (Err r) (from_refused _ _ (sym e ∙ here.width))) f none
+          told_refused {r} e f none = refused_told (check_is (Err r) (from_refused _ _ (sym (ap width_in e) ∙ here.width))) f none
 
 pub ruleset windows = (rules, bad_depth, bad_length, width_range, told_width, told_refused)
