@@ -100,7 +100,7 @@ fn tried(
         f,
         false,
     );
-    deblocked(j.told, o, f, starts_good(shorts, places, f), text)
+    deblocked(j.told, o, f, starts_good(shorts, places, f), text).is_some()
 }
 
 // The frames, by settings that a dark frame has tried.

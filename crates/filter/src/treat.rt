@@ -91,16 +91,15 @@ pub fn treat(
 {
     let f = frame_by(j, numbers);
     let o = deblock_asked(y, u, v, shorts, steps, keep, chromakeep, places, f, plain);
-    let counts = Counts {
-        stored: o.stored,
-        changed: o.changed,
-    };
-    if !deblocked(j.told, o, f, starts_good(shorts, places, f), text) {
+    let Some(counts) = deblocked(j.told, o, f, starts_good(shorts, places, f), text) else {
         return Treated {
             good: false,
-            counts,
+            counts: Counts {
+                stored: 0,
+                changed: 0,
+            },
         };
-    }
+    };
     pack(y, u, v, j);
     planes::copy(y, luma);
     let d = offset_planes(y, u, v, luma, numbers, flags, offsets, places, f);

@@ -7,8 +7,9 @@ use by_settings::filters::frame_of;
 use by_settings::lists::lists_of;
 use by_settings::places::Place;
 use by_settings::{kinds, places};
-use frame_by_settings::lists::Outcome;
+use frame_by_settings::lists::Refused;
 use plane_checks::starts::tiles_check;
+use rules::counts::Counts;
 use rules::refusals::{Refusal, number, place};
 use rules::settings::Frame;
 use settings::lines::{line_with, lines_of};
@@ -98,15 +99,19 @@ fn say_refused(told: &Target, r: Refusal, at: Place, f: Frame, starts: bool, tex
     }
 }
 
-// Whether a frame was deblocked; else after the answer that says why not.
-pub fn deblocked(told: &Target, o: Outcome, f: Frame, starts: bool, text: &[u8]) -> bool {
-    let a = o.answer;
-    let at = o.place;
-    match a {
-        Ok(()) => true,
-        Err(r) => {
-            say_refused(told, r, at, f, starts, text);
-            false
+// The counts of a frame that was deblocked; else none, after the answer that says why not.
+pub fn deblocked(
+    told: &Target,
+    o: Result<Counts, Refused>,
+    f: Frame,
+    starts: bool,
+    text: &[u8],
+) -> Option<Counts> {
+    match o {
+        Ok(counts) => Some(counts),
+        Err(x) => {
+            say_refused(told, x.refusal, x.place, f, starts, text);
+            None
         }
     }
 }

@@ -1,5 +1,5 @@
 // One case: what the entry is asked, and what the stream says that it answers.
-use rules::refusals::Thresholds;
+use rules::refusals::{Refusal, Thresholds};
 use tally::Tally;
 use text::Cursor;
 use thresholds::combine::combine_thresholds;
@@ -59,9 +59,9 @@ fn read(text: &[u8], c: Cursor) -> Case {
 }
 
 // Whether the answer is the stream's.
-fn same(answer: Thresholds, c: Case) -> bool {
+fn same(answer: Result<Thresholds, Refusal>, c: Case) -> bool {
     match answer {
-        Thresholds::Both(q, side) => c.number == 0 && q as usize == c.a && side as usize == c.b,
+        Ok(t) => c.number == 0 && t.q as usize == c.a && t.side as usize == c.b,
         Err(r) => c.b == 0 && tally::refused(r, c.number, c.a),
     }
 }
