@@ -70,10 +70,11 @@ fn over_grid(
     let mut keep = marks();
     let mut qindex = indices();
     let t = tu_of(f, chroma);
-    build_tx_grid(
+    // a grid that is refused stays without an edge; why it is was answered with the settings
+    let _ = build_tx_grid(
         leaves, skips, &mut vedge, &mut hedge, &mut sqw, &mut sqh, &mut keep, t,
     );
-    build_qindex_grid(sbq, &mut qindex, q_of(f, chroma));
+    let _ = build_qindex_grid(sbq, &mut qindex, q_of(f, chroma));
     keep_cells(&mut keep, rectangles, cells_of(way.shape, t.ssx, t.ssy));
     bands(
         plane,

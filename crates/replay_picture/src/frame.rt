@@ -35,7 +35,7 @@ fn run_plane(
 ) -> bool
     ensures { plane.new ≡ replay_after (settings_of s depth) bytes.now keep.now plane.old }
 {
-    let a = replay_plane(
+    let answer = replay_plane(
         plane,
         bytes,
         keep,
@@ -46,7 +46,6 @@ fn run_plane(
             depth,
         },
     );
-    let answer = a.answer;
     if let Err(r) = answer {
         say::refused(told, p, r, s);
         return false;
