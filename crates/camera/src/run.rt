@@ -18,6 +18,7 @@ use refused::inside::inside;
 use rules::counts::Counts;
 use rules::settings::Frame;
 use settings::lines::lines_of;
+use settings::file::Settings;
 use settings::names::first_places;
 use std::fs::File;
 use std::rt::Files;
@@ -214,17 +215,15 @@ fn told(
     let mut flags = [1u8; 12288];
     let mut offsets = [0i8; 384];
     let mut places = first_places(shorts.len());
-    if !take(
-        answer,
-        name,
-        text,
-        &mut numbers,
+    let mut s = Settings {
+        numbers: &mut numbers,
         shorts,
-        &mut steps,
-        &mut flags,
-        &mut offsets,
-        &mut places,
-    ) {
+        steps: &mut steps,
+        flags: &mut flags,
+        offsets: &mut offsets,
+        places: &mut places,
+    };
+    if !take(answer, name, text, &mut s) {
         return;
     }
     if alone(answer, name, text) {

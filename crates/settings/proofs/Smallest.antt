@@ -3,7 +3,6 @@ use mathlib.Core.Path.{◌≡◌, refl}
 use mathlib.Core.List.{List, [], ◌∷◌}
 use Prim.Native.Nat.{ℕ}
 use lib.IntN.{pos}
-use lib.ListN.{get_or}
 use Rattle.laws.specs.Choose.{pick, both, either, all}
 use Rattle.laws.specs.Loops.{each}
 use Rattle.text.specs.Places.{seek, newline_at, remark, remark_at, blank_of, ink_at}
