@@ -112,7 +112,7 @@ unfolding version_bad both is_one
 version_none kind [] k e = rw k
 version_none kind (z ∷ zs) k e = absurd (omega arith)
 
--- as `split` gave it
+-- as `Gap::from` gave it
 pub version_some : (kind up : ℕ) (numbers : List ℤ) → kind ≡ 1 → SFits w32 (get_or numbers 0 (pos 0)) → up ≡ over (to_z w32 (of_z w32 (get_or numbers 0 (pos 0))))
     → not (eqb up 1) ≡ version_bad kind numbers
 unfolding version_bad both
@@ -135,7 +135,7 @@ module _ (kind : ℕ) (numbers : List ℤ) (k : kind ≡ 11) where
   unfolding flag_bad both is_flag
   flag_none h = rw (k, get_or-eq_default numbers (pos 0) {n = 7} (omega arith))
 
-  -- as `split` gave it
+  -- as `Gap::from` gave it
   module _ (down up : ℕ) (f : SFits w32 (get_or numbers 7 (pos 0)))
       (e : (up ≡ over (to_z w32 (of_z w32 (get_or numbers 7 (pos 0))))) × (down ≡ under (to_z w32 (of_z w32 (get_or numbers 7 (pos 0)))))) where
     below_is : down ≡ under (get_or numbers 7 (pos 0))

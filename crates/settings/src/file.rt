@@ -5,7 +5,7 @@ ghost use Rattle.settings.specs.Text.{alone_of, missing_of, parse_of};
 
 use crate::names::{kind, rule_of};
 use crate::values::{Taken, put};
-use laws::split;
+use laws::Gap;
 use text::Cursor;
 use text::place::{content_end, line_end, spaces};
 use text::spell::read_word;
@@ -89,7 +89,7 @@ fn version_bad(kind: usize, numbers: &[i32]) -> bool
     if numbers.len() == 0 {
         return true;
     }
-    let version = split(numbers[0]);
+    let version = Gap::from(numbers[0]);
     version.up != 1
 }
 
@@ -103,7 +103,7 @@ fn flag_bad(kind: usize, numbers: &[i32]) -> bool
     if numbers.len() < 8 {
         return false;
     }
-    let flag = split(numbers[7]);
+    let flag = Gap::from(numbers[7]);
     if flag.down != 0 {
         return true;
     }

@@ -4,7 +4,6 @@ ghost use Rattle.laws.specs.Choose.{pick};
 ghost use Rattle.rules.specs.Width.{slope_of, steep_of};
 ghost use Rattle.width.specs.Ends.{ends, slopes_of};
 
-use crate::sizes::{apart, larger};
 use rules::edge::Line;
 
 // |(a0 - ak) - k(a0 - a1)|
@@ -12,7 +11,7 @@ fn slope(k: u32, a0: u16, a1: u16, ak: u16) -> u32
     requires { k ≤ 8 }
     ensures { (result ≡ slope_of k a0 a1 ak) × (result ≤ 589815) }
 {
-    apart(a0 as u32 + k * (a1 as u32), ak as u32 + k * (a0 as u32))
+    (a0 as u32 + k * (a1 as u32)).abs_diff(ak as u32 + k * (a0 as u32))
 }
 
 // Both lines: twice the ramp, but for the rounding.
@@ -53,5 +52,5 @@ pub fn steep(a: Line, b: Line, n: usize, k: usize, limit: u32) -> bool
     requires { (k ≤ 8) × (limit ≤ 839) }
     ensures { result ≡ steep_of (ends a b) n k limit }
 {
-    2 * limit < larger(slopes_after(a, b, k), slopes_counted(a, b, n, k))
+    2 * limit < slopes_after(a, b, k).max(slopes_counted(a, b, n, k))
 }

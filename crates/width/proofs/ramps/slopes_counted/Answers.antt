@@ -1,6 +1,4 @@
 -- Counted, or not.
-use mathlib.Core.Path.{◌≡◌}
-use borrow.Author.Rules.{rules}
 use Rattle.width.proofs.Picks.{count_le, count_gt}
 use Rattle.width.proofs.ramps.slopes_counted.Goals as goal
 
