@@ -6,4 +6,4 @@ use Rattle.width.proofs.ramps.steep.Goals as goal
 
 pub returns : goal.returns
 unfolding steep_of
-returns c = larger_is _ _ _ _ _ _ c.slopes_after.ensures c.slopes_counted.ensures c.max.ensures
+returns c = larger_is _ _ _ _ _ _ c.slopes.ensures.0 c.slopes_counted.ensures c.max.ensures
