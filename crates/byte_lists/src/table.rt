@@ -10,10 +10,8 @@ pub fn steps(bytes: &[u8]) -> [u32; 352]
     ensures { result ≡ steps_in 352 bytes.now }
 {
     let mut t = [0u32; 352];
-    let mut k: usize = 0;
-    while k < 352 {
+    for k in 0..352 {
         t[k] = four_at(bytes, 4 * k);
-        k += 1;
     }
     t
 }

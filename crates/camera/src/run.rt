@@ -17,6 +17,7 @@ use refused::frames::{deblocked, frame_by, starts_good};
 use refused::inside::inside;
 use rules::counts::Counts;
 use rules::settings::Frame;
+use settings::file::Settings;
 use settings::lines::lines_of;
 use settings::names::first_places;
 use std::fs::File;
@@ -214,17 +215,15 @@ fn told(
     let mut flags = [1u8; 12288];
     let mut offsets = [0i8; 384];
     let mut places = first_places(shorts.len());
-    if !take(
-        answer,
-        name,
-        text,
-        &mut numbers,
+    let mut s = Settings {
+        numbers: &mut numbers,
         shorts,
-        &mut steps,
-        &mut flags,
-        &mut offsets,
-        &mut places,
-    ) {
+        steps: &mut steps,
+        flags: &mut flags,
+        offsets: &mut offsets,
+        places: &mut places,
+    };
+    if !take(answer, name, text, &mut s) {
         return;
     }
     if alone(answer, name, text) {

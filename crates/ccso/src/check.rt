@@ -8,7 +8,7 @@ ghost use Rattle.rules.specs.declared.refusals.Refusal.TheVariants.{Sample};
 ghost use Rattle.ccso.specs.Checks.{cuts_ok, classes_ok, taps_ok, samples_check};
 
 use checks::row;
-use laws::split;
+use laws::Gap;
 use rounding::{halved, superblocks};
 use rules::depth::Depth;
 use rules::refusals::Refusal;
@@ -39,7 +39,7 @@ fn sizes_ok(s: Ccso) -> bool
 fn in_range(v: i32, low: u32, high: u32) -> bool
     ensures { result ≡ in_range_z (neg_ℤ (pos low)) (pos high) v }
 {
-    let g = split(v);
+    let g = Gap::from(v);
     if low < g.down {
         return false;
     }

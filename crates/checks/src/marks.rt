@@ -1,17 +1,10 @@
 // Lists of a byte for each cell: the largest, the first keep mark that is neither 0 nor 1, and how many keep marks a run has to look at.
-ghost use Rattle.std.specs.Prelude.{◌≡◌, ◌≤◌, max, length};
+ghost use Rattle.std.specs.Prelude.{◌≡◌, ◌≤◌, length};
 ghost use Rattle.laws.specs.Largest.{largest};
 ghost use Rattle.rules.specs.Plane.{bad_keep};
 ghost use Rattle.checks.specs.Asked.{Asked};
 
 
-
-// The larger of two bytes.
-pub fn larger(a: u8, b: u8) -> u8
-    ensures { result ≡ max a b }
-{
-    if a < b { b } else { a }
-}
 
 // The largest of the first count numbers.
 pub fn highest(list: &[u8], count: usize) -> u8
@@ -20,7 +13,7 @@ pub fn highest(list: &[u8], count: usize) -> u8
 {
     let mut m: u8 = 0;
     for k in 0..count {
-        m = larger(m, list[k]);
+        m = m.max(list[k]);
     }
     m
 }

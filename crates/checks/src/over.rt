@@ -1,16 +1,10 @@
 // The first sample over top, row by row: a row's largest first, since a sample is seldom too large, and the place only where it is.
-ghost use Rattle.std.specs.Prelude.{◌≡◌, ◌+◌, ◌≤◌, max, length};
+ghost use Rattle.std.specs.Prelude.{◌≡◌, ◌+◌, ◌≤◌, length};
 ghost use Rattle.laws.specs.Largest.{largest};
 ghost use Rattle.rules.specs.Refusals.{over_row, over_box};
 ghost use Rattle.checks.specs.Rows.{Box};
 
 
-
-fn larger(a: u16, b: u16) -> u16
-    ensures { result ≡ max a b }
-{
-    if a < b { b } else { a }
-}
 
 // The largest of count samples from start.
 fn most(plane: &[u16], start: usize, count: usize) -> u16
@@ -19,7 +13,7 @@ fn most(plane: &[u16], start: usize, count: usize) -> u16
 {
     let mut m: u16 = 0;
     for x in 0..count {
-        m = larger(m, plane[start + x]);
+        m = m.max(plane[start + x]);
     }
     m
 }

@@ -10,7 +10,7 @@ use gridded::sizes::sized;
 use pictures::shapes::{chroma_of, luma_of};
 use pictures::{defaults, files};
 use rules::settings::Frame;
-use settings::file::parse;
+use settings::file::{Settings, parse};
 use settings::names::first_places;
 use std::fs::File;
 use std::rt::Files;
@@ -59,15 +59,15 @@ fn told(text: &[u8], h: Header, chroma: bool, to: &Target) -> u8 {
     let mut flags = [1u8; 12288];
     let mut offsets = [0i8; 384];
     let mut places = first_places(12605438);
-    let fault = parse(
-        text,
-        &mut numbers,
-        &mut shorts,
-        &mut steps,
-        &mut flags,
-        &mut offsets,
-        &mut places,
-    );
+    let mut s = Settings {
+        numbers: &mut numbers,
+        shorts: &mut shorts,
+        steps: &mut steps,
+        flags: &mut flags,
+        offsets: &mut offsets,
+        places: &mut places,
+    };
+    let fault = parse(text, &mut s);
     if fault.kind != 0 {
         return 2;
     }

@@ -10,6 +10,7 @@ use by_settings::kept::{large_marks, small_marks};
 use pictures::shapes::{chroma_of, luma_of};
 use pictures::{defaults, files, planes};
 use refused::inside::inside;
+use settings::file::Settings;
 use settings::names::first_places;
 use std::fs::File;
 use std::rt::{Env, Files};
@@ -155,17 +156,15 @@ fn told<R: Files<File = File> + Env>(
     let mut flags = [1u8; 12288];
     let mut offsets = [0i8; 384];
     let mut places = first_places(shorts.len());
-    if take(
-        answer,
-        settings,
-        text,
-        &mut numbers,
+    let mut s = Settings {
+        numbers: &mut numbers,
         shorts,
-        &mut steps,
-        &mut flags,
-        &mut offsets,
-        &mut places,
-    ) {
+        steps: &mut steps,
+        flags: &mut flags,
+        offsets: &mut offsets,
+        places: &mut places,
+    };
+    if take(answer, settings, text, &mut s) {
         sized(
             rt,
             ends,

@@ -8,4 +8,4 @@ mod whole;
 mod order;
 
 pub use order::{least, most};
-pub use whole::{Gap, split, split8, split16};
+pub use whole::Gap;

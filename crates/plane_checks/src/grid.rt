@@ -4,8 +4,6 @@ ghost use Rattle.rules.specs.Plane.{keeping, cell_good, bad_cell};
 ghost use Rattle.cell_edges.specs.Cells.{Sizes};
 ghost use Rattle.plane_checks.specs.Fit.{CellsLong, small, bad_of};
 
-use checks::larger;
-
 use rules::settings::Plane;
 
 // Whether no number of the grid is too large, by the largest mark and the largest size index: all lists in one loop, which is shorter than one for each.
@@ -16,8 +14,8 @@ fn all_good(vedge: &[u8], hedge: &[u8], sqw: &[u8], sqh: &[u8], keep: &[u8], cou
     let mut mark: u8 = 0;
     let mut size: u8 = 0;
     for k in 0..count {
-        mark = larger(mark, larger(vedge[k], larger(hedge[k], keep[k])));
-        size = larger(size, larger(sqw[k], sqh[k]));
+        mark = mark.max(vedge[k].max(hedge[k].max(keep[k])));
+        size = size.max(sqw[k].max(sqh[k]));
     }
     if 1 < mark {
         return false;

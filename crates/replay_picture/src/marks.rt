@@ -3,6 +3,7 @@ ghost use Rattle.std.specs.Prelude.{◌≤◌, length};
 
 use pictures::shapes::{chroma_of, luma_of};
 use pictures::{defaults, files};
+use settings::file::Settings;
 use settings::names::first_places;
 use std::fs::File;
 use std::rt::Files;
@@ -46,17 +47,15 @@ fn told(
     let mut flags = [1u8; 12288];
     let mut offsets = [0i8; 384];
     let mut places = first_places(shorts.len());
-    if !take(
-        to,
-        name,
-        text,
-        &mut numbers,
+    let mut s = Settings {
+        numbers: &mut numbers,
         shorts,
-        &mut steps,
-        &mut flags,
-        &mut offsets,
-        &mut places,
-    ) {
+        steps: &mut steps,
+        flags: &mut flags,
+        offsets: &mut offsets,
+        places: &mut places,
+    };
+    if !take(to, name, text, &mut s) {
         return false;
     }
     placed(keep, chromakeep, shorts, &places, h);

@@ -1,7 +1,7 @@
 // What filtering an edge answers; specs/Fit.antt says what it holds.
 
 // How many samples after the edge were filtered, how many were stored on both sides, and how many of those differ from before.
-#[derive(Drop)]
+#[derive(Clone, Copy)]
 pub struct Outcome {
     pub width: usize,
     pub stored: usize,

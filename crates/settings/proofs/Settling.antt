@@ -17,11 +17,12 @@ use Rattle.text.specs.declared.spell.Word.{Word}
 use Rattle.text.specs.Places.{seek, ink_at}
 use Rattle.text.specs.Words.{word_at}
 use Rattle.text.specs.declared.number.Cursor.{Cursor}
+use Rattle.settings.specs.declared.file.Settings.{Settings}
 use Rattle.settings.specs.declared.names.Rule.{Rule}
 use Rattle.settings.specs.declared.values.Taken.{Taken}
 use Rattle.settings.specs.Names.{kind_of}
 use Rattle.settings.specs.Values.{read_signed, read_up_to, read_offset, taken_to}
-use Rattle.settings.specs.Lines.{Lists, Kept, State, Said, lists, in_numbers, in_shorts, in_steps, in_flags, in_offsets, take_of, start_of, is_one, version_bad, is_flag, flag_bad, verdict_of, settled, judged, ruled, rule_for, fill_of, too_soon, setting_of, named_of, inked_of, line_of}
+use Rattle.settings.specs.Lines.{Lists, Kept, State, Said, Lent, lists, in_numbers, in_shorts, in_steps, in_flags, in_offsets, take_of, start_of, is_one, version_bad, is_flag, flag_bad, verdict_of, settled, judged, ruled, rule_for, fill_of, too_soon, setting_of, named_of, inked_of, line_of}
 
 -- ---- the lists' lengths
 
@@ -31,6 +32,22 @@ kept_same s = record { numbers = refl; shorts = refl; steps = refl; flags = refl
 pub kept_then : {a b c : Lists} → Kept a b → Kept b c → Kept a c
 kept_then h k =
     record { numbers = k.numbers ∙ h.numbers; shorts = k.shorts ∙ h.shorts; steps = k.steps ∙ h.steps; flags = k.flags ∙ h.flags; offsets = k.offsets ∙ h.offsets }
+
+-- ---- the lists are those that were lent
+
+pub lent_same : (s : Settings) → Lent s s
+lent_same s = record { numbers = refl; shorts = refl; steps = refl; flags = refl; offsets = refl; places = refl }
+
+pub lent_then : {a b c : Settings} → Lent a b → Lent b c → Lent a c
+lent_then h k =
+    record {
+      numbers = k.numbers ∙ h.numbers;
+      shorts = k.shorts ∙ h.shorts;
+      steps = k.steps ∙ h.steps;
+      flags = k.flags ∙ h.flags;
+      offsets = k.offsets ∙ h.offsets;
+      places = k.places ∙ h.places;
+    }
 
 -- where one list was written
 module _ (s : Lists) where
@@ -95,7 +112,7 @@ unfolding version_bad both is_one
 version_none kind [] k e = rw k
 version_none kind (z ∷ zs) k e = absurd (omega arith)
 
--- as `split` gave it
+-- as `Gap::from` gave it
 pub version_some : (kind up : ℕ) (numbers : List ℤ) → kind ≡ 1 → SFits w32 (get_or numbers 0 (pos 0)) → up ≡ over (to_z w32 (of_z w32 (get_or numbers 0 (pos 0))))
     → not (eqb up 1) ≡ version_bad kind numbers
 unfolding version_bad both
@@ -118,7 +135,7 @@ module _ (kind : ℕ) (numbers : List ℤ) (k : kind ≡ 11) where
   unfolding flag_bad both is_flag
   flag_none h = rw (k, get_or-eq_default numbers (pos 0) {n = 7} (omega arith))
 
-  -- as `split` gave it
+  -- as `Gap::from` gave it
   module _ (down up : ℕ) (f : SFits w32 (get_or numbers 7 (pos 0)))
       (e : (up ≡ over (to_z w32 (of_z w32 (get_or numbers 7 (pos 0))))) × (down ≡ under (to_z w32 (of_z w32 (get_or numbers 7 (pos 0)))))) where
     below_is : down ≡ under (get_or numbers 7 (pos 0))
@@ -149,17 +166,19 @@ module _ (xs : List ℕ) (at end kind from k : ℕ) (s : State) (rule : Rule) (l
   unfolding fill_of ruled judged
   fill_is = rw (← ruling, ← starts, ← takes, ← judges)
 
-  pub fill_bad : (k ≡ 0 → ⊥) → record { state = record { lists = ls; places = s.places }; answer = k } ≡ fill_of xs at end kind s
-  unfolding settled pick
-  fill_bad h =
-      let e : record { state = record { lists = ls; places = s.places }; answer = k } ≡ settled kind s.places (record { lists = ls; left = t }) k = rw (ne_eqb _ _ h) in
-      e ∙ fill_is
+  -- the places are those of before
+  module _ (ps : List ℕ) (same : ps ≡ s.places) where
+    pub fill_bad : (k ≡ 0 → ⊥) → record { state = record { lists = ls; places = ps }; answer = k } ≡ fill_of xs at end kind s
+    unfolding settled pick
+    fill_bad h =
+        let e : record { state = record { lists = ls; places = ps }; answer = k } ≡ settled kind s.places (record { lists = ls; left = t }) k = rw (ne_eqb _ _ h, same) in
+        e ∙ fill_is
 
-  pub fill_good : k ≡ 0 → record { state = record { lists = ls; places = set s.places kind t.at }; answer = 0 } ≡ fill_of xs at end kind s
-  unfolding settled pick
-  fill_good h =
-      let e : record { state = record { lists = ls; places = set s.places kind t.at }; answer = 0 } ≡ settled kind s.places (record { lists = ls; left = t }) k = rw h in
-      e ∙ fill_is
+    pub fill_good : k ≡ 0 → record { state = record { lists = ls; places = set ps kind t.at }; answer = 0 } ≡ fill_of xs at end kind s
+    unfolding settled pick
+    fill_good h =
+        let e : record { state = record { lists = ls; places = set ps kind t.at }; answer = 0 } ≡ settled kind s.places (record { lists = ls; left = t }) k = rw (h, same) in
+        e ∙ fill_is
 
 -- ---- the line, by its name
 

@@ -3,13 +3,11 @@ use mathlib.Core.Path.{◌≡◌, refl}
 use mathlib.Core.List.{List, [], ◌∷◌}
 use Prim.Native.Nat.{ℕ}
 use lib.IntN.{pos}
-use lib.ListN.{get_or}
 use Rattle.laws.specs.Choose.{pick, both, either, all}
 use Rattle.laws.specs.Loops.{each}
 use Rattle.text.specs.Places.{seek, newline_at, remark, remark_at, blank_of, ink_at}
 use Rattle.text.specs.Words as Words
 use Rattle.text.specs.Digits as Digits
-use Rattle.text.specs.Numbers as Numbers
 use Rattle.text.specs.Numbers.{nothing, past, ends, closed, signed_at, number_at}
 use Rattle.text.specs.Typed.{unsigned_of, from_zero, signed_of}
 use Rattle.settings.specs.Names.{kind_of}
@@ -33,5 +31,5 @@ pub smallest_read :
     ((parse_of smallest start).fault ≡ record { line = 3; kind = 0; at = 22 })
     × ((parse_of smallest start).state.lists ≡ lists (pos 1 ∷ []) (160 ∷ []) (0 ∷ []) (0 ∷ []) (pos 0 ∷ []))
 unfolding parse_of walk ended missing_of alone_of line_end said_at line_of inked_of named_of setting_of too_soon fill_of ruled judged settled verdict_of version_bad is_one flag_bad whole_of start_of take_of in_numbers in_shorts taken_to taken skipped goes_on read_signed read_up_to kind_of leaf_room rule_of first_places each
-    pick both either all seek newline_at remark remark_at blank_of ink_at Words.word_at Words.ended_at Words.read_letters Words.goes_on Digits.read_digits Digits.goes_on nothing past Numbers.blank_of ends closed signed_at number_at unsigned_of from_zero signed_of
+    pick both either all seek newline_at remark remark_at blank_of ink_at Words.word_at Words.ended_at Words.read_letters Words.goes_on Digits.read_digits Digits.goes_on nothing past ends closed signed_at number_at unsigned_of from_zero signed_of
 smallest_read = (refl, refl)

@@ -5,6 +5,7 @@ use Rattle.text.specs.declared.spell.Word.{Word}
 use Rattle.text.specs.Places.{seek, ink_at}
 use Rattle.text.specs.Words.{word_at}
 use Rattle.text.specs.declared.number.Cursor.{Cursor}
+use Rattle.settings.specs.declared.file.Settings.{Settings}
 use Rattle.settings.specs.declared.names.Rule.{Rule}
 use Rattle.settings.specs.declared.values.Taken.{Taken}
 use Rattle.settings.specs.Names.{kind_of}
@@ -29,6 +30,19 @@ lists numbers shorts steps flags offsets = record { numbers = numbers; shorts = 
 
 abbrev pub state : List ℤ → List ℕ → List ℕ → List ℕ → List ℤ → List ℕ → State
 state numbers shorts steps flags offsets places = record { lists = lists numbers shorts steps flags offsets; places = places }
+
+-- what the lent lists and places hold
+abbrev pub lent : Settings → State
+lent s = state s.numbers.now s.shorts.now s.steps.now s.flags.now s.offsets.now s.places.now
+
+-- the lists and places are those that were lent
+pub record Lent (before after : Settings) : Type 0 where
+  pub numbers : after.numbers.ghost_name ≡ before.numbers.ghost_name
+  pub shorts : after.shorts.ghost_name ≡ before.shorts.ghost_name
+  pub steps : after.steps.ghost_name ≡ before.steps.ghost_name
+  pub flags : after.flags.ghost_name ≡ before.flags.ghost_name
+  pub offsets : after.offsets.ghost_name ≡ before.offsets.ghost_name
+  pub places : after.places.ghost_name ≡ before.places.ghost_name
 
 -- every list is as long as it was
 pub record Kept (before after : Lists) : Type 0 where

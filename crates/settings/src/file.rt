@@ -1,12 +1,11 @@
 // A settings text, line by line, up to the first line that is not as it should be.
 ghost use Rattle.std.specs.Prelude.{◌≡◌, ◌≤◌, length};
-ghost use Rattle.settings.specs.Lines.{Kept, lists, state, take_of, start_of, whole_of, version_bad, flag_bad, verdict_of, fill_of, too_soon, setting_of, line_of};
+ghost use Rattle.settings.specs.Lines.{Kept, Lent, lent, take_of, start_of, whole_of, version_bad, flag_bad, verdict_of, fill_of, too_soon, setting_of, line_of};
 ghost use Rattle.settings.specs.Text.{alone_of, missing_of, parse_of};
 
 use crate::names::{kind, rule_of};
-use crate::values;
-use crate::values::Taken;
-use laws::split;
+use crate::values::{Taken, put};
+use laws::Gap;
 use text::Cursor;
 use text::place::{content_end, line_end, spaces};
 use text::spell::read_word;
@@ -19,31 +18,32 @@ pub struct Fault {
     pub at: usize,
 }
 
+// The lists that the numbers go to, and the place after the last number of each kind.
+#[derive(Drop)]
+pub struct Settings<'a> {
+    pub numbers: &'a mut [i32],
+    pub shorts: &'a mut [u16],
+    pub steps: &'a mut [u32],
+    pub flags: &'a mut [u8],
+    pub offsets: &'a mut [i8],
+    pub places: &'a mut [usize; 24],
+}
+
 // The numbers after a name, into the list that is theirs.
-fn take(
-    text: &[u8],
-    c: Cursor,
-    list: usize,
-    from: usize,
-    end: usize,
-    numbers: &mut [i32],
-    shorts: &mut [u16],
-    steps: &mut [u32],
-    flags: &mut [u8],
-    offsets: &mut [i8],
-) -> Taken
+fn take(text: &[u8], c: Cursor, list: usize, from: usize, end: usize, s: &mut Settings<'_>) -> Taken
     ensures from_le_at { from ≤ result.at }
-    ensures kept { Kept (lists numbers.old shorts.old steps.old flags.old offsets.old) (lists numbers.new shorts.new steps.new flags.new offsets.new) }
-    ensures result_after { record { lists = lists numbers.new shorts.new steps.new flags.new offsets.new; left = result }
-        ≡ take_of text.now c list from end (lists numbers.old shorts.old steps.old flags.old offsets.old) }
+    ensures lent { Lent s.old s.new }
+    ensures kept { Kept (lent s.old).lists (lent s.new).lists }
+    ensures places_unchanged { s.new.places.now ≡ s.old.places.now }
+    ensures result_after { record { lists = (lent s.new).lists; left = result } ≡ take_of text.now c list from end (lent s.old).lists }
 {
     match list {
-        0 => values::signed(text, c, numbers, from, end),
-        1 => values::shorts(text, c, shorts, from, end),
-        2 => values::steps(text, c, steps, from, end),
-        3 => values::flags(text, c, flags, from, end),
-        4 => values::offsets(text, c, offsets, from, end),
-        _ => values::shorts(text, c, shorts, from, end),
+        0 => put(text, c, s.numbers, from, end),
+        1 => put(text, c, s.shorts, from, end),
+        2 => put(text, c, s.steps, from, end),
+        3 => put(text, c, s.flags, from, end),
+        4 => put(text, c, s.offsets, from, end),
+        _ => put(text, c, s.shorts, from, end),
     }
 }
 
@@ -89,7 +89,7 @@ fn version_bad(kind: usize, numbers: &[i32]) -> bool
     if numbers.len() == 0 {
         return true;
     }
-    let version = split(numbers[0]);
+    let version = Gap::from(numbers[0]);
     version.up != 1
 }
 
@@ -103,7 +103,7 @@ fn flag_bad(kind: usize, numbers: &[i32]) -> bool
     if numbers.len() < 8 {
         return false;
     }
-    let flag = split(numbers[7]);
+    let flag = Gap::from(numbers[7]);
     if flag.down != 0 {
         return true;
     }
@@ -114,55 +114,43 @@ fn flag_bad(kind: usize, numbers: &[i32]) -> bool
 }
 
 // What is to be said of a line's numbers: 0, or the kind that was expected.
-fn verdict(t: Taken, from: usize, each: usize, kind: usize, numbers: &[i32]) -> usize
+fn verdict(t: Taken, from: usize, each: usize, kind: usize, s: &Settings<'_>) -> usize
     requires { from ≤ t.at }
-    ensures { result ≡ verdict_of t from each kind numbers.now }
+    ensures { result ≡ verdict_of t from each kind s.now.numbers.now }
 {
     if !whole(t, from, each) {
         return kind;
     }
-    if version_bad(kind, numbers) {
+    if version_bad(kind, s.numbers) {
         return 1;
     }
-    if flag_bad(kind, numbers) {
+    if flag_bad(kind, s.numbers) {
         return 11;
     }
     0
 }
 
 // The numbers of a line of a known kind; the kind's place moves on where they are good.
-fn fill(
-    text: &[u8],
-    at: usize,
-    end: usize,
-    kind: usize,
-    numbers: &mut [i32],
-    shorts: &mut [u16],
-    steps: &mut [u32],
-    flags: &mut [u8],
-    offsets: &mut [i8],
-    places: &mut [usize; 24],
-) -> usize
+fn fill(text: &[u8], at: usize, end: usize, kind: usize, s: &mut Settings<'_>) -> usize
     requires { kind ≤ 23 }
-    ensures kept { Kept (lists numbers.old shorts.old steps.old flags.old offsets.old) (lists numbers.new shorts.new steps.new flags.new offsets.new) }
-    ensures result_after { record { state = state numbers.new shorts.new steps.new flags.new offsets.new places.new; answer = result }
-        ≡ fill_of text.now at end kind (state numbers.old shorts.old steps.old flags.old offsets.old places.old) }
+    ensures lent { Lent s.old s.new }
+    ensures kept { Kept (lent s.old).lists (lent s.new).lists }
+    ensures result_after { record { state = lent s.new; answer = result }
+        ≡ fill_of text.now at end kind (lent s.old) }
 {
-    let rule = rule_of(kind, shorts.len());
-    let from = start(rule.list, rule.from, places[kind]);
+    let rule = rule_of(kind, s.shorts.len());
+    let from = start(rule.list, rule.from, s.places[kind]);
     let c = Cursor {
         at,
         end,
         good: true,
     };
-    let t = take(
-        text, c, rule.list, from, rule.end, numbers, shorts, steps, flags, offsets,
-    );
-    let k = verdict(t, from, rule.each, kind, numbers);
+    let t = take(text, c, rule.list, from, rule.end, s);
+    let k = verdict(t, from, rule.each, kind, s);
     if k != 0 {
         return k;
     }
-    places[kind] = t.at;
+    s.places[kind] = t.at;
     0
 }
 
@@ -177,47 +165,26 @@ fn too_soon(kind: usize, first: usize) -> bool
 }
 
 // A line after its name, of a known kind: 0, or the kind that was expected.
-fn setting(
-    text: &[u8],
-    at: usize,
-    end: usize,
-    kind: usize,
-    numbers: &mut [i32],
-    shorts: &mut [u16],
-    steps: &mut [u32],
-    flags: &mut [u8],
-    offsets: &mut [i8],
-    places: &mut [usize; 24],
-) -> usize
+fn setting(text: &[u8], at: usize, end: usize, kind: usize, s: &mut Settings<'_>) -> usize
     requires { kind ≤ 23 }
-    ensures kept { Kept (lists numbers.old shorts.old steps.old flags.old offsets.old) (lists numbers.new shorts.new steps.new flags.new offsets.new) }
-    ensures result_after { record { state = state numbers.new shorts.new steps.new flags.new offsets.new places.new; answer = result }
-        ≡ setting_of text.now at end kind (state numbers.old shorts.old steps.old flags.old offsets.old places.old) }
+    ensures lent { Lent s.old s.new }
+    ensures kept { Kept (lent s.old).lists (lent s.new).lists }
+    ensures result_after { record { state = lent s.new; answer = result }
+        ≡ setting_of text.now at end kind (lent s.old) }
 {
-    if too_soon(kind, places[1]) {
+    if too_soon(kind, s.places[1]) {
         return 1;
     }
-    fill(
-        text, at, end, kind, numbers, shorts, steps, flags, offsets, places,
-    )
+    fill(text, at, end, kind, s)
 }
 
 // One line: 0, or the kind that was expected.
-fn line(
-    text: &[u8],
-    from: usize,
-    end: usize,
-    numbers: &mut [i32],
-    shorts: &mut [u16],
-    steps: &mut [u32],
-    flags: &mut [u8],
-    offsets: &mut [i8],
-    places: &mut [usize; 24],
-) -> usize
+fn line(text: &[u8], from: usize, end: usize, s: &mut Settings<'_>) -> usize
     requires { (from ≤ end) × (end ≤ length text.now) }
-    ensures kept { Kept (lists numbers.old shorts.old steps.old flags.old offsets.old) (lists numbers.new shorts.new steps.new flags.new offsets.new) }
-    ensures result_after { record { state = state numbers.new shorts.new steps.new flags.new offsets.new places.new; answer = result }
-        ≡ line_of text.now from end (state numbers.old shorts.old steps.old flags.old offsets.old places.old) }
+    ensures lent { Lent s.old s.new }
+    ensures kept { Kept (lent s.old).lists (lent s.new).lists }
+    ensures result_after { record { state = lent s.new; answer = result }
+        ≡ line_of text.now from end (lent s.old) }
 {
     let at = spaces(text, from, end);
     if at == end {
@@ -228,9 +195,7 @@ fn line(
     if k == 0 {
         return 24;
     }
-    setting(
-        text, w.next, end, k, numbers, shorts, steps, flags, offsets, places,
-    )
+    setting(text, w.next, end, k, s)
 }
 
 // Whether a plane has offsets and no CCSO numbers: each place as it is, and where its kind begins.
@@ -244,9 +209,10 @@ fn alone(ccso: usize, none: usize, offsets: usize, first: usize) -> bool
 }
 
 // What is missing where every line was good: the first setting, a qindex, or the CCSO numbers of a plane with offsets.
-fn missing(places: &[usize; 24]) -> usize
-    ensures { result ≡ missing_of places.now }
+fn missing(s: &Settings<'_>) -> usize
+    ensures { result ≡ missing_of s.now.places.now }
 {
+    let places = *s.places;
     if places[1] == 0 {
         return 1;
     }
@@ -266,18 +232,11 @@ fn missing(places: &[usize; 24]) -> usize
 }
 
 // Every line of a text; lines count from 1.
-pub fn parse(
-    text: &[u8],
-    numbers: &mut [i32],
-    shorts: &mut [u16],
-    steps: &mut [u32],
-    flags: &mut [u8],
-    offsets: &mut [i8],
-    places: &mut [usize; 24],
-) -> Fault
-    ensures kept { Kept (lists numbers.old shorts.old steps.old flags.old offsets.old) (lists numbers.new shorts.new steps.new flags.new offsets.new) }
-    ensures result_after { record { state = state numbers.new shorts.new steps.new flags.new offsets.new places.new; fault = result }
-        ≡ parse_of text.now (state numbers.old shorts.old steps.old flags.old offsets.old places.old) }
+pub fn parse(text: &[u8], s: &mut Settings<'_>) -> Fault
+    ensures lent { Lent s.old s.new }
+    ensures kept { Kept (lent s.old).lists (lent s.new).lists }
+    ensures result_after { record { state = lent s.new; fault = result }
+        ≡ parse_of text.now (lent s.old) }
 {
     let n = text.len();
     let mut at: usize = 0;
@@ -285,9 +244,7 @@ pub fn parse(
     while at < n {
         let end = line_end(text, at, n);
         let stop = content_end(text, at, end);
-        let k = line(
-            text, at, stop, numbers, shorts, steps, flags, offsets, places,
-        );
+        let k = line(text, at, stop, s);
         if k != 0 {
             return Fault {
                 line: l,
@@ -300,7 +257,7 @@ pub fn parse(
     }
     Fault {
         line: l,
-        kind: missing(places),
+        kind: missing(s),
         at,
     }
 }

@@ -1,9 +1,10 @@
 // The settings' text from its file into the lists of its numbers, and what is said of a line that is not as it should be.
 ghost use Rattle.std.specs.Prelude.{◌≤◌, length};
+ghost use Rattle.settings.specs.Lines.{Kept, Lent, lent};
 
 use crate::say::{at_line, words};
 use crate::table::entry;
-use settings::file::{Fault, parse};
+use settings::file::{Fault, Settings, parse};
 use system::files::{Source, Target, read_full};
 use text::place::{line_end, spaces, word_end};
 
@@ -123,18 +124,11 @@ fn faultless(told: &Target, name: &[u8], text: &[u8], fault: Fault) -> bool {
 }
 
 // A text into the lists; false after the answer that says what is wrong.
-pub fn take(
-    told: &Target,
-    name: &[u8],
-    text: &[u8],
-    numbers: &mut [i32],
-    shorts: &mut [u16],
-    steps: &mut [u32],
-    flags: &mut [u8],
-    offsets: &mut [i8],
-    places: &mut [usize; 24],
-) -> bool {
-    let fault = parse(text, numbers, shorts, steps, flags, offsets, places);
+pub fn take(told: &Target, name: &[u8], text: &[u8], s: &mut Settings<'_>) -> bool
+    ensures lent { Lent s.old s.new }
+    ensures kept { Kept (lent s.old).lists (lent s.new).lists }
+{
+    let fault = parse(text, s);
     faultless(told, name, text, fault)
 }
 

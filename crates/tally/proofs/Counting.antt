@@ -16,13 +16,13 @@ pub unread_counted : (t : Tally) (v : ℕ) → v ≡ next_of t.unread → counts
 unfolding unread_more
 unread_counted t v e = ap (λ (x : ℕ). counts t.numbers t.widths t.different x) e
 
-pub line_read : (t : Tally) (b : Bool) → b ≡ true → t ≡ no_case t b
+pub line_read : (t : Tally) (b : Bool) → not b ≡ false → t ≡ no_case t b
 unfolding no_case
-line_read t b e = pick_yes _ _ _ _ (sym e) refl
+line_read t b e = pick_yes _ _ _ _ (sym (not-false b e)) refl
 
-pub line_unread : (t r : Tally) (b : Bool) → b ≡ false → r ≡ unread_more t → r ≡ no_case t b
+pub line_unread : (t r : Tally) (b : Bool) → not b ≡ true → r ≡ unread_more t → r ≡ no_case t b
 unfolding no_case
-line_unread t r b e f = pick_no _ _ _ _ (sym e) f
+line_unread t r b e f = pick_no _ _ _ _ (sym (not-true b e)) f
 
 pub number_counted : (t : Tally) (n v : ℕ) → n < 21 → v ≡ next_of (get_or t.numbers n 0)
     → counts (set t.numbers n v) t.widths t.different t.unread ≡ number_more t n

@@ -1,5 +1,5 @@
 -- What is counted of a case, and when an answer is the stream's. Assumes nothing.
-use Rattle.std.specs.Prelude.{ℕ, ◌+◌, ◌%◌, ◌^◌, Bool, List, [], ◌∷◌, ◌==◌, nat_lt, slice_index, slice_set}
+use Rattle.std.specs.Prelude.{ℕ, ◌+◌, ◌%◌, ◌^◌, Bool, List, [], ◌∷◌, ◌==◌, Option, None, Some, nat_lt, slice_index, slice_set}
 use Rattle.laws.specs.Choose.{pick, both}
 use Rattle.rules.specs.Refusals.{number_of, place_refused}
 use Rattle.rules.specs.declared.refusals.Refusal.{Refusal}
@@ -8,6 +8,7 @@ use Rattle.std.specs.declared.result.Result.TheVariants.{Ok, Err}
 use Rattle.std.specs.declared.result.Result.{Result}
 use Rattle.rules.specs.declared.counts.Counts.{Counts}
 use Rattle.tally.specs.declared.Tally.{Tally}
+use Rattle.tally.specs.declared.Outcome.{Outcome}
 
 -- a count and one more, as 64 bits hold it
 unfoldable pub next_of : ℕ → ℕ
@@ -42,6 +43,16 @@ case_more t n same = pick same (number_more t n) (different_more (number_more t 
 
 unfoldable pub width_more : Tally → ℕ → Tally
 width_more t w = pick (nat_lt w 9) (counts t.numbers (bumped t.widths w) t.different t.unread) t
+
+-- a width more, where there is one
+unfoldable pub some_width_more : Tally → Option ℕ → Tally
+some_width_more t None = t
+some_width_more t (Some w) = width_more t w
+
+-- a line more, and how its case came out if it could be read
+unfoldable pub line_more : Tally → Option Outcome → Tally
+line_more t None = unread_more t
+line_more t (Some o) = some_width_more (case_more t o.number o.same) o.width
 
 -- a refusal has this number and this place
 unfoldable pub is_refusal : Refusal → ℕ → ℕ → Bool

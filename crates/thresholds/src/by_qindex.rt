@@ -11,7 +11,7 @@ use crate::index::index;
 use crate::side::side_by;
 use crate::side_table::SIDE_THRESHOLDS;
 use crate::steps::df_quant_from_qindex;
-use laws::{most, split};
+use laws::Gap;
 use rules::depth::Depth;
 
 // Both thresholds of a block, packed.
@@ -36,9 +36,9 @@ fn steady_from(deltaq: i32, deltaside: i32, depth: Depth) -> usize
     requires { (depth_ok depth.bits ≡ true) × (delta_ok deltaq ≡ true) × (delta_ok deltaside ≡ true) }
     ensures { result ≡ steady_from depth.bits deltaq deltaside }
 {
-    let q = split(deltaq);
-    let side = split(deltaside);
-    let down = most(q.down as usize, side.down as usize);
+    let q = Gap::from(deltaq);
+    let side = Gap::from(deltaside);
+    let down = q.down.max(side.down) as usize;
     8 * down + depth.offset() as usize + 295
 }
 

@@ -13,10 +13,10 @@ pub returns-then-numbers-lt8 : goal.returns-then-numbers-lt8
 returns-then-numbers-lt8 c = flag_none _ _ (search rules) (search rules)
 
 pub returns-then-flag-ne0 : goal.returns-then-flag-ne0
-returns-then-flag-ne0 c = flag_down _ _ (search rules) _ _ (search rules) c.split-flag.ensures c.if-flag-ne0.true
+returns-then-flag-ne0 c = flag_down _ _ (search rules) _ _ (search rules) c.from-flag.ensures c.if-flag-ne0.true
 
 pub returns-then-flag-le1 : goal.returns-then-flag-le1
-returns-then-flag-le1 c = flag_good _ _ (search rules) _ _ (search rules) c.split-flag.ensures c.if-flag-ne0.false c.if-flag-le1.true
+returns-then-flag-le1 c = flag_good _ _ (search rules) _ _ (search rules) c.from-flag.ensures c.if-flag-ne0.false c.if-flag-le1.true
 
 pub returns : goal.returns
-returns c = flag_big _ _ (search rules) _ _ (search rules) c.split-flag.ensures c.if-flag-ne0.false c.if-flag-le1.false
+returns c = flag_big _ _ (search rules) _ _ (search rules) c.from-flag.ensures c.if-flag-ne0.false c.if-flag-le1.false

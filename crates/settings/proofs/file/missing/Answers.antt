@@ -1,7 +1,6 @@
 -- `missing` asks one place after the other. Assumes nothing.
 use Rattle.laws.specs.Choose.{tests}
 use Rattle.settings.specs.Text.{missing_of}
-use borrow.Author.Rules.{rules}
 use Rattle.settings.proofs.file.missing.Goals as goal
 
 pub returns-then-places-eq0 : goal.returns-then-places-eq0

@@ -1,7 +1,6 @@
 -- `verdict` asks one thing after the other. Assumes nothing.
 use Rattle.laws.specs.Choose.{tests}
 use Rattle.settings.specs.Lines.{verdict_of}
-use borrow.Author.Rules.{rules}
 use Rattle.settings.proofs.file.verdict.Goals as goal
 
 pub returns-then-not-whole : goal.returns-then-not-whole

@@ -13,4 +13,4 @@ pub returns-then-numbers-eq0 : goal.returns-then-numbers-eq0
 returns-then-numbers-eq0 c = version_none _ _ (search rules) (search rules)
 
 pub returns : goal.returns
-returns c = version_some _ _ _ (search rules) (search rules) c.split-version.ensures.0
+returns c = version_some _ _ _ (search rules) (search rules) c.from-version.ensures.0

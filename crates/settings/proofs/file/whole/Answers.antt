@@ -1,7 +1,6 @@
 -- `whole` asks one thing after the other. Assumes nothing.
 use Rattle.laws.specs.Choose.{tests}
 use Rattle.settings.specs.Lines.{whole_of}
-use borrow.Author.Rules.{rules}
 use Rattle.settings.proofs.file.whole.Goals as goal
 
 pub returns-then-not-rest : goal.returns-then-not-rest

@@ -1,10 +1,5 @@
 -- `line_with` walks the lines, up to the one that has more numbers of the kind than are left. Assumes nothing.
-use Rattle.settings.proofs.Numbering.{hold_here, hold_on, hold_end, hold_start, holdings}
-use Rattle.settings.specs.Numbered.{holding}
-use mathlib.Core.Path.{◌≡◌, refl}
-use native.Mathlib.Omega.{arith}
-use Prim.Native.Nat.{◌+◌, ◌-◌, ◌≤◌}
-use lib.ListN.{length}
+use Rattle.settings.proofs.Numbering.{holdings}
 use borrow.Author.Rules.{rules}
 use Rattle.settings.proofs.lines.line_with.Goals as goal
 

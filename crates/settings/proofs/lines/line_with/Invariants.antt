@@ -1,11 +1,8 @@
 -- `line_with` walks the lines, up to the one that has more numbers of the kind than are left. Assumes nothing.
-use Rattle.settings.proofs.Numbering.{hold_here, hold_on, hold_end, hold_start, holdings}
 use Rattle.settings.specs.Numbered.{holding}
-use mathlib.Core.Path.{◌≡◌, refl}
-use native.Mathlib.Omega.{arith}
+use mathlib.Core.Path.{◌≡◌}
 use Prim.Native.Nat.{◌+◌, ◌-◌, ◌≤◌}
 use lib.ListN.{length}
-use borrow.Author.Rules.{rules}
 use Rattle.settings.proofs.lines.line_with.Given as goal
 
 abbrev pub invariant-loop-at : goal.invariant-loop-at

@@ -1,10 +1,5 @@
 -- `lines_of` walks the lines, and keeps the last one of each kind. Assumes nothing.
 use Rattle.settings.proofs.Numbering.{numbering}
-use Rattle.settings.specs.Numbered.{numbered}
-use mathlib.Core.Path.{◌≡◌, refl}
-use native.Mathlib.Omega.{arith}
-use Prim.Native.Nat.{◌+◌, ◌-◌, ◌≤◌}
-use lib.ListN.{length}
 use borrow.Author.Rules.{rules}
 use Rattle.settings.proofs.lines.lines_of.Goals as goal
 

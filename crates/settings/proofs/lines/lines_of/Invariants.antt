@@ -1,11 +1,8 @@
 -- `lines_of` walks the lines, and keeps the last one of each kind. Assumes nothing.
-use Rattle.settings.proofs.Numbering.{numbering}
 use Rattle.settings.specs.Numbered.{numbered}
-use mathlib.Core.Path.{◌≡◌, refl}
-use native.Mathlib.Omega.{arith}
+use mathlib.Core.Path.{◌≡◌}
 use Prim.Native.Nat.{◌+◌, ◌-◌, ◌≤◌}
 use lib.ListN.{length}
-use borrow.Author.Rules.{rules}
 use Rattle.settings.proofs.lines.lines_of.Given as goal
 
 abbrev pub invariant-loop-at : goal.invariant-loop-at

@@ -1,6 +1,5 @@
 -- `numbers_in` counts the words of a line of the kind. Assumes nothing.
 use Rattle.settings.proofs.Numbering.{numbers_of}
-use borrow.Author.Rules.{rules}
 use Rattle.settings.proofs.lines.numbers_in.Goals as goal
 
 pub returns-then-kind_of-kind : goal.returns-then-kind_of-kind

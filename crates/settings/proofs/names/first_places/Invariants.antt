@@ -1,10 +1,9 @@
 -- `first_places` takes each kind's first place from its rule. Assumes nothing.
-use borrow.Author.Rules.{rules}
 use Prim.Native.Nat.{◌-◌, ◌≤◌}
 use mathlib.Core.Path.{◌≡◌}
 use lib.ListN.{length}
-use Rattle.laws.specs.Loops.{filled, filled_none}
-use Rattle.settings.proofs.Rules.{from_of, placing, places_more, places_end}
+use Rattle.laws.specs.Loops.{filled}
+use Rattle.settings.proofs.Rules.{from_of}
 use Rattle.settings.proofs.names.first_places.Given as goal
 
 abbrev pub invariant-loop-kind : goal.invariant-loop-kind

@@ -3,7 +3,6 @@ use mathlib.Core.Path.{◌∙◌}
 use borrow.Author.Tests.{ne_eqb}
 use Rattle.laws.specs.Choose.{pick}
 use Rattle.settings.specs.Rules.{tiles_from, keeps_from, rule_of}
-use borrow.Author.Rules.{rules}
 use Rattle.settings.proofs.names.rule_of.Goals as goal
 
 pub returns-in-1 : goal.returns-in-1

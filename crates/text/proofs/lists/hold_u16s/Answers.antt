@@ -1,6 +1,5 @@
 -- `hold_u16s` holds one entry after the other. Assumes nothing.
-use Prim.Native.Nat.{◌-◌}
-use Rattle.text.proofs.Holding.{HeldTo, holding as needs}
+use Rattle.text.proofs.Holding.{holding as needs}
 use Rattle.text.proofs.lists.hold_u16s.Goals as goal
 
 pub loop-i-init : goal.loop-i-init

@@ -1,6 +1,6 @@
 -- `hold_u8s` holds one entry after the other. Assumes nothing.
 use Prim.Native.Nat.{◌-◌}
-use Rattle.text.proofs.Holding.{HeldTo, holding as needs}
+use Rattle.text.proofs.Holding.{HeldTo}
 use Rattle.text.proofs.lists.hold_u8s.Given as goal
 
 abbrev pub invariant-loop-i : goal.invariant-loop-i

@@ -1,6 +1,5 @@
 -- `read_u16s` puts one entry after the other to the front of the list. Assumes nothing.
-use Prim.Native.Nat.{◌-◌}
-use Rattle.text.proofs.Filled.{SoFar, entering as needs}
+use Rattle.text.proofs.Filled.{entering as needs}
 use Rattle.text.proofs.lists.read_u16s.Goals as goal
 
 pub loop-i-init : goal.loop-i-init

@@ -1,6 +1,6 @@
 -- `read_u16s` puts one entry after the other to the front of the list. Assumes nothing.
 use Prim.Native.Nat.{◌-◌}
-use Rattle.text.proofs.Filled.{SoFar, entering as needs}
+use Rattle.text.proofs.Filled.{SoFar}
 use Rattle.text.proofs.lists.read_u16s.Given as goal
 
 abbrev pub invariant-loop-i : goal.invariant-loop-i
