@@ -22,6 +22,7 @@ pub struct Two {
 }
 
 // How many steps a line sets, and whether it was read whole.
+// A flag and no Option: the steps that were read stand in the list even where the line goes on (`SetsSteps`).
 #[derive(Clone, Copy)]
 pub struct Steps {
     pub length: usize,
@@ -29,6 +30,7 @@ pub struct Steps {
 }
 
 // Whether the next entries are those of a list, how many of them before one that differs, and what follows.
+// A flag and no Option: the count holds either way, and callers ask for the flag alone.
 #[derive(Clone, Copy)]
 pub struct Held {
     pub same: bool,
@@ -59,11 +61,10 @@ pub fn read_two(text: &[u8], c: Cursor, a: &mut [u8], b: &mut [u8]) -> Two
 {
     let x = read_list(text, c, a);
     let y = read_list(text, x.rest, b);
-    let rest = y.rest;
     Two {
         a: x.length,
         b: y.length,
-        rest,
+        rest: y.rest,
     }
 }
 
@@ -76,18 +77,17 @@ fn hold(text: &[u8], h: Held, most: usize, v: usize) -> Held
         return h;
     }
     let e = read_unsigned(text, h.rest, most);
-    let rest = e.rest;
     if e.value != v {
         return Held {
             same: false,
             place: h.place,
-            rest,
+            rest: e.rest,
         };
     }
     Held {
         same: true,
         place: h.place + 1,
-        rest,
+        rest: e.rest,
     }
 }
 
@@ -111,9 +111,11 @@ pub fn set_steps(text: &[u8], c: Cursor, list: &mut [u32]) -> Steps
     ensures { SetsSteps text.now c list.old list.new result }
 {
     let l = read_list(text, c, list);
-    let length = l.length;
     let whole = ended(l.rest);
-    Steps { length, whole }
+    Steps {
+        length: l.length,
+        whole,
+    }
 }
 
 // A list of i32 entries, to the front of a lent list.
