@@ -32,8 +32,6 @@ module _ (most : ℕ) (text : List ℕ) (v : ℕ) (h : Held) where
     unfolding held_on pick
     held_differs q = let y : h.same ≡ true = not-false _ so in rw (y, ← is, ne_eqb _ _ q)
 
-pub ruleset entry_held = (rules, held_off, held_same, held_differs)
-
 -- the first i entries were held against the list
 pub record HeldTo {A : Type 0} (number : A → ℕ) (none : A) (most : ℕ) (text : List ℕ) (c : Cursor) (list : List A) (i : ℕ) (h : Held) : Type 0 where
   pub within : i ≤ length list
