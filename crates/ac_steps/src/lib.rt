@@ -27,6 +27,7 @@ pub fn put_steps(list: &mut [u32])
     requires { 352 ≤ length list.old }
     ensures { list.new ≡ tabled list.old }
 {
+    // By index: an entry is made from entries before it in the same list.
     for i in 0..352 {
         list[i] = next_step(list, i);
     }

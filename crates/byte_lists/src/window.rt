@@ -11,6 +11,7 @@ pub fn samples(bytes: &[u8]) -> [u16; 72]
     ensures { result ≡ samples_in bytes.now }
 {
     let mut l = [0u16; 72];
+    // By index: sample k stands at byte 2k, as the rule says.
     for k in 0..72 {
         l[k] = two_at(bytes, 2 * k);
     }
@@ -22,6 +23,7 @@ pub fn put_samples(bytes: &mut [u8], l: &[u16; 72])
     requires { length bytes.old ≡ 144 }
     ensures { bytes.new ≡ bytes_of l.now }
 {
+    // By index: sample k goes to byte 2k.
     for k in 0..72 {
         put_two(bytes, 2 * k, l[k]);
     }

@@ -16,19 +16,19 @@ pub trait Kept: Sized {
 
 impl Entry for u8 {
     fn read(text: &[u8], c: Cursor, list: &mut [u8]) -> Listed {
-        text::read_u8s(text, c, list)
+        text::read_list(text, c, list)
     }
 }
 
 impl Entry for u16 {
     fn read(text: &[u8], c: Cursor, list: &mut [u16]) -> Listed {
-        text::read_u16s(text, c, list)
+        text::read_list(text, c, list)
     }
 }
 
 impl Entry for u32 {
     fn read(text: &[u8], c: Cursor, list: &mut [u32]) -> Listed {
-        text::read_u32s(text, c, list)
+        text::read_list(text, c, list)
     }
 }
 
@@ -40,12 +40,12 @@ impl Entry for i32 {
 
 impl Kept for u8 {
     fn hold(text: &[u8], c: Cursor, list: &[u8]) -> Held {
-        text::hold_u8s(text, c, list)
+        text::hold_list(text, c, list)
     }
 }
 
 impl Kept for u16 {
     fn hold(text: &[u8], c: Cursor, list: &[u16]) -> Held {
-        text::hold_u16s(text, c, list)
+        text::hold_list(text, c, list)
     }
 }

@@ -11,6 +11,7 @@ pub fn highest(list: &[u8], count: usize) -> u8
     requires { count ≤ length list.now }
     ensures { result ≡ largest list.now 0 count }
 {
+    // A loop and no iter().max(): `largest` goes from the first place up and is 0 of none, as the loop.
     let mut m: u8 = 0;
     for k in 0..count {
         m = m.max(list[k]);

@@ -11,6 +11,7 @@ fn most(plane: &[u16], start: usize, count: usize) -> u16
     requires { start + count ≤ length plane.now }
     ensures { result ≡ largest plane.now start count }
 {
+    // A loop and no iter().max(): `largest` goes from the first place up and is 0 of none, as the loop.
     let mut m: u16 = 0;
     for x in 0..count {
         m = m.max(plane[start + x]);

@@ -34,6 +34,7 @@ fn put_open(plane: &mut [u16], kept: Kept, k: usize, x: Moved, sofar: Counts) ->
 }
 
 // The s samples p of a line before the edge, moved by D·W of this sign and size.
+// By offsets, here and below: the samples of a side stand a step apart in the plane, outwards from the edge.
 fn before_open(
     plane: &mut [u16],
     kept: Kept,
@@ -56,7 +57,7 @@ fn before_open(
     done
 }
 
-// The s samples q of a line after the edge.
+// The s samples q of a line after the edge. A function for each side: with the side as an argument every clause would have two cases.
 fn after_open(
     plane: &mut [u16],
     kept: Kept,

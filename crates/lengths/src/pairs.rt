@@ -2,7 +2,7 @@
 ghost use Rattle.std.specs.Prelude.{◌≡◌, ◌<◌};
 ghost use Rattle.rules.specs.Lengths.{most_before, most_after, reach_before, reach_after};
 
-// Bytes, since a table is made anew at each use: eight of them are one number.
+// Four tables of bytes and no table of structs: a table is made anew at each use, and eight bytes are one number.
 const MOST_BEFORE: [u8; 8] = [1, 3, 6, 8, 6, 4, 2, 2];
 
 const MOST_AFTER: [u8; 8] = [1, 3, 6, 8, 8, 4, 3, 4];

@@ -53,7 +53,7 @@ pub fn flag(list: &[i32], k: usize) -> bool
     count(list, k) == 1
 }
 
-// A plane's settings.
+// A plane's settings. A function and no TryFrom, here and below: that the list is long enough is a `requires`, which callers have tested of the list as lent.
 pub fn plane_of(list: &[i32]) -> Plane
     requires { 11 ≤ length list.now }
     ensures { result ≡ plane_of list.now }

@@ -14,6 +14,7 @@ use rules::refusals::{Refusal, number, place};
 use rules::settings::Frame;
 use settings::lines::{line_with, lines_of};
 use streams::job::Job;
+use streams::say::Answered;
 use system::files::Target;
 use thresholds::tests::delta_ok;
 use tiles::tests::cap_ok;
@@ -99,19 +100,19 @@ fn say_refused(told: &Target, r: Refusal, at: Place, f: Frame, starts: bool, tex
     }
 }
 
-// The counts of a frame that was deblocked; else none, after the answer that says why not.
+// The counts of a frame that was deblocked; else an error after the answer that says why not.
 pub fn deblocked(
     told: &Target,
     o: Result<Counts, Refused>,
     f: Frame,
     starts: bool,
     text: &[u8],
-) -> Option<Counts> {
+) -> Result<Counts, Answered> {
     match o {
-        Ok(counts) => Some(counts),
+        Ok(counts) => Ok(counts),
         Err(x) => {
             say_refused(told, x.refusal, x.place, f, starts, text);
-            None
+            Err(Answered)
         }
     }
 }

@@ -23,10 +23,9 @@ fn list_inside(
 ) -> bool {
     let rows = s.rows / 4;
     let columns = s.stride / 4;
-    let k = outside(leaves, rows, columns);
-    if leaves.len() / 4 <= k {
+    let Some(k) = outside(leaves, rows, columns) else {
         return true;
-    }
+    };
     let row = wide(leaves[4 * k]);
     let column = wide(leaves[4 * k + 1]);
     at_line(told, name, line_with(text, kind, 4 * k));

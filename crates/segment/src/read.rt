@@ -31,7 +31,7 @@ fn read_before(plane: &[u16], at: usize, step: usize, last: usize) -> [u16; 9]
     ]
 }
 
-// The samples after the edge, q0 at `at`.
+// The samples after the edge, q0 at `at`. A function for each side: with the side as an argument every clause would have two cases.
 fn read_after(plane: &[u16], at: usize, step: usize, last: usize) -> [u16; 9]
     requires { (2 ≤ last) × (at + 2 * step < length plane.now) × (at + step * last < length plane.now) }
     ensures { result ≡ near_after plane.now at step last }

@@ -76,7 +76,7 @@ pub fn upright(e: Edge, stride: usize) -> Place
     }
 }
 
-// Where a horizontal one stands.
+// Where a horizontal one stands. A function for each direction: with it as an argument where an edge is visited a plane takes 4 % longer (docs/PACE.md).
 pub fn level(e: Edge, stride: usize) -> Place
     requires { e.y * stride + e.x < 18446744073709551616 }
     ensures { result ≡ placed false stride e }

@@ -10,6 +10,7 @@ use taps::difference::limited;
 use taps::moves::Move;
 
 // The s samples of a line before the edge, moved by D·W of this sign and size; how many changed, with those so far.
+// By offsets, here and below: the samples of a side stand a step apart in the plane, outwards from the edge.
 fn side_before(plane: &mut [u16], at: usize, step: usize, s: usize, m: Move, sofar: usize) -> usize
     requires { (s ≤ 8) × (sofar ≤ 64) × (1 ≤ step) × (s * step ≤ at) × (at < length plane.old) }
     ensures { (Put (along_stores m.top at step s m.plus m.by plane.old s) plane.old plane.new sofar result) × (result ≤ sofar + s) }
@@ -24,7 +25,7 @@ fn side_before(plane: &mut [u16], at: usize, step: usize, s: usize, m: Move, sof
     changed
 }
 
-// The s samples of a line after the edge.
+// The s samples of a line after the edge. A function for each side: with the side as an argument every clause would have two cases.
 fn side_after(plane: &mut [u16], at: usize, step: usize, s: usize, m: Move, sofar: usize) -> usize
     requires { (s ≤ 8) × (sofar ≤ 64) × (1 ≤ step) × (at + (s - 1) * step < length plane.old) }
     ensures { (Put (against_stores m.top at step s m.plus m.by plane.old s) plane.old plane.new sofar result) × (result ≤ sofar + s) }

@@ -2,7 +2,7 @@
 ghost use Rattle.std.specs.Prelude.{◌≤◌, length};
 ghost use Rattle.settings.specs.Lines.{Kept, Lent, lent};
 
-use crate::say::{at_line, words};
+use crate::say::{Answered, at_line, words};
 use crate::table::entry;
 use settings::file::{Fault, Settings, parse};
 use system::files::{Source, Target, read_full};
@@ -110,21 +110,21 @@ fn expected_setting(told: &Target, name: &[u8], line: usize, kind: usize) {
     words(told, b"\n");
 }
 
-// Whether a text has no fault; else after the answer that says what is wrong.
-fn faultless(told: &Target, name: &[u8], text: &[u8], fault: Fault) -> bool {
+// Whether a text has no fault; else an error after the answer that says what is wrong.
+fn faultless(told: &Target, name: &[u8], text: &[u8], fault: Fault) -> Result<(), Answered> {
     if fault.kind == 0 {
-        return true;
+        return Ok(());
     }
     if fault.kind == 24 {
         say_unknown(told, name, text, fault.at, fault.line);
     } else {
         expected_setting(told, name, fault.line, fault.kind);
     }
-    false
+    Err(Answered)
 }
 
-// A text into the lists; false after the answer that says what is wrong.
-pub fn take(told: &Target, name: &[u8], text: &[u8], s: &mut Settings<'_>) -> bool
+// A text into the lists; an error after the answer that says what is wrong.
+pub fn take(told: &Target, name: &[u8], text: &[u8], s: &mut Settings<'_>) -> Result<(), Answered>
     ensures lent { Lent s.old s.new }
     ensures kept { Kept (lent s.old).lists (lent s.new).lists }
 {

@@ -6,6 +6,7 @@ ghost use Rattle.text.specs.Numbers.{nothing, past, ends, closed, signed_at, who
 use crate::place::blank;
 
 // A place in a line: its next byte, the line's end, and whether every number so far was there.
+// A flag and no Option: a program reads a whole line and looks once, at its end.
 #[derive(Clone, Copy)]
 pub struct Cursor {
     pub at: usize,

@@ -3,6 +3,7 @@ ghost use Rattle.std.specs.Prelude.{◌≡◌, ◌-◌, ◌≤◌, ℕ, Bool, le
 ghost use Rattle.text.specs.Places.{seek, newline_at, remark_at, blank_of, blank_at, ink_at};
 
 // The first place whose byte passes a test.
+// By places of the whole text and no slice of it: the definitions of `settings` and `y4m` count each place from the text's start (`seek`).
 fn first<F: Fn(u8) -> bool>(text: &[u8], from: usize, end: usize, test: F) -> usize
     requires within { (from ≤ end) × (end ≤ length text.now) }
     requires callable { F.IsAlwaysCallable test }

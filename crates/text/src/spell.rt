@@ -47,6 +47,7 @@ fn letters(text: &[u8], from: usize, end: usize) -> Word
 }
 
 // The word at a place, 0 where something else than a space or a tab follows it.
+// 0 and no Option: the definitions of `settings` and `y4m` hold the value against a name's (`word_at`), and no name is 0.
 pub fn read_word(text: &[u8], from: usize, end: usize) -> Word
     requires { (from ≤ end) × (end ≤ length text.now) }
     ensures value { result ≡ word_at text.now from end }

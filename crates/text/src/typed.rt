@@ -6,6 +6,7 @@ ghost use Rattle.text.specs.Typed.{failed, unsigned_of, signed, signed_of, answe
 
 use crate::number::{Cursor, next_number};
 
+// A number that is missing is no None: its line is given up in `rest`, and a program looks once, at the line's end.
 #[derive(Clone, Copy)]
 pub struct Unsigned {
     pub value: usize,
@@ -19,6 +20,7 @@ pub struct Signed {
 }
 
 // The answer that a line gives its case: the refusal's number, 0 for none, its place, and how many samples are stored and changed, 0 where the line counts none.
+// A refusal is its number here, as the stream writes it, and the tally counts by that number.
 #[derive(Clone, Copy)]
 pub struct Answered {
     pub number: usize,
@@ -88,13 +90,12 @@ pub fn read_answer(text: &[u8], c: Cursor) -> Answered
 {
     let number = read_unsigned(text, c, 20);
     let place = read_unsigned(text, number.rest, 4294967295);
-    let rest = place.rest;
     Answered {
         number: number.value,
         place: place.value,
         stored: 0,
         changed: 0,
-        rest,
+        rest: place.rest,
     }
 }
 
@@ -105,12 +106,10 @@ pub fn read_counted(text: &[u8], c: Cursor) -> Answered
     let t = read_answer(text, c);
     let stored = read_unsigned(text, t.rest, 4294967295);
     let changed = read_unsigned(text, stored.rest, 4294967295);
-    let rest = changed.rest;
     Answered {
-        number: t.number,
-        place: t.place,
         stored: stored.value,
         changed: changed.value,
-        rest,
+        rest: changed.rest,
+        ..t
     }
 }

@@ -63,6 +63,7 @@ pub fn far(a: Line, b: Line, n: usize, p: usize, q: u32, side: u32, g: u32) -> u
     requires { (p ≤ 8) × (q ≤ 2048) × (side ≤ 839) × (g ≤ 262140) }
     ensures { result ≡ far_of (ends a b) n p q side g }
 {
+    // A loop that breaks with the width, and no `for`: at 8 it breaks in either case, and `for` would want a value after its last turn.
     let mut d: usize = 4;
     loop {
         if fails(a, b, n, q, side, g, d) {
