@@ -6,7 +6,6 @@ use crate::carry::{Way, read_rows, write_rows};
 use crate::passed::Stop;
 use rows::deblock_rows;
 use rules::counts::Counts;
-
 use rules::rows::{RowState, RowsAnswer};
 use rules::settings::Plane;
 use streams::counts::{both, none};

@@ -3,7 +3,6 @@ ghost use Rattle.std.specs.Prelude.{◌≡◌};
 ghost use Rattle.by_settings.specs.Places.{place_in, over_top, sample_place, leaf_place, leaves_place};
 
 use rules::depth::Depth;
-
 use rules::settings::Frame;
 use tiles::leaf::{bad_leaf, wide};
 

@@ -4,8 +4,6 @@ ghost use Rattle.laws.specs.Largest.{largest};
 ghost use Rattle.rules.specs.Plane.{bad_keep};
 ghost use Rattle.checks.specs.Asked.{Asked};
 
-
-
 // The largest of the first count numbers.
 pub fn highest(list: &[u8], count: usize) -> u8
     requires { count ≤ length list.now }

@@ -4,8 +4,6 @@ ghost use Rattle.laws.specs.Largest.{largest};
 ghost use Rattle.rules.specs.Refusals.{over_row, over_box};
 ghost use Rattle.checks.specs.Rows.{Box};
 
-
-
 // The largest of count samples from start.
 fn most(plane: &[u16], start: usize, count: usize) -> u16
     requires { start + count ≤ length plane.now }

@@ -6,7 +6,6 @@ use crate::say::Answered;
 use compared::{Difference, compare};
 use pictures::files::{read_whole, text_room};
 use replay::{count, record_check};
-
 use std::fs::File;
 use std::rt::Files;
 use system::files::{Ends, Target};

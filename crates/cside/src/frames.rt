@@ -7,7 +7,6 @@ use answers::{told_counts, told_refusal};
 use by_list::frames::{frame_of, list_check};
 use frame::frame::deblock_frame;
 
-
 // 0, or minus the refusal number with its place in the first entry of `place`; stored and changed samples in `counts`.
 #[unsafe(no_mangle)]
 pub extern "C" fn bihargesh_frame(

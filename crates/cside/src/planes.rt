@@ -7,7 +7,6 @@ use by_list::planes::list_check;
 use numbers::plane_of;
 use plane::deblock_plane;
 
-
 // 0, or minus the refusal number with its place in the first entry of `place`; stored and changed samples in `counts`.
 #[unsafe(no_mangle)]
 pub extern "C" fn bihargesh_plane(

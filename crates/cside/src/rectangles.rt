@@ -6,7 +6,6 @@ use by_list::rectangles::rectangle_check;
 use numbers::rectangle_of;
 use rectangle::keep_rectangle;
 
-
 // 0, or minus the refusal number with its place in the first entry of `place`.
 #[unsafe(no_mangle)]
 pub extern "C" fn bihargesh_keep_rectangle(

@@ -65,17 +65,7 @@ fn deblock_given(
         Ok(counts) => Ok(counts),
         Err(refusal) => Err(Refused {
             refusal,
-            place: place_of(
-                refusal,
-                y,
-                u,
-                sbq,
-                leaves,
-                chromaleaves,
-                skips,
-                tiles,
-                f,
-            ),
+            place: place_of(refusal, y, u, sbq, leaves, chromaleaves, skips, tiles, f),
         }),
     }
 }

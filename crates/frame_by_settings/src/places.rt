@@ -15,7 +15,13 @@ use rules::refusals::Refusal;
 use rules::settings::Frame;
 
 // Refusal 7 of luma alone, by a grid of its own.
-fn luma_room(leaves: &[u16], skips: &[u16], sbq: &[u16], tiles: &[u16], f: Frame) -> Result<(), Refusal>
+fn luma_room(
+    leaves: &[u16],
+    skips: &[u16],
+    sbq: &[u16],
+    tiles: &[u16],
+    f: Frame,
+) -> Result<(), Refusal>
     requires { LumaFit f leaves.now skips.now (length sbq.now) }
     ensures { result ≡ found (no_room (luma_plane f) (luma_grid f leaves.now skips.now sbq.now tiles.now)) Room }
 {

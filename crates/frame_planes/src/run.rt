@@ -37,8 +37,9 @@ fn run(
     }
     let s = plane_of(f, chroma);
     if plain {
-        return deblock_plane_plain(plane, vedge, hedge, sqw, sqh, qindex, tiles, keep, steps, s)
-            .unwrap();
+        return deblock_plane_plain(
+            plane, vedge, hedge, sqw, sqh, qindex, tiles, keep, steps, s,
+        ).unwrap();
     }
     let done = run_plane(plane, vedge, hedge, sqw, sqh, qindex, tiles, keep, steps, s);
     Counts {

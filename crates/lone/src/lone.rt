@@ -42,7 +42,14 @@ fn edge_of(s: Lone) -> Edge
 }
 
 // The first sample over top within the reach on the four lines, row by row over the plane.
-fn over_edge(plane: &[u16], stride: usize, columns: usize, rows: usize, e: Edge, top: u16) -> Option<usize>
+fn over_edge(
+    plane: &[u16],
+    stride: usize,
+    columns: usize,
+    rows: usize,
+    e: Edge,
+    top: u16,
+) -> Option<usize>
     requires { InPlane stride columns rows e (length plane.now) }
     ensures { result ≡ over_edge top stride e plane.now }
 {

@@ -44,7 +44,14 @@ fn cell_good(vedge: &[u8], hedge: &[u8], sqw: &[u8], sqh: &[u8], keep: &[u8], k:
 }
 
 // The first of count cells that is not good.
-fn first_bad(vedge: &[u8], hedge: &[u8], sqw: &[u8], sqh: &[u8], keep: &[u8], count: usize) -> Option<usize>
+fn first_bad(
+    vedge: &[u8],
+    hedge: &[u8],
+    sqw: &[u8],
+    sqh: &[u8],
+    keep: &[u8],
+    count: usize,
+) -> Option<usize>
     requires { CellsLong count (length vedge.now) (length hedge.now) (length sqw.now) (length sqh.now) (length keep.now) }
     ensures { result ≡ bad_of count (keeping vedge.now hedge.now sqw.now sqh.now [] [] keep.now) }
 {
@@ -57,7 +64,14 @@ fn first_bad(vedge: &[u8], hedge: &[u8], sqw: &[u8], sqh: &[u8], keep: &[u8], co
 }
 
 // The first bad cell of a plane's grid, whatever its qindex and tiles: the largest numbers first, since a cell is seldom bad, and the place only where one is.
-pub fn bad_cell(vedge: &[u8], hedge: &[u8], sqw: &[u8], sqh: &[u8], keep: &[u8], s: Plane) -> Option<usize>
+pub fn bad_cell(
+    vedge: &[u8],
+    hedge: &[u8],
+    sqw: &[u8],
+    sqh: &[u8],
+    keep: &[u8],
+    s: Plane,
+) -> Option<usize>
     requires { Sizes s × CellsLong (s.rows * s.cols) (length vedge.now) (length hedge.now) (length sqw.now) (length sqh.now) (length keep.now) }
     ensures { (q ts : List ℕ) → result ≡ bad_cell s (keeping vedge.now hedge.now sqw.now sqh.now q ts keep.now) }
 {

@@ -9,7 +9,6 @@ ghost use Rattle.plane_checks.specs.Fit.{room_of, may_lack};
 
 use cell_edges::pair::{cell_of, is_edge, pair_at, shortened_at};
 use lengths::pairs::{reach_after, reach_before};
-
 use rules::settings::Plane;
 
 // Whether both reaches lie in the plane along an edge's lines, and the four lines beside each other.
@@ -76,7 +75,14 @@ fn may_lack(marks: &[u8], sizes: &[u8], s: Plane, r: usize, c: usize) -> bool
 }
 
 // The cell, where it has a vertical edge that lacks room.
-fn lacks_left(vedge: &[u8], sqw: &[u8], tiles: &[u16], s: Plane, r: usize, c: usize) -> Option<usize>
+fn lacks_left(
+    vedge: &[u8],
+    sqw: &[u8],
+    tiles: &[u16],
+    s: Plane,
+    r: usize,
+    c: usize,
+) -> Option<usize>
     requires { Ready s vedge.now sqw.now × Cell s r c }
     ensures { result ≡ lacks_room s (one_way vedge.now sqw.now [] tiles.now) 0 r c }
 {
@@ -160,7 +166,14 @@ fn lacks_horz(hedge: &[u8], sqh: &[u8], s: Plane) -> Option<usize>
 }
 
 // The first edge of a plane that lacks room, whatever the qindex and the keep marks.
-pub fn no_room(vedge: &[u8], hedge: &[u8], sqw: &[u8], sqh: &[u8], tiles: &[u16], s: Plane) -> Option<usize>
+pub fn no_room(
+    vedge: &[u8],
+    hedge: &[u8],
+    sqw: &[u8],
+    sqh: &[u8],
+    tiles: &[u16],
+    s: Plane,
+) -> Option<usize>
     requires { Ready s vedge.now sqw.now × Ready s hedge.now sqh.now }
     ensures { (q ks : List ℕ) → result ≡ no_room s (keeping vedge.now hedge.now sqw.now sqh.now q tiles.now ks) }
 {

@@ -6,7 +6,6 @@ ghost use Rattle.cell_edges.specs.Cells.{Sizes};
 
 use checks::samples;
 use rules::depth::Depth;
-
 use rules::settings::Plane;
 
 // The first sample of a plane that is over the depth's top.

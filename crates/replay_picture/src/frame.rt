@@ -9,7 +9,6 @@ use crate::load::Records;
 use crate::say::refused;
 use pictures::planes::Shape;
 use replay::replay_plane;
-
 use rules::settings::Replay;
 use streams::job::Job;
 use streams::planes::Planes;

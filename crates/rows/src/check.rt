@@ -30,7 +30,13 @@ fn over_new(plane: &[u16], s: Plane, held: usize, filled: usize) -> Option<usize
 }
 
 // The first refusal of a call, or none, where document 01's 1 to 7 answer so.
-pub fn rows_check(plane: &[u16], s: Plane, state: RowState, filled: usize, given: Result<(), Refusal>) -> Result<(), Refusal>
+pub fn rows_check(
+    plane: &[u16],
+    s: Plane,
+    state: RowState,
+    filled: usize,
+    given: Result<(), Refusal>,
+) -> Result<(), Refusal>
     requires { given ≡ Ok tt → Sizes s × (depth_ok s.depth ≡ true) × (4 * s.rows * s.stride ≤ length plane.now) }
     ensures { (steps : List ℕ) (g : Grid) → given ≡ settings_check s steps g (length plane.now) → result ≡ rows_check s steps g state filled plane.now }
 {

@@ -74,7 +74,12 @@ pub fn deltas_check(deltaq: i32, deltaside: i32) -> Result<(), Refusal>
 }
 
 // The checks in their order: 1, 4, 5.
-pub fn thresholds_check(depth: u32, steps: &[u32], deltaq: i32, deltaside: i32) -> Result<(), Refusal>
+pub fn thresholds_check(
+    depth: u32,
+    steps: &[u32],
+    deltaq: i32,
+    deltaside: i32,
+) -> Result<(), Refusal>
     ensures { result ≡ thresholds_check depth steps.now deltaq deltaside }
 {
     if !Depth::is(depth) {

@@ -3,8 +3,6 @@ ghost use Rattle.std.specs.Prelude.{◌≡◌, ◌<◌, ◌/◌, length};
 ghost use Rattle.rules.specs.TuGrid.{flag_of, bare_of, is_size, leaf_good, leaf_good_at, bad_leaf};
 ghost use Rattle.tiles.specs.Fit.{size_good};
 
-
-
 // Bit 4096 of a number.
 pub fn flag(w: u16) -> bool
     ensures { result ≡ flag_of w }
