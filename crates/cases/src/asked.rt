@@ -4,8 +4,7 @@ ghost use Rattle.text.specs.Numbers.{number_at, whole_line};
 ghost use Rattle.text.specs.Lists.{SetsSteps};
 ghost use Rattle.text.specs.Typed.{unsigned_of, signed_of, answered_at, counted_at};
 
-use crate::entry::Entry;
-use text::{Answered, Cursor, Steps};
+use text::{Answered, Cursor, Entry, Steps};
 
 // A line's bytes, and the place of what is read next. A number that is not there, or does not fit, gives the line up: nothing is there any more.
 #[derive(Clone, Copy)]
@@ -107,9 +106,18 @@ impl<'a> Line<'a> {
     pub fn list<'b, T: Entry>(&mut self, room: &'b mut [T]) -> &'b mut [T]
         ensures { length result.now ≤ length room.old }
     {
-        let l = T::read(self.text, self.rest, room);
+        let l = text::read_list(self.text, self.rest, room);
         self.rest = l.rest;
         &mut room[..l.length]
+    }
+
+    // The next list of numbers with a sign, at the front of a lent one.
+    pub fn signed_list<'b>(&mut self, room: &'b mut [i32]) -> &'b mut [i32]
+        ensures { length result.now ≤ length room.old }
+    {
+        let signed = text::read_i32s(self.text, self.rest, room);
+        self.rest = signed.rest;
+        &mut room[..signed.length]
     }
 
     // A line that sets the step table, at the front of a lent list.

@@ -3,8 +3,7 @@ ghost use Rattle.std.specs.Prelude.{◌≡◌, ◌≢◌, true, false};
 ghost use Rattle.text.specs.Numbers.{whole_line};
 
 use crate::asked::Line;
-use crate::entry::Kept;
-use text::Answered;
+use text::{Answered, Entry};
 
 // Where the next list stands, what follows the answer, and whether the lists are the lent ones, whose lengths stand before them.
 #[derive(Clone, Copy)]
@@ -42,20 +41,20 @@ impl<'a> Due<'a> {
     }
 
     // Whether a list is the next one that is due.
-    pub fn is<T: Kept>(&mut self, list: &[T]) -> bool
+    pub fn is<T: Entry>(&mut self, list: &[T]) -> bool
         ensures lent { self.new.lent ≡ self.old.lent }
         ensures after { self.new.after.rest ≡ self.old.after.rest }
     {
         if self.lent {
             let _ = self.next.size();
         }
-        let h = T::hold(self.next.text, self.next.rest, list);
+        let h = text::hold_list(self.next.text, self.next.rest, list);
         self.next.rest = h.rest;
         h.same
     }
 
     // Whether a list is the one that is due, and the line ends where it should.
-    pub fn only<T: Kept>(mut self, list: &[T]) -> bool
+    pub fn only<T: Entry>(mut self, list: &[T]) -> bool
         ensures { self.entry.lent ≡ true → result ≡ true → whole_line self.entry.after.rest ≡ true }
     {
         self.is(list) && self.ended()

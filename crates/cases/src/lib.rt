@@ -4,9 +4,6 @@
 // Whole lines in a lent buffer.
 mod stream;
 
-// The numbers of lists.
-mod entry;
-
 // One line as it is read.
 mod asked;
 
@@ -18,6 +15,5 @@ mod due;
 
 pub use asked::Line;
 pub use due::Due;
-pub use entry::{Entry, Kept};
 pub use narrow::{read_leaves, read_offsets};
 pub use stream::{NoLine, Stream};

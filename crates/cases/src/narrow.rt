@@ -33,5 +33,9 @@ pub fn read_offsets<'b>(line: &mut Line, room: &'b mut [i8]) -> &'b mut [i8]
     ensures { length result.now ≤ length room.old }
 {
     let mut wide = [0i32; 256];
-    narrowed(line.list(&mut wide), room, |n| n.clamp(-128, 127) as i8)
+    narrowed(
+        line.signed_list(&mut wide),
+        room,
+        |n| n.clamp(-128, 127) as i8,
+    )
 }
