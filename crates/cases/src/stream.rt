@@ -64,6 +64,7 @@ impl<'b, R: Read> Stream<'b, R> {
         ensures stays { self.new.next ≡ 0 }
         ensures within { IfSome result (λ k. k < self.new.filled) }
     {
+        // No `for`: how many bytes a read brings is known only after it.
         while self.filled < self.buf.len() {
             let start = self.filled;
             let got = bytes::read_some(&mut self.input, &mut self.buf[start..]);
