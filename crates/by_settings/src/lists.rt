@@ -4,7 +4,6 @@ ghost use Rattle.by_settings.specs.Rooms.{kinds, fewest_shorts, steps_room};
 ghost use Rattle.by_settings.specs.Lists.{lists_asked, steps_asked, ListsWithin};
 
 use crate::{kinds, rooms};
-use laws::{least, most};
 use settings::names::leaf_room;
 
 // Where the lists of short numbers begin and end.
@@ -29,7 +28,7 @@ pub struct Lists {
 pub fn limit(place: usize, from: usize, end: usize) -> usize
     ensures { result ≡ max from (min place end) }
 {
-    most(from, least(place, end))
+    from.max(place.min(end))
 }
 
 // How many steps stand in the table: those given, or all of the published ones.
@@ -39,7 +38,7 @@ pub fn steps_of(n: usize) -> usize
     if n == 0 {
         rooms::STEPS
     } else {
-        least(n, rooms::STEPS)
+        n.min(rooms::STEPS)
     }
 }
 

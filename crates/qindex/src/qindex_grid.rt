@@ -7,7 +7,6 @@ ghost use Rattle.rules.specs.TuGrid.{cells_ok};
 ghost use Rattle.rules.specs.QindexGrid.{superblock_of, q_cell, q_row, q_grid_of, q_grid_check, q_grid_after};
 ghost use Rattle.qindex.specs.Fit.{QFit, QChecked};
 
-use laws::least;
 use rules::refusals::Refusal;
 use rules::settings::QindexGrid;
 use tiles::tests::{cells_ok, subsampling_ok, superblocks_ok};
@@ -29,7 +28,7 @@ fn superblock(s: QindexGrid, count: usize, r: usize, c: usize) -> usize
     let x = luma(s.ssx, c) / 16;
     let i = y * s.sbcols + x;
     let last = count - 1;
-    least(i, last)
+    i.min(last)
 }
 
 fn q_cell(sbq: &[u16], qindex: &mut [u16], s: QindexGrid, r: usize, c: usize)

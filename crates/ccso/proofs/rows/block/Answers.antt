@@ -55,7 +55,7 @@ cells-requires c = record {
       c.requires.b_bound
       c.requires.sized
       _
-      c.least-end.ensures;
+      c.min-end.ensures;
 }
 
 pub returns : goal.returns
