@@ -106,9 +106,5 @@ pub fn is_edge(marks: &[u8], s: Plane, dir: usize, r: usize, c: usize) -> bool
     requires { Sizes s × Cell s r c × (s.rows * s.cols ≤ length marks.now) }
     ensures { result ≡ is_edge s (marked marks.now) dir r c }
 {
-    if by_dir(dir, c, r) == 0 {
-        return false;
-    }
-    let i = cell_of(s, r, c);
-    marks[i] == 1
+    by_dir(dir, c, r) != 0 && marks[cell_of(s, r, c)] == 1
 }

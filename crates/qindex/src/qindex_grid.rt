@@ -66,22 +66,13 @@ pub fn qindex_grid(sbq: &[u16], qindex: &mut [u16], s: QindexGrid)
 fn sizes_ok(s: QindexGrid) -> bool
     ensures { result ≡ all (cells_ok s.cols s.rows ∷ subsampling_ok s.ssx s.ssy ∷ in_range 1 128 s.sbcols ∷ []) }
 {
-    if !cells_ok(s.cols, s.rows) {
-        return false;
-    }
-    if !subsampling_ok(s.ssx, s.ssy) {
-        return false;
-    }
-    superblocks_ok(s.sbcols)
+    cells_ok(s.cols, s.rows) && subsampling_ok(s.ssx, s.ssy) && superblocks_ok(s.sbcols)
 }
 
 fn lists_ok(cells: usize, count: usize, n: usize) -> bool
     ensures { result ≡ all (leb 1 count ∷ leb cells n ∷ []) }
 {
-    if count < 1 {
-        return false;
-    }
-    cells <= n
+    1 <= count && cells <= n
 }
 
 // The checks, for lists of these lengths.
