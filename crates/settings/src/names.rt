@@ -3,8 +3,6 @@ ghost use Rattle.std.specs.Prelude.{◌≡◌, ◌+◌, ◌*◌, ◌-◌, ◌≤
 ghost use Rattle.settings.specs.Names.{kind_of};
 ghost use Rattle.settings.specs.Rules.{leaf_room, rule_of, first_places};
 
-use laws::least;
-
 // Which list the numbers go to: 0 signed numbers, 1 short ones, 2 steps, 3 flags, 4 offsets, 5 short ones of a setting of one line; the first place and the one
 // after the last; and how many numbers a line has, 0 for any.
 #[derive(Clone, Copy)]
@@ -89,7 +87,7 @@ pub fn leaf_room(n: usize) -> usize
     if n < 22526 {
         return 0;
     }
-    least((n - 22526) / 3, 4194304)
+    ((n - 22526) / 3).min(4194304)
 }
 
 // Where the numbers of a kind go, where there are n short ones.
