@@ -82,7 +82,7 @@ fn stopped(stop: Stop, j: Job<'_>, k: usize, p: usize) -> Answered
             cut(j.told, j.name, k, has, bytes_before(j, planes_of(j)))
         }
         Stop::Refused(r) => {
-            refused(j.told, r, at(p, place(r), s.stride), 0);
+            refused(j.told, r, at(p, place(r), s.stride), None);
             Answered
         }
         Stop::Unwritten => unwritten(j.told),

@@ -1,5 +1,5 @@
 // From the header and the settings to the last frame and the answer.
-ghost use Rattle.std.specs.Prelude.{◌≤◌, length, IfSome};
+ghost use Rattle.std.specs.Prelude.{◌≤◌, length};
 ghost use Rattle.frame_checks.specs.Settings.{Sized};
 ghost use Rattle.streams.specs.Shaped.{Shaped};
 
@@ -17,6 +17,7 @@ use refused::inside::inside;
 use rules::counts::Counts;
 use rules::settings::Frame;
 use settings::file::Settings;
+use settings::kinds::Kind;
 use settings::lines::lines_of;
 use settings::names::first_places;
 use std::fs::File;
@@ -97,11 +98,18 @@ fn begun(s: Asked<'_>, f: Frame, j: Job<'_>, ends: Ends) -> Result<(), Answered>
     frames(&mut plane, s, f, j, ends)
 }
 
-// The kind of the first line that asks for CCSO offsets, by the lines of each kind.
-fn offsets_in(lines: &[usize; 24]) -> Option<usize>
-    ensures { IfSome result (λ kind. kind ≤ 14) }
-{
-    (12..15).find(|&kind| lines[kind] != 0)
+// The kind of a line that asks for CCSO offsets, by the lines of each kind.
+fn offsets_in(lines: &[usize; 24]) -> Option<Kind> {
+    if lines[12] != 0 {
+        return Some(Kind::CcsoY);
+    }
+    if lines[13] != 0 {
+        return Some(Kind::CcsoU);
+    }
+    if lines[14] != 0 {
+        return Some(Kind::CcsoV);
+    }
+    None
 }
 
 // That a text asks for no CCSO offsets, whose taps reach rows to come; else an error after the answer.
@@ -110,7 +118,7 @@ fn alone(told: &Target, name: &[u8], text: &[u8]) -> Result<(), Answered> {
     lines_of(text, &mut lines);
     match offsets_in(&lines) {
         None => Ok(()),
-        Some(kind) => Err(say::no_offsets(told, name, lines[kind], kind)),
+        Some(kind) => Err(say::no_offsets(told, name, lines[usize::from(kind)], kind)),
     }
 }
 

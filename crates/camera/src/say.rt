@@ -1,5 +1,6 @@
 // The answer: the outcome as one byte (0 filtered, 1 refused, 2 a bad file, 3 not written), which stands before any name, and then a line.
 use rules::counts::Counts;
+use settings::kinds::Kind;
 use std::io::Write;
 use streams::say::{Answered, frames_of, number, words};
 use streams::take::setting;
@@ -16,7 +17,7 @@ pub fn count(errors: &Target, k: usize, shown: bool) {
 }
 
 // A line of the settings that asks for CCSO offsets.
-pub fn no_offsets(told: &Target, name: &[u8], line: usize, kind: usize) -> Answered {
+pub fn no_offsets(told: &Target, name: &[u8], line: usize, kind: Kind) -> Answered {
     words(told, b"2");
     words(told, name);
     words(told, b": line ");

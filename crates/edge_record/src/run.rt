@@ -86,8 +86,7 @@ fn told(text: &[u8], h: Header, chroma: bool, to: &Target) -> Result<Record, Fau
         offsets: &mut offsets,
         places: &mut places,
     };
-    let fault = parse(text, &mut s);
-    if fault.kind != 0 {
+    if parse(text, &mut s).is_err() {
         return Err(Fault::NoFiles);
     }
     let l = luma_of(h);

@@ -11,6 +11,7 @@ use refused::say;
 use rules::counts::Counts;
 use rules::refusals::{Refusal, number, place};
 use rules::settings::Frame;
+use settings::kinds::Kind;
 use streams::job::Job;
 use streams::planes::Planes;
 use streams::save::pack;
@@ -18,11 +19,11 @@ use streams::say::Answered;
 use system::files::Target;
 
 // The kind of a plane's CCSO line.
-fn ccso_kind(plane: usize) -> usize {
+fn ccso_kind(plane: usize) -> Kind {
     match plane {
-        0 => 12,
-        1 => 13,
-        _ => 14,
+        0 => Kind::CcsoY,
+        1 => Kind::CcsoU,
+        _ => Kind::CcsoV,
     }
 }
 
@@ -31,7 +32,7 @@ fn say_plane(answer: &Target, r: Refusal, plane: usize, width: usize, f: Frame, 
     if number(r) == 5 {
         say_setting(answer, ccso_kind(plane), f, text);
     } else {
-        say::refused(answer, r, at(plane, place(r), width), 0);
+        say::refused(answer, r, at(plane, place(r), width), None);
     }
 }
 

@@ -8,13 +8,14 @@ use borrow.Author.Rules.{rules}
 use borrow.Author.Tests.{lt-ltb, le-ltb}
 use lib.ListN.{length, set}
 use lib.Dec.{ltb}
+use Rattle.std.specs.Prelude.{None, Some}
 use Rattle.laws.specs.Choose.{pick, pick_yes, pick_no, is_lt, not_lt, is_eq, not_eq}
 use Rattle.text.specs.declared.spell.Word.{Word}
 use Rattle.text.specs.Places.{seek, newline_at, remark_at, ink_at}
 use Rattle.text.specs.Words.{word_at, words_in}
 use Rattle.settings.specs.Names.{kind_of}
 use Rattle.settings.specs.Text.{line_end}
-use Rattle.settings.specs.Numbered.{kind_to, kind_at, numbered, lines_of, numbers_to, numbers_at, holding, line_with}
+use Rattle.settings.specs.Numbered.{kind_to, kind_at, numbered, lines_of, numbers_to, numbers_at, holding, line_or_none, line_with}
 
 -- by the line's first word
 pub kind_is : (xs : List ℕ) (from stop at k : ℕ) (w : Word) → at ≡ seek (ink_at xs) from (stop - from) → w ≡ word_at xs at stop → k ≡ kind_of w.value → k ≡ kind_to xs from stop
@@ -119,3 +120,11 @@ unfolding line_with
 hold_start xs kind n number e f = let m : n + 1 - 1 ≡ length xs = omega arith in f ∙ ap (λ (k : ℕ). holding xs kind k 0 1 number) m
 
 pub ruleset holdings = (rules, hold_here, hold_on, hold_end, hold_start)
+
+-- lines count from 1
+pub line_some : (l m : ℕ) → 1 ≤ l → l ≡ m → Some l ≡ line_or_none m
+line_some zero m h e = absurd (omega arith)
+line_some (suc l) m h e = rw (← e)
+
+pub line_none : (m : ℕ) → 0 ≡ m → None ≡ line_or_none m
+line_none m e = rw (← e)

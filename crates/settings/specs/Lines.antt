@@ -6,6 +6,8 @@ use Rattle.text.specs.Places.{seek, ink_at}
 use Rattle.text.specs.Words.{word_at}
 use Rattle.text.specs.declared.number.Cursor.{Cursor}
 use Rattle.settings.specs.declared.file.Settings.{Settings}
+use Rattle.settings.specs.declared.names.Destination.{Destination}
+use Rattle.settings.specs.declared.names.Destination.TheVariants.{Numbers, Shorts, Steps, Flags, Offsets, Tiles}
 use Rattle.settings.specs.declared.names.Rule.{Rule}
 use Rattle.settings.specs.declared.values.Taken.{Taken}
 use Rattle.settings.specs.Names.{kind_of}
@@ -74,21 +76,25 @@ in_flags s p = record { lists = lists s.numbers s.shorts s.steps p.list s.offset
 unfoldable pub in_offsets : Lists → Put ℤ → Filled
 in_offsets s p = record { lists = lists s.numbers s.shorts s.steps s.flags p.list; left = p.left }
 
--- the numbers from a line's place on, into the list of that number, from from up to end
-unfoldable pub take_of : List ℕ → Cursor → ℕ → ℕ → ℕ → Lists → Filled
-take_of xs c list from end s =
-    pick (eqb list 0) (in_numbers s (taken_to xs (read_signed xs) s.numbers from end c))
-    (pick (eqb list 1) (in_shorts s (taken_to xs (read_up_to 65535 xs) s.shorts from end c))
-    (pick (eqb list 2) (in_steps s (taken_to xs (read_up_to 4294967295 xs) s.steps from end c))
-    (pick (eqb list 3) (in_flags s (taken_to xs (read_up_to 1 xs) s.flags from end c))
-    (pick (eqb list 4) (in_offsets s (taken_to xs (read_offset xs) s.offsets from end c))
-    (in_shorts s (taken_to xs (read_up_to 65535 xs) s.shorts from end c))))))
+-- the numbers from a line's place on, into the list where they go, from from up to end
+unfoldable pub take_of : List ℕ → Cursor → Destination → ℕ → ℕ → Lists → Filled
+take_of xs c Numbers from end s = in_numbers s (taken_to xs (read_signed xs) s.numbers from end c)
+take_of xs c Shorts from end s = in_shorts s (taken_to xs (read_up_to 65535 xs) s.shorts from end c)
+take_of xs c Steps from end s = in_steps s (taken_to xs (read_up_to 4294967295 xs) s.steps from end c)
+take_of xs c Flags from end s = in_flags s (taken_to xs (read_up_to 1 xs) s.flags from end c)
+take_of xs c Offsets from end s = in_offsets s (taken_to xs (read_offset xs) s.offsets from end c)
+take_of xs c Tiles from end s = in_shorts s (taken_to xs (read_up_to 65535 xs) s.shorts from end c)
 
 -- ---- whether they are as they should be
 
 -- signed numbers and tile starts stand at places of their own, so that a line replaces the one before; others go on after those before them
-unfoldable pub start_of : ℕ → ℕ → ℕ → ℕ
-start_of list from place = pick (eqb list 0) from (pick (eqb list 5) from place)
+unfoldable pub start_of : Destination → ℕ → ℕ → ℕ
+start_of Numbers from place = from
+start_of Shorts from place = place
+start_of Steps from place = place
+start_of Flags from place = place
+start_of Offsets from place = place
+start_of Tiles from place = from
 
 -- every number was there, the line was read to its end, and it had as many as it should; 0 stands for any, but at least one
 unfoldable pub whole_of : Taken → ℕ → ℕ → Bool

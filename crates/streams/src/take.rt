@@ -5,11 +5,12 @@ ghost use Rattle.settings.specs.Lines.{Kept, Lent, lent};
 use crate::say::{Answered, at_line, words};
 use crate::table::entry;
 use settings::file::{Fault, Settings, parse};
+use settings::kinds::{Expected, Kind};
 use system::files::{Source, Target, read_full};
 use text::place::{line_end, spaces, word_end};
 
 // A setting by its name.
-pub fn setting(told: &Target, kind: usize) {
+pub fn setting(told: &Target, kind: Kind) {
     entry(
         told,
         b"
@@ -36,29 +37,29 @@ offset_v
 tiles_y
 tiles_uv
 keep",
-        kind,
+        usize::from(kind),
     );
 }
 
 // Which numbers a setting has: a line of the table of `numbers_of`.
-fn sort_of(kind: usize) -> usize {
+fn sort_of(kind: Kind) -> usize {
     match kind {
-        2 => 0,
-        3 => 1,
-        4 | 5 | 6 => 2,
-        7 | 8 => 3,
-        9 | 10 => 4,
-        11 => 5,
-        12 | 13 | 14 => 6,
-        15 | 16 | 17 => 7,
-        21 | 22 => 9,
-        23 => 10,
+        Kind::Qindex => 0,
+        Kind::Steps => 1,
+        Kind::Leaf | Kind::LeafUv | Kind::Skip => 2,
+        Kind::DeltaY | Kind::DeltaUv => 3,
+        Kind::CapY | Kind::CapUv => 4,
+        Kind::Chroma => 5,
+        Kind::CcsoY | Kind::CcsoU | Kind::CcsoV => 6,
+        Kind::FlagsY | Kind::FlagsU | Kind::FlagsV => 7,
+        Kind::TilesY | Kind::TilesUv => 9,
+        Kind::Keep => 10,
         _ => 8,
     }
 }
 
 // The numbers of a setting.
-fn numbers_of(told: &Target, kind: usize) {
+fn numbers_of(told: &Target, kind: Kind) {
     entry(
         told,
         b"numbers from 0 to 65535, one for each superblock, 4096 at most
@@ -97,11 +98,11 @@ fn say_unknown(told: &Target, name: &[u8], text: &[u8], at: usize, line: usize) 
 }
 
 // What the settings file should have said.
-fn expected_setting(told: &Target, name: &[u8], line: usize, kind: usize) {
+fn expected_setting(told: &Target, name: &[u8], line: usize, kind: Kind) {
     at_line(told, name, line);
     words(told, b"'");
     setting(told, kind);
-    if kind == 1 {
+    if kind == Kind::Version {
         words(told, b" 1' before any other setting\n");
         return;
     }
@@ -110,17 +111,14 @@ fn expected_setting(told: &Target, name: &[u8], line: usize, kind: usize) {
     words(told, b"\n");
 }
 
-// Whether a text has no fault; else an error after the answer that says what is wrong.
-fn faultless(told: &Target, name: &[u8], text: &[u8], fault: Fault) -> Result<(), Answered> {
-    if fault.kind == 0 {
-        return Ok(());
+// The answer on a line that is not as it should be.
+fn say_fault(told: &Target, name: &[u8], text: &[u8], fault: Fault) -> Answered {
+    let place = fault.place;
+    match fault.expected {
+        Expected::Name => say_unknown(told, name, text, place.at, place.line),
+        Expected::Setting(kind) => expected_setting(told, name, place.line, kind),
     }
-    if fault.kind == 24 {
-        say_unknown(told, name, text, fault.at, fault.line);
-    } else {
-        expected_setting(told, name, fault.line, fault.kind);
-    }
-    Err(Answered)
+    Answered
 }
 
 // A text into the lists; an error after the answer that says what is wrong.
@@ -128,8 +126,10 @@ pub fn take(told: &Target, name: &[u8], text: &[u8], s: &mut Settings<'_>) -> Re
     ensures lent { Lent s.old s.new }
     ensures kept { Kept (lent s.old).lists (lent s.new).lists }
 {
-    let fault = parse(text, s);
-    faultless(told, name, text, fault)
+    match parse(text, s) {
+        Ok(_) => Ok(()),
+        Err(fault) => Err(say_fault(told, name, text, fault)),
+    }
 }
 
 // The front of a text to where it is to stand; how long it is.

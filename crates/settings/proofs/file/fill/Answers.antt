@@ -1,21 +1,16 @@
 -- `fill` is put together from what its callees say. Assumes nothing.
-use Rattle.settings.proofs.Settling.{fill_bad, fill_good}
+use mathlib.Core.Path.{refl}
+use Rattle.std.proofs.lemmas.Result.{err_from_is_err_and}
+use Rattle.settings.proofs.Settling.{expected_some, fill_bad, fill_good}
 use Rattle.settings.proofs.file.fill.Goals as goal
 
-pub returns-then-k-ne0 : goal.returns-then-k-ne0
-returns-then-k-ne0 c =
+pub returns-in_err-verdict-clause-result_after : goal.returns-in_err-verdict-clause-result_after
+returns-in_err-verdict-clause-result_after c =
     let e = c.take-t.ensures in
-    record {
-      lent = record { numbers = e.lent.numbers; shorts = e.lent.shorts; steps = e.lent.steps; flags = e.lent.flags; offsets = e.lent.offsets; places = e.lent.places };
-      kept = record { numbers = e.kept.numbers; shorts = e.kept.shorts; steps = e.kept.steps; flags = e.kept.flags; offsets = e.kept.offsets };
-      result_after = fill_bad _ _ _ _ _ _ _ _ _ _ c.rule_of-rule.ensures c.start-from.ensures e.result_after c.verdict-k.ensures _ e.places_unchanged c.if-k-ne0.true;
-    }
+    let p = err_from_is_err_and c.from_residual.result c.from_residual.ensures.1 in
+    rw (p.1, p.2) (fill_bad _ _ _ _ _ _ _ _ _ _ _ c.from-k.ensures c.rule_of-rule.ensures c.start-from.ensures e.result_after c.in_err-verdict.ensures _ e.places_unchanged (expected_some _))
 
-pub returns : goal.returns
-returns c =
+pub returns-clause-result_after : goal.returns-clause-result_after
+returns-clause-result_after c =
     let e = c.take-t.ensures in
-    record {
-      lent = record { numbers = e.lent.numbers; shorts = e.lent.shorts; steps = e.lent.steps; flags = e.lent.flags; offsets = e.lent.offsets; places = e.lent.places };
-      kept = record { numbers = e.kept.numbers; shorts = e.kept.shorts; steps = e.kept.steps; flags = e.kept.flags; offsets = e.kept.offsets };
-      result_after = fill_good _ _ _ _ _ _ _ _ _ _ c.rule_of-rule.ensures c.start-from.ensures e.result_after c.verdict-k.ensures _ e.places_unchanged c.if-k-ne0.false;
-    }
+    fill_good _ _ _ _ _ _ _ _ _ _ _ c.from-k.ensures c.rule_of-rule.ensures c.start-from.ensures e.result_after c.in_ok-verdict.ensures _ e.places_unchanged refl
