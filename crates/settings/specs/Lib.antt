@@ -5,4 +5,5 @@ pub mod Rules
 pub mod Values
 pub mod Lines
 pub mod Text
+pub mod Walked
 pub mod Numbered

@@ -8,9 +8,10 @@ ghost use Rattle.settings.specs.Text.{alone_of, missing_of, found, parse_of};
 use crate::kinds::{Expected, Kind};
 use crate::names::{Destination, kind, rule_of};
 use crate::values::{Taken, put};
+use crate::walk::Walk;
 use laws::split;
 use text::Cursor;
-use text::place::{content_end, line_end, spaces};
+use text::place::spaces;
 use text::spell::read_word;
 
 // A line, counted from 1, and the place where it starts.
@@ -262,16 +263,10 @@ pub fn parse(text: &[u8], s: &mut Settings<'_>) -> Result<Place, Fault>
     ensures kept { Kept (lent s.old).lists (lent s.new).lists }
     ensures result_after { record { state = lent s.new; fault = found result } ≡ parse_of text.now (lent s.old) }
 {
-    let n = text.len();
-    let mut at: usize = 0;
-    let mut l: usize = 1;
-    while at < n {
-        let end = line_end(text, at, n);
-        let stop = content_end(text, at, end);
-        let k = line(text, at, stop, s);
-        placed(k, l, at)?;
-        at = end + 1;
-        l += 1;
+    let mut walk = Walk::new();
+    while let Some(here) = walk.next(text) {
+        let told = line(text, here.at, here.stop, s);
+        placed(told, here.number, here.at)?;
     }
-    placed(missing(s), l, at)
+    placed(missing(s), walk.number, walk.at)
 }

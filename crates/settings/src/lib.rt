@@ -10,6 +10,9 @@ pub mod names;
 // The numbers of one line.
 mod values;
 
+// From line to line.
+mod walk;
+
 // One line, and the whole text.
 pub mod file;
 

@@ -5,8 +5,9 @@ ghost use Rattle.settings.specs.Numbered.{kind_to, lines_of, numbers_to, line_or
 
 use crate::kinds::Kind;
 use crate::names::kind;
+use crate::walk::Walk;
 use text::count::count;
-use text::place::{content_end, line_end, spaces};
+use text::place::spaces;
 use text::spell::read_word;
 
 // The kind of a line that says something up to a place.
@@ -33,16 +34,10 @@ fn entry(kind: Option<Kind>) -> usize
 pub fn lines_of(text: &[u8], lines: &mut [usize; 24])
     ensures { lines.new ≡ lines_of text.now lines.old }
 {
-    let n = text.len();
-    let mut at: usize = 0;
-    let mut l: usize = 1;
-    while at < n {
-        let newline = line_end(text, at, n);
-        let stop = content_end(text, at, newline);
-        let k = entry(kind_of(text, at, stop));
-        lines[k] = l;
-        at = newline + 1;
-        l += 1;
+    let mut walk = Walk::new();
+    while let Some(here) = walk.next(text) {
+        let k = entry(kind_of(text, here.at, here.stop));
+        lines[k] = here.number;
     }
 }
 
@@ -61,20 +56,14 @@ fn numbers_in(text: &[u8], from: usize, stop: usize, kind: Kind) -> usize
 pub fn line_with(text: &[u8], kind: Kind, number: usize) -> Option<usize>
     ensures { result ≡ line_or_none (line_with text.now (number_of kind) number) }
 {
-    let n = text.len();
-    let mut at: usize = 0;
-    let mut l: usize = 1;
     let mut left = number;
-    while at < n {
-        let newline = line_end(text, at, n);
-        let stop = content_end(text, at, newline);
-        let k = numbers_in(text, at, stop, kind);
+    let mut walk = Walk::new();
+    while let Some(here) = walk.next(text) {
+        let k = numbers_in(text, here.at, here.stop, kind);
         if left < k {
-            return Some(l);
+            return Some(here.number);
         }
         left -= k;
-        at = newline + 1;
-        l += 1;
     }
     None
 }

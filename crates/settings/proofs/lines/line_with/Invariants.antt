@@ -6,8 +6,12 @@ use Prim.Native.Nat.{◌+◌, ◌-◌, ◌≤◌}
 use lib.ListN.{length}
 use Rattle.settings.proofs.lines.line_with.Given as goal
 
-abbrev pub invariant-loop-at : goal.invariant-loop-at
-invariant-loop-at l = (l.n ≡ length l.text) × (l.at ≤ l.n + 1) × (l.l ≤ l.at + 1) × (1 ≤ l.l) × (holding l.text (number_of l.kind) (l.n + 1 - l.l) l.at l.l l.left ≡ holding l.text (number_of l.kind) (l.n + 1 - l.initial.l) l.initial.at l.initial.l l.initial.left)
+abbrev pub invariant-loop-here : goal.invariant-loop-here
+invariant-loop-here l =
+    (l.walk.at ≤ length l.text + 1)
+    × (l.walk.number ≤ l.walk.at + 1)
+    × (1 ≤ l.walk.number)
+    × (holding l.text (number_of l.kind) (length l.text + 1 - l.walk.number) l.walk.at l.walk.number l.left ≡ holding l.text (number_of l.kind) (length l.text + 1 - 1) 0 1 l.initial.left)
 
-abbrev pub decreases-loop-at : goal.decreases-loop-at
-decreases-loop-at l = l.n + 1 - l.at
+abbrev pub decreases-loop-here : goal.decreases-loop-here
+decreases-loop-here l = length l.text + 1 - l.walk.at
