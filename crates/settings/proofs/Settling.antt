@@ -11,6 +11,7 @@ use lib.Dec.{eqb, leb, ltb}
 use mir.Syntax.{w32}
 use mir.Val.{SFits, to_z, of_z}
 use mir.Facts.{to_z-of_z}
+use Rattle.std.specs.Prelude.{Option}
 use Rattle.laws.specs.Choose.{pick, pick_yes, both, either, true_not_false}
 use Rattle.laws.specs.Whole.{over, under}
 use Rattle.text.specs.declared.spell.Word.{Word}
@@ -319,7 +320,7 @@ soon_asked kind first h = rw (not_number kind Version h)
 
 -- ---- the verdict
 
-module _ (t : Taken) (from each kind : ℕ) (numbers : List ℤ) (w : Bool) (asked : w ≡ whole_of t from each) where
+module _ (t : Taken) (from : ℕ) (each : Option ℕ) (kind : ℕ) (numbers : List ℤ) (w : Bool) (asked : w ≡ whole_of t from each) where
   pub verdict_cut : w ≡ false → kind ≡ verdict_of t from each kind numbers
   unfolding verdict_of pick
   verdict_cut h = rw (← asked, h)

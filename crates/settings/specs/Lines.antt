@@ -1,5 +1,5 @@
 -- What one line of a settings text says: the lists after it, and whether it is as it should be. Assumes nothing.
-use Rattle.std.specs.Prelude.{ℕ, ◌-◌, ◌≡◌, List, [], ◌∷◌, Bool, true, false, not, length, get_or, set, ℤ, pos, negsuc, eqb, leb, ltb}
+use Rattle.std.specs.Prelude.{ℕ, Option, None, Some, ◌-◌, ◌≡◌, List, [], ◌∷◌, Bool, true, false, not, length, get_or, set, ℤ, pos, negsuc, eqb, leb, ltb}
 use Rattle.laws.specs.Choose.{pick, both, all}
 use Rattle.text.specs.declared.spell.Word.{Word}
 use Rattle.text.specs.Places.{seek, ink_at}
@@ -96,14 +96,14 @@ start_of Flags from place = place
 start_of Offsets from place = place
 start_of Tiles from place = from
 
--- every number was there, the line was read to its end, and it had as many as it should; 0 stands for any, but at least one
-unfoldable pub whole_of : Taken → ℕ → ℕ → Bool
-whole_of t from each =
-    all
-    (t.rest.good
-    ∷ leb t.rest.end t.rest.at
-    ∷ pick (eqb each 0) (ltb 0 (t.at - from)) (eqb (t.at - from) each)
-    ∷ [])
+-- as many numbers as a line of the kind should have, or at least one where that is not settled
+unfoldable pub count_right : Option ℕ → ℕ → Bool
+count_right None n = ltb 0 n
+count_right (Some each) n = eqb n each
+
+-- every number was there, the line was read to its end, and it had as many as it should
+unfoldable pub whole_of : Taken → ℕ → Option ℕ → Bool
+whole_of t from each = all (t.rest.good ∷ leb t.rest.end t.rest.at ∷ count_right each (t.at - from) ∷ [])
 
 unfoldable pub is_one : ℤ → Bool
 is_one (pos n) = eqb n 1
@@ -122,7 +122,7 @@ unfoldable pub flag_bad : ℕ → List ℤ → Bool
 flag_bad kind numbers = both (eqb kind 11) (not (is_flag (get_or numbers 7 (pos 0))))
 
 -- 0, or the kind that was expected
-unfoldable pub verdict_of : Taken → ℕ → ℕ → ℕ → List ℤ → ℕ
+unfoldable pub verdict_of : Taken → ℕ → Option ℕ → ℕ → List ℤ → ℕ
 verdict_of t from each kind numbers =
     pick (whole_of t from each) (pick (version_bad kind numbers) 1 (pick (flag_bad kind numbers) 11 0)) kind
 
@@ -139,7 +139,7 @@ settled kind places t answer =
     record { state = record { lists = t.lists; places = pick (eqb answer 0) (set places kind t.left.at) places }; answer = answer }
 
 -- the numbers of a line of a kind, where they start and how they are judged
-unfoldable pub judged : ℕ → ℕ → ℕ → List ℕ → Filled → Said
+unfoldable pub judged : ℕ → ℕ → Option ℕ → List ℕ → Filled → Said
 judged kind from each places t = settled kind places t (verdict_of t.left from each kind t.lists.numbers)
 
 -- they go where the kind's rule says

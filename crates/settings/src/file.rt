@@ -2,7 +2,7 @@
 ghost use Rattle.std.specs.Prelude.{◌≡◌, ◌≤◌, length, get_or, not, pos};
 ghost use Rattle.laws.specs.Choose.{either};
 ghost use Rattle.settings.specs.Kinds.{number_of, answer_of};
-ghost use Rattle.settings.specs.Lines.{Kept, Lent, lent, take_of, start_of, whole_of, is_one, version_bad, is_flag, flag_bad, verdict_of, fill_of, too_soon, setting_of, line_of};
+ghost use Rattle.settings.specs.Lines.{Kept, Lent, lent, take_of, start_of, count_right, whole_of, is_one, version_bad, is_flag, flag_bad, verdict_of, fill_of, too_soon, setting_of, line_of};
 ghost use Rattle.settings.specs.Text.{alone_of, missing_of, found, parse_of};
 
 use crate::kinds::{Expected, Kind};
@@ -75,8 +75,18 @@ fn start(list: Destination, from: usize, place: usize) -> usize
     }
 }
 
+// Whether there are as many numbers as a line should have, or any where that is not settled.
+fn count_right(each: Option<usize>, n: usize) -> bool
+    ensures { result ≡ count_right each n }
+{
+    match each {
+        Some(each) => n == each,
+        None => 0 < n,
+    }
+}
+
 // Whether the line was read to its end and had as many numbers as it should.
-fn whole(t: Taken, from: usize, each: usize) -> bool
+fn whole(t: Taken, from: usize, each: Option<usize>) -> bool
     requires { from ≤ t.at }
     ensures { result ≡ whole_of t from each }
 {
@@ -87,11 +97,7 @@ fn whole(t: Taken, from: usize, each: usize) -> bool
     if rest.at < rest.end {
         return false;
     }
-    let n = t.at - from;
-    if each == 0 {
-        return 0 < n;
-    }
-    n == each
+    count_right(each, t.at - from)
 }
 
 // Whether the first number is not the version of this form of settings.
@@ -127,7 +133,13 @@ fn number_bad(kind: Kind, s: &Settings<'_>) -> bool
 }
 
 // What is to be said of a line's numbers.
-fn verdict(t: Taken, from: usize, each: usize, kind: Kind, s: &Settings<'_>) -> Result<(), Expected>
+fn verdict(
+    t: Taken,
+    from: usize,
+    each: Option<usize>,
+    kind: Kind,
+    s: &Settings<'_>,
+) -> Result<(), Expected>
     requires { from ≤ t.at }
     ensures { answer_of result ≡ verdict_of t from each (number_of kind) s.now.numbers.now }
 {

@@ -17,16 +17,16 @@ pub enum Destination {
     Tiles,
 }
 
-// Which list the numbers go to, the first place there and the one after the last, and how many numbers a line has, 0 for any.
+// Which list the numbers go to, the first place there and the one after the last, and how many numbers a line has where that is settled.
 #[derive(Clone, Copy)]
 pub struct Rule {
     pub list: Destination,
     pub from: usize,
     pub end: usize,
-    pub each: usize,
+    pub each: Option<usize>,
 }
 
-// The kind of a name, by the number of its bytes: a word is read as that number.
+// The kind of a name. By numbers: `read_word` gives a word as one number of its bytes, and docs/ENTRIES.md says so of it.
 pub fn kind(name: usize) -> Option<Kind>
     ensures { (number_or_none result ≡ kind_of name) × (number_or_none result ≤ 23) }
 {
@@ -82,7 +82,7 @@ pub fn kind(name: usize) -> Option<Kind>
 }
 
 // A rule by its four values.
-fn put(list: Destination, from: usize, end: usize, each: usize) -> Rule
+fn put(list: Destination, from: usize, end: usize, each: Option<usize>) -> Rule
     ensures { result ≡ record { list = list; from = from; end = end; each = each } }
 {
     Rule {
@@ -114,29 +114,29 @@ fn rule_for(kind: Kind, n: usize) -> Rule
     let chromatiles = tiles + 1023;
     let keeps = chromatiles + 1023;
     match kind {
-        Kind::Version => put(Destination::Numbers, 0, 1, 1),
-        Kind::Qindex => put(Destination::Shorts, 0, 4096, 0),
-        Kind::Steps => put(Destination::Steps, 0, 352, 0),
-        Kind::Leaf => put(Destination::Shorts, 4096, chroma, 4),
-        Kind::LeafUv => put(Destination::Shorts, chroma, skips, 4),
-        Kind::Skip => put(Destination::Shorts, skips, tiles, 4),
-        Kind::DeltaY => put(Destination::Numbers, 1, 2, 1),
-        Kind::DeltaUv => put(Destination::Numbers, 2, 3, 1),
-        Kind::CapY => put(Destination::Numbers, 3, 5, 2),
-        Kind::CapUv => put(Destination::Numbers, 5, 7, 2),
-        Kind::Chroma => put(Destination::Numbers, 7, 8, 1),
-        Kind::CcsoY => put(Destination::Numbers, 16, 27, 11),
-        Kind::CcsoU => put(Destination::Numbers, 32, 43, 11),
-        Kind::CcsoV => put(Destination::Numbers, 48, 59, 11),
-        Kind::FlagsY => put(Destination::Flags, 0, 4096, 0),
-        Kind::FlagsU => put(Destination::Flags, 4096, 8192, 0),
-        Kind::FlagsV => put(Destination::Flags, 8192, 12288, 0),
-        Kind::OffsetY => put(Destination::Offsets, 0, 128, 0),
-        Kind::OffsetU => put(Destination::Offsets, 128, 256, 0),
-        Kind::OffsetV => put(Destination::Offsets, 256, 384, 0),
-        Kind::TilesY => put(Destination::Tiles, tiles, chromatiles, 0),
-        Kind::TilesUv => put(Destination::Tiles, chromatiles, keeps, 0),
-        Kind::Keep => put(Destination::Shorts, keeps, keeps + 16384, 4),
+        Kind::Version => put(Destination::Numbers, 0, 1, Some(1)),
+        Kind::Qindex => put(Destination::Shorts, 0, 4096, None),
+        Kind::Steps => put(Destination::Steps, 0, 352, None),
+        Kind::Leaf => put(Destination::Shorts, 4096, chroma, Some(4)),
+        Kind::LeafUv => put(Destination::Shorts, chroma, skips, Some(4)),
+        Kind::Skip => put(Destination::Shorts, skips, tiles, Some(4)),
+        Kind::DeltaY => put(Destination::Numbers, 1, 2, Some(1)),
+        Kind::DeltaUv => put(Destination::Numbers, 2, 3, Some(1)),
+        Kind::CapY => put(Destination::Numbers, 3, 5, Some(2)),
+        Kind::CapUv => put(Destination::Numbers, 5, 7, Some(2)),
+        Kind::Chroma => put(Destination::Numbers, 7, 8, Some(1)),
+        Kind::CcsoY => put(Destination::Numbers, 16, 27, Some(11)),
+        Kind::CcsoU => put(Destination::Numbers, 32, 43, Some(11)),
+        Kind::CcsoV => put(Destination::Numbers, 48, 59, Some(11)),
+        Kind::FlagsY => put(Destination::Flags, 0, 4096, None),
+        Kind::FlagsU => put(Destination::Flags, 4096, 8192, None),
+        Kind::FlagsV => put(Destination::Flags, 8192, 12288, None),
+        Kind::OffsetY => put(Destination::Offsets, 0, 128, None),
+        Kind::OffsetU => put(Destination::Offsets, 128, 256, None),
+        Kind::OffsetV => put(Destination::Offsets, 256, 384, None),
+        Kind::TilesY => put(Destination::Tiles, tiles, chromatiles, None),
+        Kind::TilesUv => put(Destination::Tiles, chromatiles, keeps, None),
+        Kind::Keep => put(Destination::Shorts, keeps, keeps + 16384, Some(4)),
     }
 }
 
@@ -146,7 +146,7 @@ pub fn rule_of(kind: Option<Kind>, n: usize) -> Rule
 {
     match kind {
         Some(kind) => rule_for(kind, n),
-        None => put(Destination::Numbers, 0, 0, 0),
+        None => put(Destination::Numbers, 0, 0, None),
     }
 }
 

@@ -123,7 +123,7 @@ fn more(c: Cursor) -> bool
     c.good && c.at < c.end
 }
 
-// An offset below zero; what is below -10 is none, and stands as the lowest number.
+// An offset below zero. What is below -10 is none, and stands as the lowest number, as `below_of` says of the lent list.
 fn below(size: usize) -> i8
     ensures { result ≡ below_of size }
 {

@@ -38,10 +38,11 @@ impl Walk {
             return None;
         }
         let end = line_end(text, at, n);
+        let stop = content_end(text, at, end);
         let line = Line {
             number: self.number,
             at,
-            stop: content_end(text, at, end),
+            stop,
         };
         self.at = end + 1;
         self.number += 1;

@@ -8,7 +8,7 @@ use crate::format::{Layout, named};
 use text::Cursor;
 use text::spell::read_word;
 
-// What a header line says; a size of 0 is missing, bad or above 4096.
+// What a header line says. A size of 0 is missing, bad or above 4096, as `header_of` says of `read_header` (docs/ENTRIES.md).
 #[derive(Clone, Copy)]
 pub struct Header {
     pub opens: bool,

@@ -20,8 +20,7 @@ pub loop-here-preserved : goal.loop-here-preserved
 loop-here-preserved c =
     let i = c.loop-here.invariant in
     let t = c.in-Some.ensures in
-    let e = c.line-told.ensures in
-    (
+    let e = c.line-told.ensures in (
       t.inside,
       omega (arith, i.1, t.count, t.forward),
       lent_then i.2 e.lent,

@@ -11,10 +11,6 @@ pub returns-then-rest : goal.returns-then-rest
 unfolding whole_of
 returns-then-rest c = search tests
 
-pub returns-then-each-eq0 : goal.returns-then-each-eq0
-unfolding whole_of
-returns-then-each-eq0 c = search tests
-
 pub returns : goal.returns
 unfolding whole_of
 returns c = search tests

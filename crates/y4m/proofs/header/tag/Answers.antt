@@ -1,6 +1,5 @@
 -- `tag` walks to the first such letter. Assumes nothing.
 use borrow.Author.Rules.{rules}
-use mathlib.Core.Path.{sym, ◌∙◌}
 use Rattle.y4m.proofs.Heading.{tagging as needs, tag_over}
 use Rattle.y4m.proofs.header.tag.Goals as goal
 

@@ -7,7 +7,7 @@ use Rattle.settings.proofs.walk.Walk.next.Goals as goal
 pub returns : goal.returns
 returns c =
     let a = c.line_end-end.ensures in
-    let b = c.content_end.ensures in
+    let b = c.content_end-stop.ensures in
     record {
       here = c.if-n-at.false;
       number = refl;
