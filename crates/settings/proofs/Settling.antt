@@ -171,7 +171,7 @@ unfolding is_one
 version_none [] e = refl
 version_none (z ∷ zs) e = absurd (omega arith)
 
--- as `split` gave it
+-- as `Gap::from` gave it
 pub version_some : (up : ℕ) (numbers : List ℤ) → SFits w32 (get_or numbers 0 (pos 0)) → up ≡ over (to_z w32 (of_z w32 (get_or numbers 0 (pos 0))))
     → not (eqb up 1) ≡ not (is_one (get_or numbers 0 (pos 0)))
 version_some up numbers f e = rw (e, to_z-of_z f, one_is (get_or numbers 0 (pos 0)))
@@ -192,7 +192,7 @@ pub flag_none : (numbers : List ℤ) → length numbers < 8 → false ≡ not (i
 unfolding is_flag
 flag_none numbers h = rw (get_or-eq_default numbers (pos 0) {n = 7} (omega arith))
 
--- as `split` gave it
+-- as `Gap::from` gave it
 module _ (numbers : List ℤ) (down up : ℕ) (f : SFits w32 (get_or numbers 7 (pos 0)))
     (e : (up ≡ over (to_z w32 (of_z w32 (get_or numbers 7 (pos 0))))) × (down ≡ under (to_z w32 (of_z w32 (get_or numbers 7 (pos 0)))))) where
   below_is : down ≡ under (get_or numbers 7 (pos 0))

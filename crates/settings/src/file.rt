@@ -9,7 +9,7 @@ use crate::kinds::{Expected, Kind};
 use crate::names::{Destination, kind, rule_of};
 use crate::values::{Taken, put};
 use crate::walk::Walk;
-use laws::split;
+use laws::Gap;
 use text::Cursor;
 use text::place::spaces;
 use text::spell::read_word;
@@ -107,7 +107,7 @@ fn version_bad(numbers: &[i32]) -> bool
     if numbers.len() == 0 {
         return true;
     }
-    split(numbers[0]).up != 1
+    Gap::from(numbers[0]).up != 1
 }
 
 // Whether chroma's flag is neither 0 nor 1.
@@ -117,7 +117,7 @@ fn flag_bad(numbers: &[i32]) -> bool
     if numbers.len() < 8 {
         return false;
     }
-    let flag = split(numbers[7]);
+    let flag = Gap::from(numbers[7]);
     flag.down != 0 || 1 < flag.up
 }
 

@@ -7,4 +7,4 @@ pub returns-then-numbers-eq0 : goal.returns-then-numbers-eq0
 returns-then-numbers-eq0 c = version_none c.args.numbers.now (search rules)
 
 pub returns : goal.returns
-returns c = version_some _ c.args.numbers.now (search rules) c.split.ensures.0
+returns c = version_some _ c.args.numbers.now (search rules) c.from.ensures.0
