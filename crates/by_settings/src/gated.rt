@@ -5,11 +5,11 @@ ghost use Rattle.by_settings.specs.Rooms.{ccso_kind};
 ghost use Rattle.by_settings.specs.Offsets.{OffsetsLong, asked, wanted, PlaneOffset, PlanesOffset};
 
 use crate::filters::ccso_of;
-use crate::kinds::CCSO_Y;
 use crate::rooms::{EACH, FLAGS, OFFSETS};
 use ccso::apply::apply_edge_gated;
 use rules::refusals::Refusal;
 use rules::settings::Frame;
+use settings::kinds::Kind;
 
 // The plane that was refused, and the answer.
 #[derive(Clone, Copy)]
@@ -23,7 +23,7 @@ fn wants(f: Frame, places: &[usize], p: usize) -> bool
     requires { (p ≤ 2) × (ccso_kind 2 + 1 ≤ length places.now) }
     ensures { result ≡ wanted f places.now p }
 {
-    if places[CCSO_Y + p] <= EACH + EACH * p {
+    if places[Kind::CcsoY as usize + p] <= EACH + EACH * p {
         return false;
     }
     if p == 0 {
