@@ -57,11 +57,11 @@ refusal_place f n ts p Filled = place_in in_frame 0 0
 refusal_place f n ts p Spent = place_in in_frame 0 0
 
 -- the answer without its place
-abbrev pub answer_in : Result Counts Err → Result Counts Refusal
+abbrev pub answer_in : Result Counts Refused → Result Counts Refusal
 answer_in (Ok n) = Ok n
 answer_in (Err x) = Err x.refusal
 
 -- the counts, or the refusal with its place, and the planes afterwards
-pub record DeblockedAt (f : Frame) (n : Given) (t : Starts) (k : Keeps) (lent : Planes) (o : Result Counts Err) (left : Planes) : Type 0 where
+pub record DeblockedAt (f : Frame) (n : Given) (t : Starts) (k : Keeps) (lent : Planes) (o : Result Counts Refused) (left : Planes) : Type 0 where
   pub deblocked : Deblocked f n t k lent (answer_in o) left
   pub place : IfErr o (λ x. x.place ≡ refusal_place f n t.luma lent x.refusal)
