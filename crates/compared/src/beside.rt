@@ -6,6 +6,7 @@ use replay::{count, entry};
 use rules::edge::Edge;
 
 // Equal records of so many edges; both edges of the first entry that differs, with its number; or the first edge of the longer record that the other lacks.
+// An enum of its own: none of its four cases is a failure.
 #[derive(Drop)]
 pub enum Difference {
     Equal(usize),

@@ -79,7 +79,7 @@ pub fn read_row(from: &Source, bytes: &mut [u8], n: usize, more: bool) -> usize
     read_full(from, &mut bytes[..n])
 }
 
-// One row of a plane from the buffer; false where the plane has no such row.
+// One row of a plane from the buffer; false where the plane has no such row. A flag alone: nothing failed and nothing comes with it.
 pub fn put_row(bytes: &[u8], plane: &mut [u16], at: usize, s: Shape, wide: bool) -> bool
     requires { ShapeFits s × (at ≤ 16777216) }
     ensures value { result ≡ leb (at + s.stride) (length plane.old) }

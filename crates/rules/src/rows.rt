@@ -9,6 +9,7 @@ pub struct RowState {
 }
 
 // A call's answer, how many samples it stored, how many of those differ from before, the state for the next call, and how many rows from the top are final.
+// No `Result`: a refusal has a state for the next call too.
 #[derive(Clone, Copy)]
 pub struct RowsAnswer {
     pub answer: Result<(), Refusal>,

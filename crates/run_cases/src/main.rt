@@ -61,7 +61,7 @@ impl Part {
     }
 }
 
-// What is counted so far, the part whose cases these are, none before the first, and the step table, of which the front stands.
+// What is counted so far, the part whose cases these are, none before the first, and the step table, of which the front stands: its length beside it, since no program here has a heap.
 #[derive(Clone, Copy)]
 struct Run {
     tally: Tally,

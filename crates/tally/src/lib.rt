@@ -19,6 +19,7 @@ pub struct Tally {
 }
 
 // How a case came out: the refusal's number that the stream gives it, 0 for none; whether its answer and its lists were the stream's; the width of an accepted segment.
+// The number stays one: it is the stream's own, and `case_more` counts by it.
 #[derive(Clone, Copy)]
 pub struct Outcome {
     pub number: usize,
@@ -164,6 +165,7 @@ impl fmt::Display for Tally {
     fn fmt<W: fmt::Write>(&self, f: &mut fmt::Formatter<W>) -> fmt::Result {
         let n = &self.numbers;
         write!(f, "accepted {}, refused by 1: {}", n[0], n[1])?;
+        // by index, since the first two are printed otherwise and a ticket's only where there are any
         for k in 2..21 {
             if k < 10 || n[k] != 0 {
                 write!(f, ", by {k}: {}", n[k])?;
@@ -182,6 +184,7 @@ pub struct Widths {
 impl fmt::Display for Widths {
     fn fmt<W: fmt::Write>(&self, f: &mut fmt::Formatter<W>) -> fmt::Result {
         write!(f, "width 0: {}", self.counts[0])?;
+        // by index, since the first is printed otherwise
         for k in 1..9 {
             write!(f, ", {k}: {}", self.counts[k])?;
         }
