@@ -2,7 +2,7 @@
 use Rattle.replay_picture.proofs.frame.run_plane.Goals as goal
 
 pub returns-in-Err : goal.returns-in-Err
-returns-in-Err c = c.replay_plane-answer.ensures.plane
+returns-in-Err c = c.replay_plane-a.ensures.plane
 
 pub returns : goal.returns
-returns c = c.replay_plane-answer.ensures.plane
+returns c = c.replay_plane-a.ensures.plane
