@@ -2,7 +2,7 @@
 #![tactic(auto)]
 
 use cases::{Line, Stream};
-use std::io::Write;
+use std::io::{Read, Write};
 use tally::{Outcome, Tally, Widths};
 
 // The parts of a stream, by whose cases they are.
@@ -128,15 +128,9 @@ impl Run {
     }
 }
 
-// The buffer: the longest line that a stream may have.
-fn room() -> [u8; 4194304] {
-    [0; 4194304]
-}
-
-fn main(rt: HostRuntime) {
-    let mut to = rt.stdout();
-    let mut buf = room();
-    let mut lines = Stream::new(rt.stdin(), &mut buf);
+// Every line of a stream, read into a buffer.
+fn replay_all<R: Read + Drop, W: Write>(from: R, to: &mut W, buf: &mut [u8]) {
+    let mut lines = Stream::new(from, buf);
     let mut run = Run {
         tally: Tally::new(),
         part: None,
@@ -147,7 +141,18 @@ fn main(rt: HostRuntime) {
         let Ok(line) = lines.next_line() else {
             break;
         };
-        run.line(&mut to, line);
+        run.line(to, line);
     }
-    run.print(&mut to);
+    run.print(to);
+}
+
+// The buffer: the longest line that a stream may have.
+fn room() -> [u8; 4194304] {
+    [0; 4194304]
+}
+
+// Holds the buffer alone, since the stack has room for two as large and for little more.
+fn main(rt: HostRuntime) {
+    let mut buf = room();
+    replay_all(rt.stdin(), &mut rt.stdout(), &mut buf);
 }
