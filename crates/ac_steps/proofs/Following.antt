@@ -1,10 +1,10 @@
 -- The published AC steps entry by entry: how each follows from those before it, and that all are small.
 -- Assumes nothing.
 use mathlib.Core.Path.{◌≡◌, refl, sym, ap, ◌∙◌}
-use mathlib.Core.Bool.{Bool, true, false, ◌&&◌}
+use mathlib.Core.Bool.{Bool, true, ◌&&◌}
 use mathlib.Core.List.{List, [], ◌∷◌}
 use Prim.Native.Nat.{ℕ, zero, suc, ◌+◌, ◌-◌, ◌*◌, ◌/◌, ◌%◌, ◌^◌, ◌≤◌, ◌<◌, min, zero-le}
-use native.Mathlib.Nat.{le_trans, mul-le-mul, pow-le-pow_right, pow-succ', mul-one, mul_left_comm}
+use native.Mathlib.Nat.{mul-le-mul, pow-le-pow_right, pow-succ', mul-one, mul_left_comm}
 use native.Mathlib.Omega.{arith}
 use lib.Dec.{T, leb, eqb, leb→le, lit≤}
 use lib.ListN.{length, get_or, set}

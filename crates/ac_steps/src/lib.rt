@@ -15,13 +15,11 @@ fn next_step(t: &[u32], i: usize) -> u32
     requires { (i < 352) × (352 ≤ length t.now) × StepsTo i t.now }
     ensures { result ≡ step_at i }
 {
-    if i < 25 {
-        return FIRST[i];
+    match i {
+        0..=24 => FIRST[i],
+        25..=255 => 2 * t[i - 24],
+        _ => t[i - 1],
     }
-    if 255 < i {
-        return t[i - 1];
-    }
-    2 * t[i - 24]
 }
 
 // Puts the table at the front of a list.
@@ -29,10 +27,9 @@ pub fn put_steps(list: &mut [u32])
     requires { 352 ≤ length list.old }
     ensures { list.new ≡ tabled list.old }
 {
-    let mut i: usize = 0;
-    while i < 352 {
+    // By index: an entry is made from entries before it in the same list.
+    for i in 0..352 {
         list[i] = next_step(list, i);
-        i += 1;
     }
 }
 

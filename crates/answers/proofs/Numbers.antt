@@ -14,11 +14,12 @@ use Rattle.laws.proofs.Operations.{differ}
 use Rattle.laws.specs.Machine.{back}
 use Rattle.rules.specs.declared.refusals.Refusal.{Refusal}
 use Rattle.rules.specs.declared.refusals.Refusal.TheVariants.{Length}
-use Rattle.rules.specs.declared.refusals.Answer.{Answer}
-use Rattle.rules.specs.declared.refusals.Answer.TheVariants.{Accepted, Refused}
-use Rattle.rules.specs.declared.refusals.PlaneAnswer.{PlaneAnswer}
-use Rattle.rules.specs.declared.refusals.Recorded.{Recorded}
-use Rattle.rules.specs.declared.refusals.Recorded.TheVariants.{Bytes, Refused as «NoRecord»}
+use Rattle.rules.specs.Refusals.{Answer}
+use Rattle.std.specs.declared.result.Result.TheVariants.{Ok, Err}
+use Rattle.rules.specs.declared.counts.Counts.{Counts}
+use Rattle.rules.specs.declared.counts.Visited.{Visited}
+use Rattle.rules.specs.Refusals.{answered, length_told, counted, changed_in, stored_in}
+use Rattle.std.specs.declared.result.Result.{Result}
 use Rattle.rules.specs.Refusals.{number_of, place_refused, settle}
 use Rattle.rules.specs.Record.{answer_bytes}
 use Rattle.rules.specs.CSide.{c_answer}
@@ -64,11 +65,11 @@ module _ (r : Refusal) {n : ℕ} (e : n ≡ number_of r) where
   minus_is = held_minus _ r (taken_off n small ∙ ap (λ (k : ℕ). neg_ℤ (pos k)) e)
 
 -- the answer of a check
-pub answer_refused : (a : Answer) (n : ℕ) {r : Refusal} → Refused r ≡ a → neg_ℤ (pos (number_of r)) ≡ c_answer a n
+pub answer_refused : (a : Answer) (n : ℕ) {r : Refusal} → Err r ≡ a → neg_ℤ (pos (number_of r)) ≡ c_answer a n
 unfolding c_answer
 answer_refused a n e = rw (← e)
 
-pub answer_accepted : (a : Answer) (n : ℕ) {m : ℕ} → Accepted ≡ a → m ≡ n → pos m ≡ c_answer a n
+pub answer_accepted : (a : Answer) (n : ℕ) {m : ℕ} → Ok tt ≡ a → m ≡ n → pos m ≡ c_answer a n
 unfolding c_answer
 answer_accepted a n e f = rw (← e) (ap pos f)
 
@@ -91,18 +92,18 @@ tallied_last a b c d [] = refl
 tallied_last a b c d (x ∷ []) = refl
 tallied_last a b c d (x ∷ (y ∷ l)) = refl
 
-pub count_told : {a : Answer} (lent : List ℕ) {n : ℕ} {z : ℤ} → a ≡ Accepted → n < 2147483648 → z ≡ pos n → Counted a n lent (to_z w32 (of_z w32 z)) lent
+pub count_told : {a : Answer} (lent : List ℕ) {n : ℕ} {z : ℤ} → a ≡ Ok tt → n < 2147483648 → z ≡ pos n → Counted a n lent (to_z w32 (of_z w32 z)) lent
 unfolding c_answer placed
 count_told lent {n} {z} e h f = rw e (record { answer = held z n f h; place_is = refl })
 
-pub count_refused : {a : Answer} {r : Refusal} (lent : List ℕ) (n : ℕ) {z : ℤ} {k : ℕ} {place : List ℕ} → a ≡ Refused r → k ≡ place_refused r → place ≡ set lent 0 k → z ≡ neg_ℤ (pos (number_of r)) → Counted a n lent (to_z w32 (of_z w32 z)) place
+pub count_refused : {a : Answer} {r : Refusal} (lent : List ℕ) (n : ℕ) {z : ℤ} {k : ℕ} {place : List ℕ} → a ≡ Err r → k ≡ place_refused r → place ≡ set lent 0 k → z ≡ neg_ℤ (pos (number_of r)) → Counted a n lent (to_z w32 (of_z w32 z)) place
 unfolding c_answer placed
 count_refused {a} {r} lent n {z} e f g h = rw e (record { answer = held_minus z r h; place_is = g ∙ ap (λ (k : ℕ). set lent 0 k) f })
 
 held_answer : (z : ℤ) (a : Answer) (n : ℕ) → n < 2147483648 → z ≡ c_answer a n → to_z w32 (of_z w32 z) ≡ c_answer a n
 unfolding c_answer
-held_answer z Accepted n h e = held z n e h
-held_answer z (Refused r) n h e = held_minus z r e
+held_answer z (Ok tt) n h e = held z n e h
+held_answer z (Err r) n h e = held_minus z r e
 
 -- handed on by an export, whose check b gave the answer a with the count m
 pub counted_on : {a b : Answer} {m n : ℕ} {lent place : List ℕ} {z : ℤ} → a ≡ b → m ≡ n → m < 2147483648 → Counted a m lent z place → Counted b n lent (to_z w32 (of_z w32 z)) place
@@ -113,35 +114,49 @@ pub told_by : {a b : Answer} {lent place : List ℕ} {z : ℤ} → a ≡ b → T
 told_by e t = counted_on e refl (omega arith) t
 
 -- a refusal of the settings' own list, where the check's answer would be a count
-pub refused_by_holds : {b : Answer} (n : ℕ) {r : Refusal} {lent place : List ℕ} {z : ℤ} → Refused r ≡ b → Told (Refused r) lent z place → Counted b n lent (to_z w32 (of_z w32 z)) place
+pub refused_by_holds : {b : Answer} (n : ℕ) {r : Refusal} {lent place : List ℕ} {z : ℤ} → Err r ≡ b → Told (Err r) lent z place → Counted b n lent (to_z w32 (of_z w32 z)) place
 unfolding c_answer
 refused_by_holds n {r} {z = z} e t = rw (← e) (record { answer = held_minus z r t.answer; place_is = t.place_is })
 
+-- ---- an entry that filters, with its counts
+
+pub filter_counted : {a : Result Counts Refusal} (lent k : List ℕ) {n : Counts} {m : List ℕ} → a ≡ Ok n → m ≡ tallied n.stored n.changed k → Told (answered a) lent (pos 0) lent × (m ≡ tallied (stored_in a) (changed_in a) k)
+unfolding c_answer placed
+filter_counted lent k e f = rw e (record { answer = refl; place_is = refl }, f)
+
+pub none_counted : {a : Result Counts Refusal} {r : Refusal} (k : List ℕ) {p q m : List ℕ} {z : ℤ} → a ≡ Err r → Told (Err r) p z q × (m ≡ tallied 0 0 k) → Told (answered a) p (to_z w32 (of_z w32 z)) q × (m ≡ tallied (stored_in a) (changed_in a) k)
+none_counted k e t = rw e (told_by refl t.0, t.1)
+
 -- ---- a record's bytes
 
-pub bytes_told : {a : Recorded} (lent : List ℕ) {n : ℕ} {z : ℤ} → Few a → a ≡ Bytes n → z ≡ pos n → Counted (refusal_in a) (bytes_in a) lent (to_z w32 (of_z w32 z)) lent
-unfolding refusal_in bytes_in c_answer placed
-bytes_told lent {n} {z} few e h = let most = few n e in rw e (record { answer = held z n h (omega (arith, most)); place_is = refl })
+pub bytes_few : {a : Result Visited Refusal} {v : Visited} → Few (length_told a) → a ≡ Ok v → v.bytes < 2147483648
+bytes_few {v = v} few e = let most = few v.bytes (ap length_told e) in omega (arith, most)
 
-pub bytes_refused : {a : Recorded} {r : Refusal} (lent : List ℕ) {z : ℤ} {k : ℕ} {place : List ℕ} → a ≡ «NoRecord» r → k ≡ place_refused r → place ≡ set lent 0 k → z ≡ neg_ℤ (pos (number_of r)) → Counted (refusal_in a) (bytes_in a) lent (to_z w32 (of_z w32 z)) place
+pub bytes_told : {a : Result Visited Refusal} (lent k : List ℕ) {v : Visited} {m : List ℕ} {z : ℤ} → Few (length_told a) → a ≡ Ok v → m ≡ tallied v.stored v.changed k → z ≡ pos v.bytes
+    → Counted (refusal_in (length_told a)) (bytes_in (length_told a)) lent (to_z w32 (of_z w32 z)) lent × (m ≡ tallied (stored_in (counted a)) (changed_in (counted a)) k)
 unfolding refusal_in bytes_in c_answer placed
-bytes_refused {a} {r} lent {z} e f g h = rw e (record { answer = held_minus z r h; place_is = g ∙ ap (λ (k : ℕ). set lent 0 k) f })
+bytes_told lent k {v} {z = z} few e f h = let most = bytes_few few e in rw e (record { answer = held z v.bytes h most; place_is = refl }, f)
+
+pub bytes_refused : {a : Result Visited Refusal} {r : Refusal} (k : List ℕ) {p q m : List ℕ} {z : ℤ} → a ≡ Err r → Told (Err r) p z q × (m ≡ tallied 0 0 k)
+    → Counted (refusal_in (length_told a)) (bytes_in (length_told a)) p (to_z w32 (of_z w32 z)) q × (m ≡ tallied (stored_in (counted a)) (changed_in (counted a)) k)
+unfolding refusal_in bytes_in
+bytes_refused k e t = rw e (told_by refl t.0, t.1)
 
 -- handed on by an export: the answer a is the bytes n where the check accepts
-pub counted_by : {a : Recorded} (check : Answer) (n : ℕ) {lent place : List ℕ} {z : ℤ} → a ≡ answer_bytes check n → Few a → Counted (refusal_in a) (bytes_in a) lent z place → Counted check n lent (to_z w32 (of_z w32 z)) place
+pub counted_by : {a : Result ℕ Refusal} (check : Answer) (n : ℕ) {lent place : List ℕ} {z : ℤ} → a ≡ answer_bytes check n → Few a → Counted (refusal_in a) (bytes_in a) lent z place → Counted check n lent (to_z w32 (of_z w32 z)) place
 unfolding answer_bytes refusal_in bytes_in c_answer placed
-counted_by {a} Accepted n {lent} {place} {z} e few t =
+counted_by {a} (Ok tt) n {lent} {place} {z} e few t =
     let most = few n e in
-    let u : Counted Accepted n lent z place = rw e at t in
+    let u : Counted (Ok tt) n lent z place = rw e at t in
     record { answer = held z n u.answer (omega (arith, most)); place_is = u.place_is }
-counted_by {a} (Refused r) n {lent} {place} {z} e few t =
-    let u : Counted (Refused r) 0 lent z place = rw e at t in
+counted_by {a} (Err r) n {lent} {place} {z} e few t =
+    let u : Counted (Err r) 0 lent z place = rw e at t in
     record { answer = held_minus z r u.answer; place_is = u.place_is }
 
 -- ---- what is left of the lent lists, told to C
 
 module _ {A : Type 0} {check : Answer} (lent new : A) {p q : List ℕ} {z : ℤ} where
-  pub reported_refused : {r : Refusal} → Refused r ≡ check → Told (Refused r) p z q → Reported check lent new p (to_z w32 (of_z w32 z)) lent q
+  pub reported_refused : {r : Refusal} → Err r ≡ check → Told (Err r) p z q → Reported check lent new p (to_z w32 (of_z w32 z)) lent q
   reported_refused e t = record { told = told_by e t; left_is = settle_refused _ _ _ e }
 
   -- by a check of the entry's own
@@ -151,12 +166,12 @@ module _ {A : Type 0} {check : Answer} (lent new : A) {p q : List ℕ} {z : ℤ}
 -- two lists that are left by one check
 pub settled : {A B : Type 0} (check : Answer) (a b : A) (c d : B) {m : A} {n : B} → m ≡ settle check a b → n ≡ settle check c d → ◌≡◌ {A = A × B} (m, n) (settle check (a, c) (b, d))
 unfolding settle
-settled Accepted a b c d e f = cc
-settled (Refused r) a b c d e f = cc
+settled (Ok tt) a b c d e f = cc
+settled (Err r) a b c d e f = cc
 
 -- a settings list: too short, and long enough
 module _ (n : ℕ) (settings : List ℤ) (check : Answer) where
-  pub short_is : length settings < n → Refused Length ≡ listed n settings check
+  pub short_is : length settings < n → Err Length ≡ listed n settings check
   unfolding listed
   short_is h = stop _ _ (unless_bad _ _ (not_le n (length settings) h))
 
@@ -165,7 +180,7 @@ module _ (n : ℕ) (settings : List ℤ) (check : Answer) where
   long_is h = go_on _ _ _ (unless_good _ _ (is_le n (length settings) h)) refl
 
   module _ {A : Type 0} (lent new : A) {p q : List ℕ} {z : ℤ} where
-    pub short : length settings < n → Told (Refused Length) p z q → Reported (listed n settings check) lent new p (to_z w32 (of_z w32 z)) lent q
+    pub short : length settings < n → Told (Err Length) p z q → Reported (listed n settings check) lent new p (to_z w32 (of_z w32 z)) lent q
     short h t = reported_refused lent new (short_is h) t
 
     pub long : n ≤ length settings → {a : Answer} {left : A} → a ≡ check → left ≡ settle check lent new → Told a p z q → Reported (listed n settings check) lent new p (to_z w32 (of_z w32 z)) left q
@@ -174,14 +189,14 @@ module _ (n : ℕ) (settings : List ℤ) (check : Answer) where
 -- ---- counts beside an answer
 
 module _ {A : Type 0} {check : Answer} (lent new : A) (stored changed : ℕ) {p q k m : List ℕ} {z : ℤ} where
-  pub filter_refused : {r : Refusal} → Refused r ≡ check → Told (Refused r) p z q × (m ≡ tallied 0 0 k) → FilterTold check lent new stored changed p k (to_z w32 (of_z w32 z)) lent q m
+  pub filter_refused : {r : Refusal} → Err r ≡ check → Told (Err r) p z q × (m ≡ tallied 0 0 k) → FilterTold check lent new stored changed p k (to_z w32 (of_z w32 z)) lent q m
   filter_refused e t = record { reported = reported_refused lent new e t.0; counts_are = t.1 ∙ ap₂ (λ (s c : ℕ). tallied s c k) (settle_refused _ _ _ e) (settle_refused _ _ _ e) }
 
   -- those of a check of the entry's own
-  pub filter_on : {own : Answer} {a : PlaneAnswer} {left : A} → own ≡ check → a.answer ≡ own → left ≡ settle own lent new → a.stored ≡ settle own 0 stored → a.changed ≡ settle own 0 changed
-      → Told a.answer p z q × (m ≡ tallied a.stored a.changed k)
+  pub filter_on : {own : Answer} (a : Result Counts Refusal) {left : A} → own ≡ check → answered a ≡ own → left ≡ settle own lent new → stored_in a ≡ settle own 0 stored → changed_in a ≡ settle own 0 changed
+      → Told (answered a) p z q × (m ≡ tallied (stored_in a) (changed_in a) k)
       → FilterTold check lent new stored changed p k (to_z w32 (of_z w32 z)) left q m
-  filter_on e f g s c t = record {
+  filter_on a e f g s c t = record {
     reported = reported_on lent new e f g t.0;
     counts_are = t.1 ∙ ap₂ (λ (s c : ℕ). tallied s c k) (s ∙ ap (λ (x : Answer). settle x 0 stored) e) (c ∙ ap (λ (x : Answer). settle x 0 changed) e);
   }

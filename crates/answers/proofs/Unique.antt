@@ -4,7 +4,7 @@ use mathlib.Core.Path.{◌≡◌, sym, ◌∙◌}
 use mathlib.Core.List.{List}
 use Prim.Native.Nat.{ℕ}
 use lib.IntN.{ℤ}
-use Rattle.rules.specs.declared.refusals.Answer.{Answer}
+use Rattle.rules.specs.Refusals.{Answer}
 use Rattle.answers.specs.Told.{Counted, Told, Reported, FilterTold}
 
 pub counted_unique : {a : Answer} {count : ℕ} {lent : List ℕ} {n m : ℤ} {p q : List ℕ} → Counted a count lent n p → Counted a count lent m q → (n ≡ m) × (p ≡ q)

@@ -2,17 +2,17 @@
 -- Assumes nothing.
 use Rattle.std.specs.Prelude.{◌≡◌, List, ℕ, ◌≤◌, leb, length, set, ℤ}
 use Rattle.rules.specs.declared.refusals.Refusal.TheVariants.{Length}
-use Rattle.rules.specs.declared.refusals.Answer.{Answer}
-use Rattle.rules.specs.declared.refusals.Answer.TheVariants.{Accepted, Refused}
-use Rattle.rules.specs.declared.refusals.Recorded.{Recorded}
-use Rattle.rules.specs.declared.refusals.Recorded.TheVariants.{Bytes, Refused as «NoRecord»}
+use Rattle.rules.specs.Refusals.{Answer}
+use Rattle.std.specs.declared.result.Result.TheVariants.{Ok, Err}
+use Rattle.std.specs.declared.result.Result.{Result}
+use Rattle.rules.specs.declared.refusals.Refusal.{Refusal}
 use Rattle.rules.specs.Refusals.{place_refused, or_else, unless, settle}
 use Rattle.rules.specs.CSide.{c_answer}
 
 -- the place of a refusal in the first entry of a lent list, which may be empty
 unfoldable pub placed : Answer → List ℕ → List ℕ
-placed Accepted place = place
-placed (Refused r) place = set place 0 (place_refused r)
+placed (Ok tt) place = place
+placed (Err r) place = set place 0 (place_refused r)
 
 -- ticket 4: stored and changed samples in the first two entries of a lent list, as many as it has
 unfoldable pub tallied : ℕ → ℕ → List ℕ → List ℕ
@@ -28,17 +28,17 @@ abbrev pub Told : Answer → List ℕ → ℤ → List ℕ → Type 0
 Told a lent n place = Counted a 0 lent n place
 
 -- a record's answer: whether it was refused, and its bytes
-unfoldable pub refusal_in : Recorded → Answer
-refusal_in (Bytes n) = Accepted
-refusal_in («NoRecord» r) = Refused r
+unfoldable pub refusal_in : Result ℕ Refusal → Answer
+refusal_in (Ok n) = Ok tt
+refusal_in (Err r) = Err r
 
-unfoldable pub bytes_in : Recorded → ℕ
-bytes_in (Bytes n) = n
-bytes_in («NoRecord» r) = 0
+unfoldable pub bytes_in : Result ℕ Refusal → ℕ
+bytes_in (Ok n) = n
+bytes_in (Err r) = 0
 
 -- the bytes of the longest record, 5 and 10 for each of 2·1024·1024 edges, are a number that C's answer holds
-abbrev pub Few : Recorded → Type 0
-Few a = (n : ℕ) → a ≡ Bytes n → n ≤ 20971525
+abbrev pub Few : Result ℕ Refusal → Type 0
+Few a = (n : ℕ) → a ≡ Ok n → n ≤ 20971525
 
 -- a check whose settings are a list of n numbers or more: a shorter one is a lent list shorter than needed, refused before all else, since nothing else can be read
 unfoldable pub listed : ℕ → List ℤ → Answer → Answer

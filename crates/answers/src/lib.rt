@@ -2,13 +2,12 @@
 #![tactic(auto)]
 
 ghost use Rattle.std.specs.Prelude.{◌≡◌, ◌+◌, ◌*◌, ◌≤◌, ◌<◌, pos, neg_ℤ, set};
-ghost use Rattle.rules.specs.declared.refusals.Answer.TheVariants.{Refused};
-ghost use Rattle.rules.specs.Refusals.{number_of};
+ghost use Rattle.std.specs.declared.result.Result.TheVariants.{Err};
+ghost use Rattle.rules.specs.Refusals.{number_of, answered, length_told, counted, stored_in, changed_in};
 ghost use Rattle.answers.specs.Told.{Told, Counted, Few, bytes_in, refusal_in, tallied};
 
-use rules::refusals::{
-    Answer, PlaneAnswer, RecordAnswer, Recorded, Refusal, number, place as place_of,
-};
+use rules::counts::{Counts, Visited};
+use rules::refusals::{Refusal, number, place as place_of};
 use rules::rows::RowsAnswer;
 
 // Minus the number of a refusal.
@@ -37,13 +36,13 @@ pub fn put_counts(counts: &mut [usize], stored: usize, changed: usize)
 }
 
 // A count, or minus the number of a refusal, whose place is put into a list.
-fn told_count(a: Answer, k: usize, place: &mut [usize]) -> i32
+fn told_count(a: Result<(), Refusal>, k: usize, place: &mut [usize]) -> i32
     requires { k < 2147483648 }
     ensures { Counted a k place.old result place.new }
 {
     match a {
-        Answer::Accepted => count(k),
-        Answer::Refused(r) => {
+        Ok(()) => count(k),
+        Err(r) => {
             put(place, 0, place_of(r));
             minus(r)
         }
@@ -51,7 +50,7 @@ fn told_count(a: Answer, k: usize, place: &mut [usize]) -> i32
 }
 
 // 0, or minus the number of a refusal, whose place is put into a list.
-pub fn told(a: Answer, place: &mut [usize]) -> i32
+pub fn told(a: Result<(), Refusal>, place: &mut [usize]) -> i32
     ensures { Told a place.old result place.new }
 {
     told_count(a, 0, place)
@@ -59,43 +58,37 @@ pub fn told(a: Answer, place: &mut [usize]) -> i32
 
 // A refusal of the settings' own list: minus its number, its place put into a list, and counts of none into another.
 pub fn told_refusal(r: Refusal, place: &mut [usize], counts: &mut [usize]) -> i32
-    ensures { Told (Refused r) place.old result place.new × (counts.new ≡ tallied 0 0 counts.old) }
+    ensures { Told (Err r) place.old result place.new × (counts.new ≡ tallied 0 0 counts.old) }
 {
     put_counts(counts, 0, 0);
-    told(Answer::Refused(r), place)
-}
-
-// How many bytes a record takes, or minus the number of a refusal, whose place is put into a list.
-pub fn told_bytes(a: Recorded, place: &mut [usize]) -> i32
-    requires { Few a }
-    ensures { Counted (refusal_in a) (bytes_in a) place.old result place.new }
-{
-    match a {
-        Recorded::Bytes(n) => count(n),
-        Recorded::Refused(r) => {
-            put(place, 0, place_of(r));
-            minus(r)
-        }
-    }
+    told(Err(r), place)
 }
 
 // What is told of an entry that filters, with its counts put into a list.
-pub fn told_counts(a: PlaneAnswer, place: &mut [usize], counts: &mut [usize]) -> i32
-    ensures { Told a.answer place.old result place.new × (counts.new ≡ tallied a.stored a.changed counts.old) }
+pub fn told_counts(a: Result<Counts, Refusal>, place: &mut [usize], counts: &mut [usize]) -> i32
+    ensures { Told (answered a) place.old result place.new × (counts.new ≡ tallied (stored_in a) (changed_in a) counts.old) }
 {
-    put_counts(counts, a.stored, a.changed);
-    let answer = a.answer;
-    told(answer, place)
+    match a {
+        Ok(n) => {
+            put_counts(counts, n.stored, n.changed);
+            0
+        }
+        Err(r) => told_refusal(r, place, counts),
+    }
 }
 
-// The same of a plane whose edges are recorded.
-pub fn told_record(a: RecordAnswer, place: &mut [usize], counts: &mut [usize]) -> i32
-    requires { Few a.«record» }
-    ensures { Counted (refusal_in a.«record») (bytes_in a.«record») place.old result place.new × (counts.new ≡ tallied a.stored a.changed counts.old) }
+// The same of a plane whose edges are recorded: how many bytes its record takes.
+pub fn told_record(a: Result<Visited, Refusal>, place: &mut [usize], counts: &mut [usize]) -> i32
+    requires { Few (length_told a) }
+    ensures { Counted (refusal_in (length_told a)) (bytes_in (length_told a)) place.old result place.new × (counts.new ≡ tallied (stored_in (counted a)) (changed_in (counted a)) counts.old) }
 {
-    put_counts(counts, a.stored, a.changed);
-    let record = a.record;
-    told_bytes(record, place)
+    match a {
+        Ok(v) => {
+            put_counts(counts, v.stored, v.changed);
+            count(v.bytes)
+        }
+        Err(r) => told_refusal(r, place, counts),
+    }
 }
 
 // How many rows are final, or minus the number of a refusal, whose place is put into a list, with the counts in another.
@@ -104,8 +97,7 @@ pub fn told_rows(a: RowsAnswer, place: &mut [usize], counts: &mut [usize]) -> i3
     ensures { Counted a.answer a.finalrows place.old result place.new × (counts.new ≡ tallied a.stored a.changed counts.old) }
 {
     put_counts(counts, a.stored, a.changed);
-    let answer = a.answer;
-    told_count(answer, a.finalrows, place)
+    told_count(a.answer, a.finalrows, place)
 }
 
 // Both thresholds in one number, q above side.

@@ -3,34 +3,33 @@ ghost use Rattle.std.specs.Prelude.{◌<◌, ◌≤◌};
 ghost use Rattle.pictures.specs.Shapes.{ShapeFits};
 
 use crate::carry::{Way, read_rows, write_rows};
-use crate::passed::{End, Passed, both, none};
-use laws::least;
+use crate::passed::Stop;
 use rows::deblock_rows;
 use rules::counts::Counts;
-use rules::refusals::Answer;
 use rules::rows::{RowState, RowsAnswer};
 use rules::settings::Plane;
+use streams::counts::{both, none};
 
 // Where a band ends that begins with a row: it has sixteen rows, or those that are left.
 fn band_end(first: usize, rows: usize) -> usize
     requires { (first < rows) × (rows ≤ 4096) }
     ensures { (first < result) × (result ≤ rows) }
 {
-    least(first + 16, rows)
+    rows.min(first + 16)
 }
 
 // What an answer makes of its band: the rows that are final now, and were not before, are written.
-fn settled(plane: &[u16], way: Way<'_>, before: usize, a: RowsAnswer) -> End
+fn settled(plane: &[u16], way: Way<'_>, before: usize, a: RowsAnswer) -> Result<Counts, Stop>
     requires { ShapeFits way.shape }
 {
-    let answer = a.answer;
-    if let Answer::Refused(r) = answer {
-        return End::Refused(r);
+    if let Err(r) = a.answer {
+        return Err(Stop::Refused(r));
     }
-    if write_rows(plane, way, before, a.finalrows) {
-        return End::Whole;
-    }
-    End::Unwritten
+    write_rows(plane, way, before, a.finalrows)?;
+    Ok(Counts {
+        stored: a.stored,
+        changed: a.changed,
+    })
 }
 
 // Every band of a plane, up to the first that does not pass.
@@ -46,7 +45,7 @@ pub fn bands(
     steps: &[u32],
     s: Plane,
     way: Way<'_>,
-) -> Passed
+) -> Result<Counts, Stop>
     requires { ShapeFits way.shape }
 {
     let shape = way.shape;
@@ -58,35 +57,17 @@ pub fn bands(
     let mut counts = none();
     let mut filled: usize = 0;
     let mut done: usize = 0;
+    // A `while`: each band says where the next one begins.
     while filled < shape.rows {
         let end = band_end(filled, shape.rows);
-        let got = read_rows(&mut bytes, plane, way, filled, end);
-        if !got.whole {
-            return Passed {
-                end: End::Cut(got.bytes),
-                counts,
-            };
-        }
+        read_rows(&mut bytes, plane, way, filled, end)?;
         let a = deblock_rows(
             plane, vedge, hedge, sqw, sqh, qindex, tiles, keep, steps, s, state, end,
         );
-        let e = settled(plane, way, done, a);
-        let End::Whole = e else {
-            return Passed { end: e, counts };
-        };
-        counts = both(
-            counts,
-            Counts {
-                stored: a.stored,
-                changed: a.changed,
-            },
-        );
+        counts = both(counts, settled(plane, way, done, a)?);
         state = a.state;
         done = a.finalrows;
         filled = end;
     }
-    Passed {
-        end: End::Whole,
-        counts,
-    }
+    Ok(counts)
 }

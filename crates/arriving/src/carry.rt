@@ -2,8 +2,8 @@
 ghost use Rattle.std.specs.Prelude.{◌≡◌, ◌*◌, ◌≤◌};
 ghost use Rattle.pictures.specs.Shapes.{ShapeFits};
 
-use laws::least;
-use pictures::planes::{Got, Shape, put_row, read_row, row_bytes, sum_up, write_row};
+use pictures::planes::{Cut, Shape, cut_after, put_row, read_row, row_bytes, write_row};
+use std::io;
 use system::files::{Source, Target};
 
 // The files that a plane's rows come from and go to, its shape, and whether a sample has two bytes.
@@ -23,51 +23,43 @@ fn row_at(s: Shape, r: usize) -> usize
     s.stride * r
 }
 
-// Reads the rows from one up to another; those past the picture's last one repeat what the buffer has. Says how many bytes the plane has so far where the file ends.
+// Reads the rows from one up to another; those past the picture's last one repeat what the buffer has. An error says how many bytes the plane has so far where the file ends.
 pub fn read_rows(
     bytes: &mut [u8; 8192],
     plane: &mut [u16],
     way: Way<'_>,
     first: usize,
     end: usize,
-) -> Got
+) -> Result<(), Cut>
     requires { ShapeFits way.shape × (end ≤ 4096) }
 {
     let s = way.shape;
     let n = row_bytes(s.width, way.wide);
-    let mut r = first;
-    while r < end {
+    for r in first..end {
         let k = read_row(way.from, bytes, n, r < s.height);
         if k < n {
-            return sum_up(false, r, n, k);
+            return Err(cut_after(r, n, k));
         }
         if !put_row(bytes, plane, row_at(s, r), s, way.wide) {
-            return sum_up(false, r, n, 0);
+            return Err(cut_after(r, n, 0));
         }
-        r += 1;
     }
-    sum_up(true, end, n, 0)
+    Ok(())
 }
 
-// Writes the picture's rows from one up to another; false where one can't be written.
-pub fn write_rows(plane: &[u16], way: Way<'_>, first: usize, end: usize) -> bool
+// Writes the picture's rows from one up to another; an error where one can't be written.
+pub fn write_rows(plane: &[u16], way: Way<'_>, first: usize, end: usize) -> io::Result<()>
     requires { ShapeFits way.shape }
 {
     let s = way.shape;
     let mut bytes = [0u8; 8192];
     let n = row_bytes(s.width, way.wide);
-    let stop = least(end, s.height);
-    let mut r = first;
-    while r < stop {
+    for r in first..end.min(s.height) {
         let at = row_at(s, r);
-        let upto = at + s.width;
-        if plane.len() < upto {
-            return false;
-        }
-        if !write_row(way.to, &plane[at..upto], &mut bytes, n, way.wide) {
-            return false;
-        }
-        r += 1;
+        let Some(row) = plane.get(at..at + s.width) else {
+            return Err(io::Error::from(io::ErrorKind::UnexpectedEof));
+        };
+        write_row(way.to, row, &mut bytes, n, way.wide)?;
     }
-    true
+    Ok(())
 }

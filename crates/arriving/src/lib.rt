@@ -4,7 +4,7 @@
 // Rows from one file and to another.
 pub mod carry;
 
-// What came of a plane.
+// Why a plane did not pass.
 pub mod passed;
 
 // The bands of a plane that is deblocked.

@@ -6,7 +6,7 @@ ghost use Rattle.frame_by_settings.specs.Framed.{ListsLong};
 
 use crate::banded::bands;
 use crate::carry::{Way, read_rows, write_rows};
-use crate::passed::{End, Passed, none};
+use crate::passed::Stop;
 use by_settings::kept::keep_cells;
 use by_settings::kinds::STEPS;
 use by_settings::lists::{lists_of, steps_of};
@@ -15,37 +15,22 @@ use frame_checks::parts::{kind_on, plane_of, q_of, tu_of};
 use grid::tx_grid::build_tx_grid;
 use gridded::spans::{leaves_of, tiles_of};
 use qindex::qindex_grid::build_qindex_grid;
+use rules::counts::Counts;
 use rules::settings::Frame;
+use streams::counts::none;
 use streams::kept::cells_of;
 
 // A plane that is not deblocked, row by row.
-fn copied(plane: &mut [u16], way: Way<'_>) -> Passed
+fn copied(plane: &mut [u16], way: Way<'_>) -> Result<Counts, Stop>
     requires { ShapeFits way.shape }
 {
     let shape = way.shape;
-    let counts = none();
     let mut bytes = [0u8; 8192];
-    let mut r: usize = 0;
-    while r < shape.height {
-        let got = read_rows(&mut bytes, plane, way, r, r + 1);
-        if !got.whole {
-            return Passed {
-                end: End::Cut(got.bytes),
-                counts,
-            };
-        }
-        if !write_rows(plane, way, r, r + 1) {
-            return Passed {
-                end: End::Unwritten,
-                counts,
-            };
-        }
-        r += 1;
+    for r in 0..shape.height {
+        read_rows(&mut bytes, plane, way, r, r + 1)?;
+        write_rows(plane, way, r, r + 1)?;
     }
-    Passed {
-        end: End::Whole,
-        counts,
-    }
+    Ok(none())
 }
 
 // A plane over its own grid: marks and sizes from the leaves, qindex from the superblocks, keep marks from the rectangles.
@@ -60,7 +45,7 @@ fn over_grid(
     f: Frame,
     chroma: bool,
     way: Way<'_>,
-) -> Passed
+) -> Result<Counts, Stop>
     requires { Sized f × ShapeFits way.shape }
 {
     let mut vedge = marks();
@@ -70,10 +55,11 @@ fn over_grid(
     let mut keep = marks();
     let mut qindex = indices();
     let t = tu_of(f, chroma);
-    build_tx_grid(
+    // a grid that is refused stays without an edge; why it is was answered with the settings
+    let _ = build_tx_grid(
         leaves, skips, &mut vedge, &mut hedge, &mut sqw, &mut sqh, &mut keep, t,
     );
-    build_qindex_grid(sbq, &mut qindex, q_of(f, chroma));
+    let _ = build_qindex_grid(sbq, &mut qindex, q_of(f, chroma));
     keep_cells(&mut keep, rectangles, cells_of(way.shape, t.ssx, t.ssy));
     bands(
         plane,
@@ -99,30 +85,23 @@ fn deblocked(
     f: Frame,
     chroma: bool,
     way: Way<'_>,
-) -> Passed
+) -> Result<Counts, Stop>
     requires { ListsLong (length shorts.now) (length steps.now) (length places.now) × Sized f × ShapeFits way.shape }
 {
     let at = lists_of(places, shorts.len());
     let n = steps_of(places[STEPS]);
-    let q = at.entries;
     let leaves = leaves_of(at, chroma, shorts.len());
     let tiles = tiles_of(at, chroma, shorts.len());
-    let a = leaves.from;
-    let b = leaves.end;
-    let c = at.skips;
-    let d = at.skipsend;
-    let e = at.keeps;
-    let g = at.keepsend;
-    let h = tiles.from;
-    let i = tiles.end;
+    let skips = &shorts[at.skips..at.skipsend];
+    let keeps = &shorts[at.keeps..at.keepsend];
     over_grid(
         plane,
-        &shorts[a..b],
-        &shorts[c..d],
-        &shorts[0..q],
-        &shorts[e..g],
-        &shorts[h..i],
-        &steps[0..n],
+        &shorts[leaves.from..leaves.end],
+        skips,
+        &shorts[..at.entries],
+        keeps,
+        &shorts[tiles.from..tiles.end],
+        &steps[..n],
         f,
         chroma,
         way,
@@ -138,7 +117,7 @@ pub fn pass_plane(
     f: Frame,
     chroma: bool,
     way: Way<'_>,
-) -> Passed
+) -> Result<Counts, Stop>
     requires { ListsLong (length shorts.now) (length steps.now) (length places.now) × Sized f × ShapeFits way.shape }
 {
     if kind_on(f, chroma) {

@@ -22,7 +22,7 @@ use Rattle.segment.specs.Fit.{InPlane}
 use Rattle.segment.proofs.Counts.{stored_then, changed_then}
 use Rattle.kept.proofs.Same.{marks_agree, run_same, stored_same, changed_same}
 use Rattle.cell_edges.specs.Cells.{one_way}
-use Rattle.plane.specs.declared.visited.Visited.{Visited}
+use Rattle.rules.specs.declared.counts.Visited.{Visited}
 use Rattle.plane.specs.Run.{Table, PartOf, none, state, Ran}
 use Rattle.plane.specs.Checked.{Checked}
 use Rattle.plane.proofs.Runs.{step_of}

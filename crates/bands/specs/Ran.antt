@@ -6,7 +6,7 @@ use Rattle.rules.specs.Segment.{run_edges}
 use Rattle.rules.specs.Counts.{stored_by, changed_by}
 use Rattle.rules.specs.Plane.{Grid, kept_by}
 use Rattle.rules.specs.Rows.{band_of}
-use Rattle.plane.specs.declared.visited.Visited.{Visited}
+use Rattle.rules.specs.declared.counts.Visited.{Visited}
 
 -- of a plane l whose filled rows of cells grow from h to a: v and the plane m
 pub record RanBand (s : Plane) (steps : List ℕ) (g : Grid) (h a : ℕ) (l : List ℕ) (v : Visited) (m : List ℕ) : Type 0 where

@@ -7,7 +7,8 @@ ghost use Rattle.bands.specs.Ran.{RanBand};
 
 use crate::ready::ready_rows;
 use checks::asked;
-use plane::{Part, Visited, sweep, table_of};
+use plane::{Part, sweep, table_of};
+use rules::counts::Visited;
 use rules::depth::Depth;
 use rules::settings::Plane;
 use thresholds::by_qindex::thresholds_by_qindex;

@@ -8,8 +8,8 @@ use lib.IntN.{ℤ}
 use Rattle.laws.specs.Choose.{pick_yes, pick_no, is_le, not_le}
 use Rattle.rules.specs.declared.settings.TuGrid.{TuGrid}
 use Rattle.rules.specs.declared.refusals.Refusal.TheVariants.{Length}
-use Rattle.rules.specs.declared.refusals.Answer.{Answer}
-use Rattle.rules.specs.declared.refusals.Answer.TheVariants.{Refused}
+use Rattle.rules.specs.Refusals.{Answer}
+use Rattle.std.specs.declared.result.Result.TheVariants.{Err}
 use Rattle.checks.proofs.Checks.{stop, go_on, unless_bad, unless_good}
 use Rattle.numbers.specs.Settings.{tu_grid_of}
 use Rattle.by_list.specs.Records.{no_grid, tu_grid_read, long_enough}
@@ -26,7 +26,7 @@ read_long settings h e = pick_yes _ _ _ _ (is_le 6 (length settings) h) e
 
 -- ---- after it
 
-pub too_few : (n m : ℕ) (a : Answer) → m < n → Refused Length ≡ long_enough n m a
+pub too_few : (n m : ℕ) (a : Answer) → m < n → Err Length ≡ long_enough n m a
 unfolding long_enough
 too_few n m a h = stop _ _ (unless_bad _ _ (not_le n m h))
 

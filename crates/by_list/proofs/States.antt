@@ -10,8 +10,8 @@ use lib.IntN.{ℤ}
 use Rattle.laws.specs.Choose.{pick, is_le, not_le, is_eq, not_eq}
 use Rattle.rules.specs.declared.rows.RowState.{RowState}
 use Rattle.rules.specs.declared.refusals.Refusal.TheVariants.{Length, Spent}
-use Rattle.rules.specs.declared.refusals.Answer.{Answer}
-use Rattle.rules.specs.declared.refusals.Answer.TheVariants.{Accepted, Refused}
+use Rattle.rules.specs.Refusals.{Answer}
+use Rattle.std.specs.declared.result.Result.TheVariants.{Ok, Err}
 use Rattle.checks.proofs.Checks.{stop, go_on, unless_bad, unless_good, unless_true, else_parts}
 use Rattle.by_list.specs.Planes.{list_check}
 use Rattle.by_list.specs.Rows.{lists_check, held_by}
@@ -20,12 +20,12 @@ use Rattle.by_list.proofs.Lists.{plane_long}
 -- ---- the lists, at each way out of their check
 
 module _ (settings : List ℤ) (st : List ℕ) where
-  pub state_short : length st < 2 → Refused Length ≡ lists_check settings st
+  pub state_short : length st < 2 → Err Length ≡ lists_check settings st
   unfolding lists_check
   state_short h = stop _ _ (unless_bad _ _ (not_le 2 (length st) h))
 
   module _ (enough : 2 ≤ length st) where
-    pub state_spent : (get_or st 1 0 ≡ 0 → ⊥) → Refused Spent ≡ lists_check settings st
+    pub state_spent : (get_or st 1 0 ≡ 0 → ⊥) → Err Spent ≡ lists_check settings st
     unfolding lists_check
     state_spent n = go_on _ _ _ (unless_good _ _ (is_le 2 (length st) enough)) (stop _ _ (unless_bad _ _ (not_eq (get_or st 1 0) 0 n)))
 
@@ -34,7 +34,7 @@ module _ (settings : List ℤ) (st : List ℕ) where
     state_good e is = go_on _ _ _ (unless_good _ _ (is_le 2 (length st) enough)) (go_on _ _ _ (unless_good _ _ (is_eq (get_or st 1 0) 0 e)) is)
 
   -- lists that pass have their numbers
-  module _ {a : Answer} (is : a ≡ lists_check settings st) (e : a ≡ Accepted) where
+  module _ {a : Answer} (is : a ≡ lists_check settings st) (e : a ≡ Ok tt) where
     pub state_long : 2 ≤ length st
     unfolding lists_check
     state_long = leb-true 2 (length st) (unless_true _ Length (else_parts _ _ (sym is ∙ e)).0)

@@ -4,7 +4,7 @@ use Rattle.std.specs.Prelude.{◌≡◌, Bool, List, ℕ, eqb, leb, ℤ}
 use Rattle.laws.specs.Choose.{both}
 use Rattle.rules.specs.declared.settings.Frame.{Frame}
 use Rattle.rules.specs.declared.refusals.Refusal.TheVariants.{Depth, Size}
-use Rattle.rules.specs.declared.refusals.Answer.{Answer}
+use Rattle.rules.specs.Refusals.{Answer}
 use Rattle.rules.specs.Numbers.{depth_ok}
 use Rattle.rules.specs.Refusals.{or_else, unless, settle}
 use Rattle.rules.specs.Frame.{Given, Lent, Done, or_done, frame_of, frame_stored, frame_changed}

@@ -1,7 +1,7 @@
 -- What a TU grid's entries tell C: its four lists and its keep marks.
 -- Assumes nothing.
 use Rattle.std.specs.Prelude.{List, ℕ, ◌*◌, ℤ}
-use Rattle.rules.specs.declared.refusals.Answer.{Answer}
+use Rattle.rules.specs.Refusals.{Answer}
 use Rattle.rules.specs.TuGrid.{Marks, clear_of, tx_grid_check, tx_grid_of}
 use Rattle.answers.specs.Told.{listed, Reported}
 use Rattle.numbers.specs.Settings.{tu_grid_of}

@@ -4,7 +4,7 @@ use Rattle.std.specs.Prelude.{List, ℕ, leb, length, ℤ}
 use Rattle.laws.specs.Choose.{pick}
 use Rattle.rules.specs.declared.settings.TuGrid.{TuGrid}
 use Rattle.rules.specs.declared.refusals.Refusal.TheVariants.{Length}
-use Rattle.rules.specs.declared.refusals.Answer.{Answer}
+use Rattle.rules.specs.Refusals.{Answer}
 use Rattle.rules.specs.Refusals.{or_else, unless}
 use Rattle.numbers.specs.Settings.{tu_grid_of}
 

@@ -3,7 +3,7 @@
 use Rattle.std.specs.Prelude.{Bool, List, [], ◌∷◌, ℕ, ℤ}
 use Rattle.laws.specs.Choose.{all}
 use Rattle.rules.specs.declared.refusals.Refusal.TheVariants.{Size}
-use Rattle.rules.specs.declared.refusals.Answer.{Answer}
+use Rattle.rules.specs.Refusals.{Answer}
 use Rattle.rules.specs.Refusals.{or_else, unless}
 use Rattle.rules.specs.Keep.{keep_check, kept_of}
 use Rattle.answers.specs.Told.{listed, Reported}

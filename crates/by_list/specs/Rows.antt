@@ -4,8 +4,8 @@ use Rattle.std.specs.Prelude.{◌≡◌, false, List, ℕ, leb, eqb, length, get
 use Rattle.laws.specs.Choose.{pick}
 use Rattle.rules.specs.declared.rows.RowState.{RowState}
 use Rattle.rules.specs.declared.refusals.Refusal.TheVariants.{Length, Spent}
-use Rattle.rules.specs.declared.refusals.Answer.{Answer}
-use Rattle.rules.specs.declared.refusals.Answer.TheVariants.{Accepted, Refused}
+use Rattle.rules.specs.Refusals.{Answer}
+use Rattle.std.specs.declared.result.Result.TheVariants.{Ok, Err}
 use Rattle.rules.specs.Refusals.{number_of, or_else, unless, settle}
 use Rattle.rules.specs.Plane.{Grid}
 use Rattle.rules.specs.Rows.{rows_check, rows_after, rows_stored, rows_changed, rows_final}
@@ -47,8 +47,8 @@ c_rows_final settings steps g st filled l = settle (lists_check settings st) 0 (
 
 -- the list of the state afterwards: an accepted call holds the new count, 8 spends the state and keeps its held count, "all but 8 leave state and plane unchanged"
 unfoldable pub state_left : Answer → List ℕ → ℕ → List ℕ
-state_left Accepted st filled = set st 0 filled
-state_left (Refused r) st filled = pick (eqb (number_of r) 8) (set st 1 1) st
+state_left (Ok tt) st filled = set st 0 filled
+state_left (Err r) st filled = pick (eqb (number_of r) 8) (set st 1 1) st
 
 -- what C is told: how many rows from the top are final, or minus the refusal number
 pub record RowsTold (settings : List ℤ) (steps : List ℕ) (g : Grid) (st : List ℕ) (filled : ℕ) (l place counts : List ℕ) (n : ℤ) (m t placed tally : List ℕ) : Type 0 where

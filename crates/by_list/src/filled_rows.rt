@@ -3,19 +3,19 @@ ghost use Rattle.std.specs.Prelude.{◌≡◌, ◌≤◌, length};
 ghost use Rattle.by_list.specs.Rows.{lists_check, held_by};
 
 use crate::planes::list_check;
-use rules::refusals::{Answer, Refusal};
+use rules::refusals::Refusal;
 use rules::rows::RowState;
 
 // The first refusal that the two lists themselves give: no state, a spent one, and then what the list of settings gives.
-pub fn lists_check(settings: &[i32], state: &[usize]) -> Answer
+pub fn lists_check(settings: &[i32], state: &[usize]) -> Result<(), Refusal>
     ensures { result ≡ lists_check settings.now state.now }
 {
     if state.len() < 2 {
-        return Answer::Refused(Refusal::Length);
+        return Err(Refusal::Length);
     }
     let spent = state[1];
     if 0 < spent {
-        return Answer::Refused(Refusal::Spent);
+        return Err(Refusal::Spent);
     }
     list_check(settings)
 }

@@ -4,7 +4,7 @@ ghost use Rattle.by_list.specs.Frames.{frame_settings, flags_ok, list_check};
 
 use numbers::{count, flag, number, size};
 use rules::depth::Depth;
-use rules::refusals::{Answer, Refusal};
+use rules::refusals::Refusal;
 use rules::settings::Frame;
 
 // Whether has_chroma and chroma_deblock are 0 or 1.
@@ -19,19 +19,19 @@ fn flags_ok(list: &[i32]) -> bool
 }
 
 // The first refusal that the list itself gives: too few numbers, and a flag that is none after the depth.
-pub fn list_check(list: &[i32]) -> Answer
+pub fn list_check(list: &[i32]) -> Result<(), Refusal>
     ensures { result ≡ list_check list.now }
 {
     if list.len() < 15 {
-        return Answer::Refused(Refusal::Length);
+        return Err(Refusal::Length);
     }
     if !Depth::is(count(list, 6)) {
-        return Answer::Refused(Refusal::Depth);
+        return Err(Refusal::Depth);
     }
     if !flags_ok(list) {
-        return Answer::Refused(Refusal::Size);
+        return Err(Refusal::Size);
     }
-    Answer::Accepted
+    Ok(())
 }
 
 // The settings.

@@ -3,7 +3,7 @@ ghost use Rattle.std.specs.Prelude.{◌≡◌, ◌≤◌, length};
 ghost use Rattle.by_list.specs.Rectangles.{rectangle_ok, rectangle_check};
 
 use numbers::is_count;
-use rules::refusals::{Answer, Refusal};
+use rules::refusals::Refusal;
 
 // Whether none of the rectangle's own four numbers is negative.
 fn rectangle_ok(settings: &[i32]) -> bool
@@ -23,14 +23,14 @@ fn rectangle_ok(settings: &[i32]) -> bool
 }
 
 // The first refusal that the list of settings itself gives: too few numbers, and then a negative row, column or size.
-pub fn rectangle_check(settings: &[i32]) -> Answer
+pub fn rectangle_check(settings: &[i32]) -> Result<(), Refusal>
     ensures { result ≡ rectangle_check settings.now }
 {
     if settings.len() < 6 {
-        return Answer::Refused(Refusal::Length);
+        return Err(Refusal::Length);
     }
     if !rectangle_ok(settings) {
-        return Answer::Refused(Refusal::Size);
+        return Err(Refusal::Size);
     }
-    Answer::Accepted
+    Ok(())
 }

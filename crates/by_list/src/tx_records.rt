@@ -5,7 +5,7 @@ ghost use Rattle.by_list.specs.Records.{tu_grid_read, long_enough};
 
 use answers::told;
 use numbers::tu_grid_of;
-use rules::refusals::{Answer, Refusal};
+use rules::refusals::Refusal;
 use rules::settings::TuGrid;
 
 // The settings of a list that is long enough, and else ones that the grid refuses.
@@ -26,11 +26,11 @@ pub fn read(settings: &[i32]) -> TuGrid
 }
 
 // The grid's answer, where the settings' list had n numbers.
-pub fn tell(a: Answer, n: usize, place: &mut [usize]) -> i32
+pub fn tell(a: Result<(), Refusal>, n: usize, place: &mut [usize]) -> i32
     ensures { Told (long_enough 6 n a) place.old result place.new }
 {
     if n < 6 {
-        return told(Answer::Refused(Refusal::Length), place);
+        return told(Err(Refusal::Length), place);
     }
     told(a, place)
 }

@@ -11,8 +11,8 @@ use Rattle.laws.specs.Choose.{pick_yes, pick_no, told_yes_not, told_no_not}
 use Rattle.rules.specs.declared.settings.Frame.{Frame}
 use Rattle.rules.specs.declared.settings.Ccso.{Ccso}
 use Rattle.rules.specs.declared.refusals.Refusal.{Refusal}
-use Rattle.rules.specs.declared.refusals.Answer.{Answer}
-use Rattle.rules.specs.declared.refusals.Answer.TheVariants.{Accepted, Refused}
+use Rattle.rules.specs.Refusals.{Answer}
+use Rattle.std.specs.declared.result.Result.TheVariants.{Ok, Err}
 use Rattle.rules.specs.Refusals.{or_else, settle}
 use Rattle.rules.specs.Frame.{planes}
 use Rattle.checks.proofs.Checks.{only_yes, only_no}
@@ -37,7 +37,7 @@ offsets_part p xs = part offsets_room (offsets_room * p) xs
 
 module _ (f : Frame) (s : Asked) (luma : List ℕ) (p : ℕ) (t : List ℕ) where
   -- not asked for
-  pub kept : false ≡ wanted f s.places p → PlaneOffset f s luma p t Accepted t
+  pub kept : false ≡ wanted f s.places p → PlaneOffset f s luma p t (Ok tt) t
   unfolding plane_answer plane_after
   kept e = record { answer = only_no _ _ e; samples = pick_no _ _ _ t e refl }
 
@@ -55,18 +55,18 @@ pub ruleset gating = (rules, told_yes_not, told_no_not, kept, offset, flags_part
 -- ---- three planes: the first, the second or none before the last was refused
 
 module _ (f : Frame) (s : Asked) (luma : List ℕ) (y u v : List ℕ) {a : Answer} {y' : List ℕ} (first : PlaneOffset f s luma 0 y a y') where
-  pub at_first : {x : Refusal} → a ≡ Refused x → PlanesOffset f s luma (planes y u v) (record { plane = 0; answer = a }) (planes y' u v)
+  pub at_first : {x : Refusal} → a ≡ Err x → PlanesOffset f s luma (planes y u v) (record { plane = 0; answer = a }) (planes y' u v)
   unfolding planes_answer refused_plane planes_after or_else settle
   at_first e =
       rw e (record { answer = rw (← first.answer, e); plane = rw (← first.answer, e); samples = rw (← first.samples, ← first.answer, e) })
 
-  module _ (on : a ≡ Accepted) {b : Answer} {u' : List ℕ} (second : PlaneOffset f s luma 1 u b u') where
-    pub at_second : {x : Refusal} → b ≡ Refused x → PlanesOffset f s luma (planes y u v) (record { plane = 1; answer = b }) (planes y' u' v)
+  module _ (on : a ≡ Ok tt) {b : Answer} {u' : List ℕ} (second : PlaneOffset f s luma 1 u b u') where
+    pub at_second : {x : Refusal} → b ≡ Err x → PlanesOffset f s luma (planes y u v) (record { plane = 1; answer = b }) (planes y' u' v)
     unfolding planes_answer refused_plane planes_after or_else settle
     at_second e =
         rw e (record { answer = rw (← first.answer, on, ← second.answer, e); plane = rw (← first.answer, on, ← second.answer, e); samples = rw (← first.samples, ← first.answer, on, ← second.samples, ← second.answer, e) })
 
-    pub at_third : b ≡ Accepted → {c : Answer} {v' : List ℕ} → PlaneOffset f s luma 2 v c v' → PlanesOffset f s luma (planes y u v) (record { plane = 2; answer = c }) (planes y' u' v')
+    pub at_third : b ≡ Ok tt → {c : Answer} {v' : List ℕ} → PlaneOffset f s luma 2 v c v' → PlanesOffset f s luma (planes y u v) (record { plane = 2; answer = c }) (planes y' u' v')
     unfolding planes_answer refused_plane planes_after or_else settle
     at_third e third = record {
       answer = rw (← first.answer, on, ← second.answer, e) third.answer;

@@ -11,9 +11,9 @@ use lib.ListN.{length, get_or}
 use Rattle.laws.specs.Choose.{pick, either, true_not_false, tests}
 use Rattle.laws.specs.Loops.{turns, turns_none, turns_more, turns_end, turns_keep}
 use Rattle.rules.specs.declared.settings.Keep.{Keep}
-use Rattle.rules.specs.declared.refusals.Answer.{Answer}
-use Rattle.rules.specs.declared.refusals.Answer.TheVariants.{Accepted, Refused}
-use Rattle.rules.specs.declared.refusals.Found.TheVariants.{Nothing}
+use Rattle.rules.specs.Refusals.{Answer}
+use Rattle.std.specs.declared.result.Result.TheVariants.{Ok, Err}
+use Rattle.std.specs.declared.option.Option.TheVariants.{None}
 use Rattle.rules.specs.Refusals.{or_else, unless, found}
 use Rattle.rules.specs.TuGrid.{cells_ok}
 use Rattle.rules.specs.Plane.{bad_keep}
@@ -88,33 +88,33 @@ halved_only first (suc n) c a =
 -- ---- the marks
 
 -- one rectangle leaves good marks good, be it refused or not
-good_after : (s : Keep) (m : List ℕ) → bad_keep (s.rows * s.cols) m ≡ Nothing → bad_keep (s.rows * s.cols) (keep_after s m) ≡ Nothing
+good_after : (s : Keep) (m : List ℕ) → bad_keep (s.rows * s.cols) m ≡ None → bad_keep (s.rows * s.cols) (keep_after s m) ≡ None
 good_after s m good = go (keep_check s m) refl
   where
-    go : (a : Answer) → keep_check s m ≡ a → bad_keep (s.rows * s.cols) (keep_after s m) ≡ Nothing
-    go Accepted e = let p : Stated s m Accepted (keep_after s m) = record { answer = sym e; marks = refl } in still_good p
-    go (Refused r) e = let p : Stated s m (Refused r) (keep_after s m) = record { answer = sym e; marks = refl } in rw (refused_as_lent p) good
+    go : (a : Answer) → keep_check s m ≡ a → bad_keep (s.rows * s.cols) (keep_after s m) ≡ None
+    go (Ok tt) e = let p : Stated s m (Ok tt) (keep_after s m) = record { answer = sym e; marks = refl } in still_good p
+    go (Err r) e = let p : Stated s m (Err r) (keep_after s m) = record { answer = sym e; marks = refl } in rw (refused_as_lent p) good
 
 -- no rectangle makes a mark other than 0 or 1, so that no plane refuses the program's own marks by 6
-pub kept_good : (s : Cells) (xs keep : List ℕ) → bad_keep (s.rows * s.cols) keep ≡ Nothing → bad_keep (s.rows * s.cols) (kept_by s xs keep) ≡ Nothing
+pub kept_good : (s : Cells) (xs keep : List ℕ) → bad_keep (s.rows * s.cols) keep ≡ None → bad_keep (s.rows * s.cols) (kept_by s xs keep) ≡ None
 unfolding kept_by rectangle_of
 kept_good s xs keep good =
-    turns_keep (λ i. keep_after (rectangle_of s xs i)) keep (λ m. bad_keep (s.rows * s.cols) m ≡ Nothing) (length xs / 4) good (λ i m h. good_after (rectangle_of s xs i) m)
+    turns_keep (λ i. keep_after (rectangle_of s xs i)) keep (λ m. bad_keep (s.rows * s.cols) m ≡ None) (length xs / 4) good (λ i m h. good_after (rectangle_of s xs i) m)
 
 -- ---- each cell's mark, over good marks that are long enough
 
 module _ (s : Cells) (xs keep : List ℕ) (sized : cells_ok s.cols s.rows ≡ true) (long : s.rows * s.cols ≤ length keep)
-    (good : bad_keep (s.rows * s.cols) keep ≡ Nothing) where
+    (good : bad_keep (s.rows * s.cols) keep ≡ None) where
   -- what every rectangle finds
   pub record Good (m : List ℕ) : Type 0 where
     pub as_many : length m ≡ length keep
-    pub good_marks : bad_keep (s.rows * s.cols) m ≡ Nothing
+    pub good_marks : bad_keep (s.rows * s.cols) m ≡ None
 
-  accepts : (i : ℕ) (m : List ℕ) → Good m → keep_check (rectangle_of s xs i) m ≡ Accepted
+  accepts : (i : ℕ) (m : List ℕ) → Good m → keep_check (rectangle_of s xs i) m ≡ Ok tt
   unfolding keep_check rectangle_of or_else unless found
   accepts i m g = let h : s.rows * s.cols ≤ length m = rw g.as_many long in rw (sized, le-leb _ _ h, g.good_marks)
 
-  one : (i : ℕ) (m : List ℕ) → Good m → Stated (rectangle_of s xs i) m Accepted (keep_after (rectangle_of s xs i) m)
+  one : (i : ℕ) (m : List ℕ) → Good m → Stated (rectangle_of s xs i) m (Ok tt) (keep_after (rectangle_of s xs i) m)
   one i m g = record { answer = sym (accepts i m g); marks = refl }
 
   good_on : (i : ℕ) (m : List ℕ) → Good m → Good (keep_after (rectangle_of s xs i) m)

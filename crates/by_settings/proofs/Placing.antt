@@ -8,19 +8,19 @@ use native.Mathlib.Omega.{arith}
 use lib.Dec.{ltb}
 use lib.ListN.{get_or, length, get_or-eq_default}
 use Rattle.laws.specs.Choose.{both_ok, pick_no, not_lt, not_le, tests}
-use Rattle.rules.specs.declared.refusals.Found.{Found}
-use Rattle.rules.specs.declared.refusals.Found.TheVariants.{At, Nothing}
+use Rattle.std.specs.declared.option.Option.{Option}
+use Rattle.std.specs.declared.option.Option.TheVariants.{Some, None}
 use Rattle.rules.specs.Numbers.{depth_ok, top_of}
 use Rattle.by_settings.specs.Places.{place, over_top, leaf_place, if_found}
 
 -- ---- a callee's answer e to the search f
 
-module _ {A : Type 0} (f e : Found) (a b x : A) where
-  pub when_found : {k : ℕ} → e ≡ f → e ≡ At k → x ≡ a → x ≡ if_found f a b
+module _ {A : Type 0} (f e : Option ℕ) (a b x : A) where
+  pub when_found : {k : ℕ} → e ≡ f → e ≡ Some k → x ≡ a → x ≡ if_found f a b
   unfolding if_found
   when_found told at g = rw (← told, at) g
 
-  pub when_nothing : e ≡ f → e ≡ Nothing → x ≡ b → x ≡ if_found f a b
+  pub when_nothing : e ≡ f → e ≡ None → x ≡ b → x ≡ if_found f a b
   unfolding if_found
   when_nothing told none g = rw (← told, none) g
 

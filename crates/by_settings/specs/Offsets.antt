@@ -3,7 +3,7 @@
 use Rattle.std.specs.Prelude.{◌≡◌, Bool, List, ℕ, ◌+◌, ◌*◌, ◌≤◌, eqb, ltb, get_or, take, drop, ℤ}
 use Rattle.laws.specs.Choose.{pick, either, both}
 use Rattle.rules.specs.declared.settings.Frame.{Frame}
-use Rattle.rules.specs.declared.refusals.Answer.{Answer}
+use Rattle.rules.specs.Refusals.{Answer}
 use Rattle.rules.specs.Refusals.{or_else, only_if, settle}
 use Rattle.rules.specs.Ccso.{ccso_check, ccso_after}
 use Rattle.rules.specs.Frame.{Planes, planes}

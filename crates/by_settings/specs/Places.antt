@@ -3,8 +3,8 @@
 use Rattle.std.specs.Prelude.{Bool, false, List, ℕ, ◌+◌, ◌*◌, ◌/◌, ◌%◌, eqb, leb, ltb, get_or, length}
 use Rattle.laws.specs.Choose.{pick, both}
 use Rattle.rules.specs.declared.settings.Frame.{Frame}
-use Rattle.rules.specs.declared.refusals.Found.{Found}
-use Rattle.rules.specs.declared.refusals.Found.TheVariants.{At, Nothing}
+use Rattle.std.specs.declared.option.Option.{Option}
+use Rattle.std.specs.declared.option.Option.TheVariants.{Some, None}
 use Rattle.rules.specs.Numbers.{depth_ok, top_of}
 use Rattle.rules.specs.TuGrid.{bad_leaf}
 use Rattle.by_settings.specs.declared.places.Place.{Place}
@@ -68,9 +68,9 @@ leaf_place plane leaves k =
     pick (leb (length leaves / 4) k) (place_in plane k 0) (place plane (get_or leaves (k * 4) 0) (get_or leaves (k * 4 + 1) 0))
 
 -- the first of two where something was found, the second where not
-unfoldable pub if_found : {A : Type 0} → Found → A → A → A
-if_found (At k) a b = a
-if_found Nothing a b = b
+unfoldable pub if_found : {A : Type 0} → Option ℕ → A → A → A
+if_found (Some k) a b = a
+if_found None a b = b
 
 -- the first of luma's, chroma's and the skip leaves that has a bad one
 unfoldable pub leaves_place : List ℕ → List ℕ → List ℕ → ℕ → Place

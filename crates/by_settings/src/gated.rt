@@ -5,17 +5,17 @@ ghost use Rattle.by_settings.specs.Rooms.{ccso_kind};
 ghost use Rattle.by_settings.specs.Offsets.{OffsetsLong, asked, wanted, PlaneOffset, PlanesOffset};
 
 use crate::filters::ccso_of;
-use crate::kinds::CCSO_Y;
 use crate::rooms::{EACH, FLAGS, OFFSETS};
 use ccso::apply::apply_edge_gated;
-use rules::refusals::Answer;
+use rules::refusals::Refusal;
 use rules::settings::Frame;
+use settings::kinds::Kind;
 
 // The plane that was refused, and the answer.
 #[derive(Clone, Copy)]
 pub struct Applied {
     pub plane: usize,
-    pub answer: Answer,
+    pub answer: Result<(), Refusal>,
 }
 
 // Whether plane p is to be offset: the settings have its numbers, and the picture has the plane.
@@ -23,7 +23,7 @@ fn wants(f: Frame, places: &[usize], p: usize) -> bool
     requires { (p ≤ 2) × (ccso_kind 2 + 1 ≤ length places.now) }
     ensures { result ≡ wanted f places.now p }
 {
-    if places[CCSO_Y + p] <= EACH + EACH * p {
+    if places[Kind::CcsoY as usize + p] <= EACH + EACH * p {
         return false;
     }
     if p == 0 {
@@ -42,12 +42,12 @@ pub fn offset_plane(
     places: &[usize],
     p: usize,
     f: Frame,
-) -> Answer
+) -> Result<(), Refusal>
     requires { (p ≤ 2) × OffsetsLong (length numbers.now) (length flags.now) (length offsets.now) (length places.now) }
     ensures { PlaneOffset f (asked numbers.now flags.now offsets.now places.now) luma.now p plane.old result plane.new }
 {
     if !wants(f, places, p) {
-        return Answer::Accepted;
+        return Ok(());
     }
     let s = ccso_of(f, numbers, p);
     let a = FLAGS * p;
@@ -73,14 +73,14 @@ pub fn offset_planes(
     ensures { PlanesOffset f (asked numbers.now flags.now offsets.now places.now) luma.now (planes y.old u.old v.old) result (planes y.new u.new v.new) }
 {
     let a = offset_plane(y, luma, numbers, flags, offsets, places, 0, f);
-    if let Answer::Refused(_) = a {
+    if let Err(_) = a {
         return Applied {
             plane: 0,
             answer: a,
         };
     }
     let b = offset_plane(u, luma, numbers, flags, offsets, places, 1, f);
-    if let Answer::Refused(_) = b {
+    if let Err(_) = b {
         return Applied {
             plane: 1,
             answer: b,

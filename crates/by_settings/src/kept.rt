@@ -69,15 +69,13 @@ fn rectangle_at(rectangles: &[u16], i: usize, s: Cells) -> Keep
     }
 }
 
-// Marks the plane's cells that a list of rectangles keeps; those that lie in none stay as they were.
+// Marks the plane's cells that a list of rectangles keeps; those that lie in none stay as they were, and a rectangle that is refused marks none.
 pub fn keep_cells(keep: &mut [u8], rectangles: &[u16], s: Cells)
     ensures { keep.new ≡ kept_by s rectangles.now keep.old }
 {
     let n = rectangles.len() / 4;
-    let mut i: usize = 0;
-    while i < n {
-        keep_rectangle(keep, rectangle_at(rectangles, i, s));
-        i += 1;
+    for i in 0..n {
+        let _ = keep_rectangle(keep, rectangle_at(rectangles, i, s));
     }
 }
 

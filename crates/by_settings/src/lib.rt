@@ -1,7 +1,7 @@
 // What the settings of a picture ask for: the filters' own settings, CCSO over the planes, the cells that are kept, and where a refusal stands.
 #![tactic(auto)]
 
-// The kinds of settings.
+// A list of one entry for each kind of settings.
 pub mod kinds;
 
 // How long their lists are.

@@ -3,8 +3,8 @@ ghost use Rattle.std.specs.Prelude.{◌≡◌, ◌≤◌, min, max, length};
 ghost use Rattle.by_settings.specs.Rooms.{kinds, fewest_shorts, steps_room};
 ghost use Rattle.by_settings.specs.Lists.{lists_asked, steps_asked, ListsWithin};
 
-use crate::{kinds, rooms};
-use laws::{least, most};
+use crate::rooms;
+use settings::kinds::Kind;
 use settings::names::leaf_room;
 
 // Where the lists of short numbers begin and end.
@@ -29,7 +29,7 @@ pub struct Lists {
 pub fn limit(place: usize, from: usize, end: usize) -> usize
     ensures { result ≡ max from (min place end) }
 {
-    most(from, least(place, end))
+    from.max(place.min(end))
 }
 
 // How many steps stand in the table: those given, or all of the published ones.
@@ -39,7 +39,7 @@ pub fn steps_of(n: usize) -> usize
     if n == 0 {
         rooms::STEPS
     } else {
-        least(n, rooms::STEPS)
+        n.min(rooms::STEPS)
     }
 }
 
@@ -51,15 +51,15 @@ pub fn lists_of(places: &[usize], n: usize) -> Lists
     let room = leaf_room(n);
     let chroma = rooms::QINDEX + room;
     let skips = chroma + room;
-    let l = limit(places[kinds::LEAF], rooms::QINDEX, chroma);
-    let c = limit(places[kinds::LEAF_UV], chroma, skips);
+    let l = limit(places[Kind::Leaf as usize], rooms::QINDEX, chroma);
+    let c = limit(places[Kind::LeafUv as usize], chroma, skips);
     let tiles = skips + room;
     let chromatiles = tiles + rooms::TILES;
     let keeps = chromatiles + rooms::TILES;
-    let s = limit(places[kinds::SKIP], skips, tiles);
-    let t = limit(places[kinds::TILES_Y], tiles, chromatiles);
-    let u = limit(places[kinds::TILES_UV], chromatiles, keeps);
-    let k = limit(places[kinds::KEEP], keeps, keeps + rooms::KEEPS);
+    let s = limit(places[Kind::Skip as usize], skips, tiles);
+    let t = limit(places[Kind::TilesY as usize], tiles, chromatiles);
+    let u = limit(places[Kind::TilesUv as usize], chromatiles, keeps);
+    let k = limit(places[Kind::Keep as usize], keeps, keeps + rooms::KEEPS);
     if c == chroma {
         return Lists {
             entries: rooms::QINDEX,

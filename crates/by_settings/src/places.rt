@@ -3,7 +3,6 @@ ghost use Rattle.std.specs.Prelude.{◌≡◌};
 ghost use Rattle.by_settings.specs.Places.{place_in, over_top, sample_place, leaf_place, leaves_place};
 
 use rules::depth::Depth;
-use rules::refusals::Found;
 use rules::settings::Frame;
 use tiles::leaf::{bad_leaf, wide};
 
@@ -99,11 +98,11 @@ pub fn leaves_place(leaves: &[u16], chromaleaves: &[u16], skips: &[u16], k: usiz
     ensures { result ≡ leaves_place leaves.now chromaleaves.now skips.now k }
 {
     let a = bad_leaf(leaves, false);
-    if let Found::At(_) = a {
+    if let Some(_) = a {
         return leaf_place(LEAVES, leaves, k);
     }
     let b = bad_leaf(chromaleaves, false);
-    if let Found::At(_) = b {
+    if let Some(_) = b {
         return leaf_place(CHROMA_LEAVES, chromaleaves, k);
     }
     leaf_place(SKIPS, skips, k)

@@ -10,10 +10,9 @@ pub fn steps(bytes: &[u8]) -> [u32; 352]
     ensures { result ≡ steps_in 352 bytes.now }
 {
     let mut t = [0u32; 352];
-    let mut k: usize = 0;
-    while k < 352 {
+    // By index: step k stands at byte 4k, as the rule says.
+    for k in 0..352 {
         t[k] = four_at(bytes, 4 * k);
-        k += 1;
     }
     t
 }

@@ -11,10 +11,9 @@ pub fn samples(bytes: &[u8]) -> [u16; 72]
     ensures { result ≡ samples_in bytes.now }
 {
     let mut l = [0u16; 72];
-    let mut k: usize = 0;
-    while k < 72 {
+    // By index: sample k stands at byte 2k, as the rule says.
+    for k in 0..72 {
         l[k] = two_at(bytes, 2 * k);
-        k += 1;
     }
     l
 }
@@ -24,10 +23,9 @@ pub fn put_samples(bytes: &mut [u8], l: &[u16; 72])
     requires { length bytes.old ≡ 144 }
     ensures { bytes.new ≡ bytes_of l.now }
 {
-    let mut k: usize = 0;
-    while k < 72 {
+    // By index: sample k goes to byte 2k.
+    for k in 0..72 {
         put_two(bytes, 2 * k, l[k]);
-        k += 1;
     }
 }
 

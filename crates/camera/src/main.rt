@@ -5,6 +5,9 @@
 // The answer.
 mod say;
 
+// What the settings ask for.
+mod asked;
+
 // One frame.
 mod one_frame;
 
@@ -21,10 +24,9 @@ fn main(rt: HostRuntime) {
         errors: rt.stderr(),
     };
     let mut settings = buffer();
-    let n = word(&rt, 1, &mut settings);
-    if n == 0 {
+    let Some(settings) = word(&rt, 1, &mut settings) else {
         say::usage(&Target::Output(ends.output));
         return;
-    }
-    run::run(&rt, ends, &settings[..n]);
+    };
+    let _ = run::run(&rt, ends, settings);
 }

@@ -2,14 +2,18 @@
 #![tactic(auto)]
 
 // Whole lines in a lent buffer.
-mod lines;
+mod stream;
+
+// One line as it is read.
+mod asked;
+
+// Lists that a line has wider than a call.
+mod narrow;
 
 // Lists after a call, held against the line's.
-mod held;
+mod due;
 
-// Leaves of a line.
-mod leaves;
-
-pub use held::{held_u8s, held_u16s};
-pub use leaves::read_leaves;
-pub use lines::{Lines, line, next_line, start};
+pub use asked::Line;
+pub use due::Due;
+pub use narrow::{read_leaves, read_offsets};
+pub use stream::{NoLine, Stream};

@@ -1,6 +1,6 @@
 -- The checks in their order: the answer at each way out, and what an accepted input promises the run.
 -- Assumes nothing.
-use mathlib.Core.Path.{◌≡◌, refl, sym, ◌∙◌}
+use mathlib.Core.Path.{◌≡◌, sym, ◌∙◌}
 use mathlib.Core.Bool.{Bool, true, false, not}
 use mathlib.Core.List.{List}
 use Prim.Native.Nat.{ℕ, ◌+◌, ◌*◌, ◌≤◌, ◌<◌}
@@ -15,17 +15,18 @@ use Rattle.laws.specs.Choose.{pick, all_parts, both_parts, told_yes_not, told_no
 use Rattle.rules.specs.declared.settings.Ccso.{Ccso}
 use Rattle.rules.specs.declared.refusals.Refusal.{Refusal}
 use Rattle.rules.specs.declared.refusals.Refusal.TheVariants.{Depth, Size, Length, Setting, Sample}
-use Rattle.rules.specs.declared.refusals.Answer.{Answer}
-use Rattle.rules.specs.declared.refusals.Answer.TheVariants.{Accepted, Refused}
-use Rattle.rules.specs.declared.refusals.Found.{Found}
-use Rattle.rules.specs.declared.refusals.Found.TheVariants.{At, Nothing}
+use Rattle.rules.specs.Refusals.{Answer}
+use Rattle.std.specs.declared.result.Result.TheVariants.{Ok, Err}
+use Rattle.std.specs.Option.{is_some}
+use Rattle.std.specs.declared.option.Option.{Option}
+use Rattle.std.specs.declared.option.Option.TheVariants.{Some, None}
 use Rattle.rules.specs.Numbers.{depth_ok, top_of, in_range, in_range_z}
 use Rattle.rules.proofs.Depths.{by_depth}
 use Rattle.rules.specs.Frame.{superblocks}
-use Rattle.rules.specs.Refusals.{first, found_unless, over_top, over_row}
+use Rattle.rules.specs.Refusals.{first, found, found_unless, over_top, over_row}
 use Rattle.rules.specs.Ccso.{target_width, target_height, ccso_sizes_ok, ccso_lengths_ok, ccso_settings_ok, band_ok, offset_count, offset_ok, bad_offset, ccso_check, ccso_of, ccso_after}
 use Rattle.checks.proofs.First.{nothing_all, over_nothing, unless_nothing}
-use Rattle.checks.proofs.Checks.{stop, go_on, unless_bad, unless_good, found_bad_by, found_good_by, else_parts, unless_true, found_nothing, settle_refused_by, settle_accepted_by}
+use Rattle.checks.proofs.Checks.{stop, go_on, unless_bad, unless_good, else_parts, unless_true, found_nothing, settle_refused, settle_accepted}
 use Rattle.ccso_sample.specs.Ranges.{SignedWithin, Ranges}
 use Rattle.ccso.specs.Lists.{CcsoFits}
 use Rattle.ccso.specs.Stated.{Stated}
@@ -36,47 +37,58 @@ use Rattle.ccso.proofs.Lengths.{sizable}
 
 -- ---- each way out of the checks
 
+-- by whether a search found one, wherever
+some_bad : (f g : Option ℕ) → f ≡ g → true ≡ is_some f → Err Setting ≡ found g (λ k. Setting)
+unfolding found
+some_bad (Some k) g e h = rw (← e)
+some_bad None g e h = absurd (let z : ◌≡◌ {A = ℕ} 0 1 = cc in omega arith)
+
+none_good : (f g : Option ℕ) → f ≡ g → false ≡ is_some f → Ok tt ≡ found g (λ k. Setting)
+unfolding found
+none_good (Some k) g e h = absurd (let z : ◌≡◌ {A = ℕ} 0 1 = cc in omega arith)
+none_good None g e h = rw (← e)
+
 module _ (s : Ccso) (luma flags : List ℕ) (offsets : List ℤ) (t : List ℕ) where
-  pub answer_depth : false ≡ depth_ok s.depth → Refused Depth ≡ ccso_check s luma flags offsets t
+  pub answer_depth : false ≡ depth_ok s.depth → Err Depth ≡ ccso_check s luma flags offsets t
   unfolding ccso_check
   answer_depth e = stop _ _ (unless_bad _ _ e)
 
   module _ (d : true ≡ depth_ok s.depth) where
-    pub answer_size : false ≡ ccso_sizes_ok s → Refused Size ≡ ccso_check s luma flags offsets t
+    pub answer_size : false ≡ ccso_sizes_ok s → Err Size ≡ ccso_check s luma flags offsets t
     unfolding ccso_check
     answer_size e = go_on _ _ _ (unless_good _ _ d) (stop _ _ (unless_bad _ _ e))
 
     module _ (z : true ≡ ccso_sizes_ok s) where
-      pub answer_length : false ≡ ccso_lengths_ok s (length luma) (length t) (length flags) (length offsets) → Refused Length ≡ ccso_check s luma flags offsets t
+      pub answer_length : false ≡ ccso_lengths_ok s (length luma) (length t) (length flags) (length offsets) → Err Length ≡ ccso_check s luma flags offsets t
       unfolding ccso_check
       answer_length e = go_on _ _ _ (unless_good _ _ d) (go_on _ _ _ (unless_good _ _ z) (stop _ _ (unless_bad _ _ e)))
 
       module _ (l : true ≡ ccso_lengths_ok s (length luma) (length t) (length flags) (length offsets)) where
-        pub answer_setting : false ≡ ccso_settings_ok s → Refused Setting ≡ ccso_check s luma flags offsets t
+        pub answer_setting : false ≡ ccso_settings_ok s → Err Setting ≡ ccso_check s luma flags offsets t
         unfolding ccso_check
         answer_setting e =
             go_on _ _ _ (unless_good _ _ d) (go_on _ _ _ (unless_good _ _ z) (go_on _ _ _ (unless_good _ _ l) (stop _ _ (unless_bad _ _ e))))
 
-        module _ (o : true ≡ ccso_settings_ok s) (n : ℕ) (c : n ≡ offset_count s) (f : Found) (b : f ≡ first n (λ k. found_unless (offset_ok offsets k) k)) where
+        module _ (o : true ≡ ccso_settings_ok s) (n : ℕ) (c : n ≡ offset_count s) (f : Option ℕ) (b : f ≡ first n (λ k. found_unless (offset_ok offsets k) k)) where
           offset_first : f ≡ bad_offset s offsets
           unfolding bad_offset
           offset_first = rw c at b
 
-          pub answer_offset : {k : ℕ} → f ≡ At k → Refused Setting ≡ ccso_check s luma flags offsets t
+          pub answer_offset : true ≡ is_some f → Err Setting ≡ ccso_check s luma flags offsets t
           unfolding ccso_check
           answer_offset h =
               go_on _ _ _ (unless_good _ _ d)
               (go_on _ _ _ (unless_good _ _ z)
               (go_on _ _ _ (unless_good _ _ l)
-              (go_on _ _ _ (unless_good _ _ o) (stop _ _ (found_bad_by _ f (λ k. Setting) Setting offset_first h refl)))))
+              (go_on _ _ _ (unless_good _ _ o) (stop _ _ (some_bad f _ offset_first h)))))
 
-          pub answer_samples : (a : Answer) → f ≡ Nothing → a ≡ samples_check s luma t → a ≡ ccso_check s luma flags offsets t
+          pub answer_samples : (a : Answer) → false ≡ is_some f → a ≡ samples_check s luma t → a ≡ ccso_check s luma flags offsets t
           unfolding ccso_check samples_check
           answer_samples a h e =
               go_on _ _ _ (unless_good _ _ d)
               (go_on _ _ _ (unless_good _ _ z)
               (go_on _ _ _ (unless_good _ _ l)
-              (go_on _ _ _ (unless_good _ _ o) (go_on _ _ _ (found_good_by _ f (λ k. Setting) offset_first h) e))))
+              (go_on _ _ _ (unless_good _ _ o) (go_on _ _ _ (none_good f _ offset_first h) e))))
 
 -- ---- what the tests give
 
@@ -181,17 +193,17 @@ ranges s d z e =
     }
 
 -- no sample found over top, and no bad offset
-clean : (top : ℕ) (xs : List ℕ) (n : ℕ) → over_row top xs 0 n ≡ Nothing → (i : ℕ) → i < n → get_or xs i 0 ≤ top
+clean : (top : ℕ) (xs : List ℕ) (n : ℕ) → over_row top xs 0 n ≡ None → (i : ℕ) → i < n → get_or xs i 0 ≤ top
 unfolding over_row
 clean top xs n e i h = rw (zero-add i) at (over_nothing top xs (0 + i) (nothing_all (λ x. over_top top xs (0 + x)) n e i h))
 
-small_offset : (s : Ccso) (offsets : List ℤ) → bad_offset s offsets ≡ Nothing → (k : ℕ) → k < offset_count s → SignedWithin (get_or offsets k (pos 0)) 10
+small_offset : (s : Ccso) (offsets : List ℤ) → bad_offset s offsets ≡ None → (k : ℕ) → k < offset_count s → SignedWithin (get_or offsets k (pos 0)) 10
 unfolding bad_offset offset_ok
 small_offset s offsets e k h =
     let p = range_parts (get_or offsets k (pos 0)) 10 7 (unless_nothing _ k (nothing_all _ (offset_count s) e k h)) in
     record { high = omega (arith, p.1); low = p.0 }
 
-module _ (s : Ccso) (luma flags : List ℕ) (offsets : List ℤ) (t : List ℕ) (e : ccso_check s luma flags offsets t ≡ Accepted) where
+module _ (s : Ccso) (luma flags : List ℕ) (offsets : List ℤ) (t : List ℕ) (e : ccso_check s luma flags offsets t ≡ Ok tt) where
   pub accepted : Ranges s × CcsoFits s luma offsets (length t) (length flags)
   unfolding ccso_check
   accepted =
@@ -220,20 +232,18 @@ module _ (s : Ccso) (luma flags : List ℕ) (offsets : List ℤ) (t : List ℕ) 
       clean _ _ _ (found_nothing _ Sample (else_parts _ _ p5.1).1)
 
 -- the entry's two ways out
-module _ (s : Ccso) (luma flags : List ℕ) (offsets : List ℤ) (t : List ℕ) (a : Answer) (is : a ≡ ccso_check s luma flags offsets t) where
-  pub stated_refused : {r : Refusal} → a ≡ Refused r → Stated s luma flags offsets t (Refused r) t
+module _ (s : Ccso) (luma flags : List ℕ) (offsets : List ℤ) (t : List ℕ) where
+  pub stated_refused : {r : Refusal} → Err r ≡ ccso_check s luma flags offsets t → Stated s luma flags offsets t (Err r) t
   unfolding ccso_after
-  stated_refused e = record { answer = sym e ∙ is; target = settle_refused_by _ a _ _ is e }
+  stated_refused e = record { answer = e; target = settle_refused _ _ _ e }
 
-  pub stated_run : (q : List ℕ) → a ≡ Accepted → q ≡ ccso_of s luma flags offsets t → Stated s luma flags offsets t Accepted q
+  pub stated_run : (q : List ℕ) → Ok tt ≡ ccso_check s luma flags offsets t → q ≡ ccso_of s luma flags offsets t → Stated s luma flags offsets t (Ok tt) q
   unfolding ccso_after
-  stated_run q e g = record { answer = sym e ∙ is; target = settle_accepted_by _ a _ _ _ is e g }
+  stated_run q e g = record { answer = e; target = settle_accepted _ _ _ _ e g }
 
 -- any two results that the statement allows are equal
 pub one_result : {s : Ccso} {luma flags : List ℕ} {offsets : List ℤ} {t : List ℕ} {r r' : Answer} {q q' : List ℕ} → Stated s luma flags offsets t r q → Stated s luma flags offsets t r' q' → (r ≡ r') × (q ≡ q')
 one_result a b = (a.answer ∙ sym b.answer, a.target ∙ sym b.target)
-
-pub ruleset entry = (rules, stated_refused, stated_run)
 
 pub ruleset answers = (rules, told_yes_not, told_no_not, answer_depth, answer_size, answer_length, answer_setting, answer_offset, answer_samples)
 

@@ -3,7 +3,7 @@
 use mathlib.Core.Path.{◌≡◌, refl, sym, ap, ◌∙◌}
 use mathlib.Core.Bool.{Bool, true, false, not}
 use mathlib.Core.List.{List}
-use Prim.Native.Nat.{ℕ, ◌+◌, ◌*◌, ◌/◌, ◌≤◌, ◌<◌}
+use Prim.Native.Nat.{ℕ, ◌*◌, ◌≤◌, ◌<◌}
 use native.Mathlib.Omega.{arith}
 use borrow.Author.Rules.{rules}
 use borrow.Author.Tests.{leb-true, not-true, not-false}
@@ -15,16 +15,16 @@ use mir.Val.{Fits, SFits, to_z, of_z}
 use Rattle.laws.specs.Choose.{all_bad, all_ok, all_last, all_later, all_parts, both_parts, pick_yes, pick_no, is_le, not_le}
 use Rattle.laws.specs.Machine.{widened, wide_same}
 use Rattle.rules.specs.declared.settings.Ccso.{Ccso}
-use Rattle.rules.specs.declared.refusals.Found.{Found}
-use Rattle.rules.specs.declared.refusals.Found.TheVariants.{At, Nothing}
+use Rattle.std.specs.declared.option.Option.TheVariants.{Some, None}
 use Rattle.rules.specs.Numbers.{in_range, in_range_z, subsampling_ok, top_of}
 use Rattle.rules.specs.Frame.{halved, superblocks}
+use Rattle.rules.specs.declared.refusals.Refusal.{Refusal}
 use Rattle.rules.specs.declared.refusals.Refusal.TheVariants.{Sample}
-use Rattle.rules.specs.declared.refusals.Answer.TheVariants.{Accepted, Refused}
-use Rattle.rules.specs.Refusals.{found_unless, over_row}
+use Rattle.std.specs.declared.result.Result.TheVariants.{Ok, Err}
+use Rattle.rules.specs.Refusals.{Answer, found, found_unless, over_row}
 use Rattle.rules.specs.Ccso.{target_width, target_height, ccso_sizes_ok, ccso_lengths_ok, band_ok, offset_count, offset_ok}
 use Rattle.checks.proofs.First.{firsts, found_unless_holds, found_unless_not}
-use Rattle.checks.proofs.Checks.{stop, go_on, found_bad_by, found_good_by}
+use Rattle.checks.proofs.Checks.{stop, go_on}
 use Rattle.ccso.specs.Checks.{samples_check}
 use Rattle.rounding.proofs.Within.{samples_fit, superblocks_fit}
 
@@ -116,34 +116,29 @@ module _ (offsets : List ℤ) (k : ℕ) (fit : SFits w8 (get_or offsets k (pos 0
     unfolding offset_ok
     told = rw (wide_same w8 w32 tt fit) at e
 
-    pub offset_bad : not u ≡ true → At k ≡ found_unless (offset_ok offsets k) k
+    pub offset_bad : not u ≡ true → Some k ≡ found_unless (offset_ok offsets k) k
     offset_bad f = found_unless_holds _ k (sym (not-true u f) ∙ told)
 
-    pub offset_good : not u ≡ false → Nothing ≡ found_unless (offset_ok offsets k) k
+    pub offset_good : not u ≡ false → None ≡ found_unless (offset_ok offsets k) k
     offset_good f = found_unless_not _ k (sym (not-false u f) ∙ told)
 
 pub ruleset offsets_first = (firsts, offset_word, offset_bad, offset_good)
 
--- ---- samples: f is what the search in luma found, g what the one in the target did
+-- ---- samples
 
-module _ (s : Ccso) (luma t : List ℕ) (top : ℕ) (e : top ≡ top_of s.depth) (f : Found) (l : f ≡ over_row top luma 0 (s.height * s.width)) where
-  pub luma_over : {k : ℕ} → f ≡ At k → Refused (Sample k) ≡ samples_check s luma t
+module _ (s : Ccso) (luma t : List ℕ) (top : ℕ) (e : top ≡ top_of s.depth) where
+  pub luma_over : {r : Refusal} → Err r ≡ found (over_row top luma 0 (s.height * s.width)) Sample → Err r ≡ samples_check s luma t
   unfolding samples_check
-  luma_over h = stop _ _ (found_bad_by _ f _ _ (rw e at l) h refl)
+  luma_over l = stop _ _ (rw e at l)
 
-  module _ (n : f ≡ Nothing) (a b : ℕ) (high : a ≡ halved s.ssy s.height) (wide : b ≡ halved s.ssx s.width) (g : Found) (m : g ≡ over_row top t 0 (a * b)) where
-    pub target_over : {k : ℕ} → g ≡ At k → Refused (Sample k) ≡ samples_check s luma t
-    unfolding samples_check target_height target_width
-    target_over h = go_on _ _ _ (found_good_by _ f _ (rw e at l) n) (found_bad_by _ g _ _ (rw (e, high, wide) at m) h refl)
+  pub luma_low : (a b : ℕ) (x : Answer) → Ok tt ≡ found (over_row top luma 0 (s.height * s.width)) Sample → a ≡ halved s.ssy s.height → b ≡ halved s.ssx s.width → x ≡ found (over_row top t 0 (a * b)) Sample → x ≡ samples_check s luma t
+  unfolding samples_check target_height target_width
+  luma_low a b x l high wide m = go_on _ _ _ (rw e at l) (rw (e, high, wide) at m)
 
-    pub none_over : g ≡ Nothing → Accepted ≡ samples_check s luma t
-    unfolding samples_check target_height target_width
-    none_over h = go_on _ _ _ (found_good_by _ f _ (rw e at l) n) (found_good_by _ g _ (rw (e, high, wide) at m) h)
-
-pub target_long : (s : Ccso) (a b n : ℕ) → a ≡ halved s.ssy s.height → b ≡ halved s.ssx s.width → target_height s * target_width s ≤ n → 0 + a * b ≤ n
+pub target_long : (s : Ccso) (a b n : ℕ) → a ≡ halved s.ssy s.height → b ≡ halved s.ssx s.width → target_height s * target_width s ≤ n → a * b ≤ n
 unfolding target_height target_width
-target_long s a b n e f h = rw (e, f) (omega arith)
+target_long s a b n e f h = rw (e, f) h
 
-pub ruleset samples = (rules, sizable, across_ok, down_ok, area_fits, samples_fit, target_long, luma_over, target_over, none_over)
+pub ruleset samples = (rules, sizable, across_ok, down_ok, area_fits, samples_fit, target_long)
 
 pub ruleset lengths = (rules, sizable, wide_ok, high_ok, across_ok, down_ok, area_fits, samples_fit, superblocks_fit, short_luma, short_flags, short_target, no_band, counted)

@@ -3,8 +3,7 @@
 use mathlib.Core.Path.{◌≡◌, refl, sym, ap, ◌∙◌}
 use mathlib.Core.Bool.{Bool, true, false, not}
 use mathlib.Core.List.{List, [], ◌∷◌, ◌++◌}
-use Prim.Native.Nat.{ℕ, zero, suc, ◌+◌, ◌-◌, ◌≤◌, ◌<◌}
-use native.Mathlib.Omega.{arith}
+use Prim.Native.Nat.{ℕ, ◌≤◌, ◌<◌}
 use borrow.Author.Tests.{not-true, not-false}
 use lib.Dec.{leb}
 use lib.IntN.{ℤ, pos, neg_ℤ}
@@ -17,8 +16,7 @@ use Rattle.laws.specs.Whole.{over, under}
 use Rattle.laws.specs.Machine.{back}
 use Rattle.rules.specs.declared.settings.Ccso.{Ccso}
 use Rattle.rules.specs.Numbers.{in_range_z}
-use Rattle.rules.specs.Ccso.{ccso_settings_ok, band_ok}
-use Rattle.ccso_sample.specs.Ranges.{SignedWithin}
+use Rattle.rules.specs.Ccso.{ccso_settings_ok}
 use Rattle.ccso.specs.Checks.{cuts_ok, classes_ok, taps_ok}
 use Rattle.checks.proofs.Ranges.{range_below, range_above}
 

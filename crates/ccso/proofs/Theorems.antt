@@ -8,13 +8,13 @@ use native.Mathlib.Omega.{arith}
 use borrow.Author.Tests.{eq-eqb}
 use lib.Dec.{eqb}
 use lib.ListN.{get_or, length}
-use lib.IntN.{ℤ, pos, negsuc, ◌+ℤ◌, ◌*ℤ◌}
+use lib.IntN.{ℤ, pos, ◌+ℤ◌, ◌*ℤ◌}
 use Rattle.laws.specs.Choose.{pick}
 use Rattle.laws.specs.Whole.{limit_most}
 use Rattle.rules.specs.declared.settings.Ccso.{Ccso}
 use Rattle.rules.specs.declared.refusals.Refusal.{Refusal}
-use Rattle.rules.specs.declared.refusals.Answer.{Answer}
-use Rattle.rules.specs.declared.refusals.Answer.TheVariants.{Accepted, Refused}
+use Rattle.rules.specs.Refusals.{Answer}
+use Rattle.std.specs.declared.result.Result.TheVariants.{Ok, Err}
 use Rattle.rules.specs.Numbers.{top_of}
 use Rattle.rules.specs.Ccso.{target_width, target_height, block_of, place_at, offset_sample, sample_at, ccso_check, ccso_of, ccso_after}
 use Rattle.checks.proofs.Checks.{settle_refused, settle_accepted}
@@ -43,21 +43,21 @@ module _ (s : Ccso) (luma flags : List ℕ) (offsets : List ℤ) (x y v : ℕ) w
 
 module _ {s : Ccso} {luma flags : List ℕ} {offsets : List ℤ} {t : List ℕ} {r : Answer} {q : List ℕ} (st : Stated s luma flags offsets t r q) where
   -- a refusal leaves the target as lent
-  pub refused_kept : {f : Refusal} → r ≡ Refused f → q ≡ t
+  pub refused_kept : {f : Refusal} → r ≡ Err f → q ≡ t
   unfolding ccso_after
   refused_kept e = st.target ∙ sym (settle_refused (ccso_check s luma flags offsets t) t _ (sym e ∙ st.answer))
 
-  run_of : r ≡ Accepted → q ≡ ccso_of s luma flags offsets t
+  run_of : r ≡ Ok tt → q ≡ ccso_of s luma flags offsets t
   unfolding ccso_after
   run_of e = st.target ∙ sym (settle_accepted (ccso_check s luma flags offsets t) t _ _ (sym e ∙ st.answer) refl)
 
   -- what an accepted call and a refused one both leave
-  by_answer : (P : List ℕ → Type 0) → P t → (r ≡ Accepted → P (ccso_of s luma flags offsets t)) → P q
+  by_answer : (P : List ℕ → Type 0) → P t → (r ≡ Ok tt → P (ccso_of s luma flags offsets t)) → P q
   by_answer P p f = go r refl
     where
       go : (a : Answer) → r ≡ a → P q
-      go Accepted e = rw (run_of e) (f e)
-      go (Refused g) e = rw (refused_kept e) p
+      go (Ok tt) e = rw (run_of e) (f e)
+      go (Err g) e = rw (refused_kept e) p
 
   -- the target keeps its length, and everything past its size
   pub length_kept : length q ≡ length t
@@ -69,7 +69,7 @@ module _ {s : Ccso} {luma flags : List ℕ} {offsets : List ℤ} {t : List ℕ} 
   -- a sample of the target
   module _ (x y : ℕ) (h : x < target_width s) (l : y < target_height s) where
     -- each sample after an accepted call is the rules' of the lent planes
-    pub each_sample : r ≡ Accepted → get_or q (y * target_width s + x) 0 ≡ sample_at s luma flags offsets x y (get_or t (y * target_width s + x) 0)
+    pub each_sample : r ≡ Ok tt → get_or q (y * target_width s + x) 0 ≡ sample_at s luma flags offsets x y (get_or t (y * target_width s + x) 0)
     each_sample e =
         ap (λ (q : List ℕ). get_or q (y * target_width s + x) 0) (run_of e)
         ∙ target_at s luma flags offsets x y t h l
@@ -80,11 +80,11 @@ module _ {s : Ccso} {luma flags : List ℕ} {offsets : List ℤ} {t : List ℕ} 
     flag_kept f = go r refl
       where
         go : (a : Answer) → r ≡ a → get_or q (y * target_width s + x) 0 ≡ get_or t (y * target_width s + x) 0
-        go Accepted e = each_sample e ∙ sample_off s luma flags offsets x y _ f
-        go (Refused g) e = ap (λ (l : List ℕ). get_or l (y * target_width s + x) 0) (refused_kept e)
+        go (Ok tt) e = each_sample e ∙ sample_off s luma flags offsets x y _ f
+        go (Err g) e = ap (λ (l : List ℕ). get_or l (y * target_width s + x) 0) (refused_kept e)
 
     -- accepted samples stay in 0..top
-    pub samples_stay : r ≡ Accepted → get_or q (y * target_width s + x) 0 ≤ top_of s.depth
+    pub samples_stay : r ≡ Ok tt → get_or q (y * target_width s + x) 0 ≤ top_of s.depth
     samples_stay e =
         rw (each_sample e)
         (sample_low s luma flags offsets x y _

@@ -6,7 +6,7 @@ use Rattle.laws.specs.Choose.{all}
 use Rattle.rules.specs.declared.settings.Ccso.{Ccso}
 use Rattle.rules.specs.Numbers.{in_range}
 use Rattle.rules.specs.declared.refusals.Refusal.TheVariants.{Sample}
-use Rattle.rules.specs.declared.refusals.Answer.{Answer}
+use Rattle.rules.specs.Refusals.{Answer}
 use Rattle.rules.specs.Numbers.{top_of}
 use Rattle.rules.specs.Refusals.{or_else, found, over_row}
 use Rattle.rules.specs.Ccso.{target_width, target_height, cut_ok, tap_ok, band_ok}

@@ -2,7 +2,7 @@
 -- Assumes nothing.
 use Rattle.std.specs.Prelude.{◌≡◌, List, ℕ, ℤ}
 use Rattle.rules.specs.declared.settings.Ccso.{Ccso}
-use Rattle.rules.specs.declared.refusals.Answer.{Answer}
+use Rattle.rules.specs.Refusals.{Answer}
 use Rattle.rules.specs.Ccso.{ccso_check, ccso_after}
 
 pub record Stated (s : Ccso) (luma flags : List ℕ) (offsets : List ℤ) (lent : List ℕ) (r : Answer) (left : List ℕ) : Type 0 where

@@ -4,7 +4,7 @@ ghost use Rattle.ccso.specs.Stated.{Stated};
 
 use crate::check::check;
 use crate::rows::run;
-use rules::refusals::Answer;
+use rules::refusals::Refusal;
 use rules::settings::Ccso;
 
 // The gated offsets of a target, or why it is refused and kept as lent.
@@ -14,13 +14,10 @@ pub fn apply_edge_gated(
     flags: &[u8],
     offsets: &[i8],
     s: Ccso,
-) -> Answer
+) -> Result<(), Refusal>
     ensures { Stated s luma.now flags.now offsets.now target.old result target.new }
 {
-    let a = check(luma, target, flags, offsets, s);
-    if let Answer::Refused(r) = a {
-        return Answer::Refused(r);
-    }
+    check(luma, target, flags, offsets, s)?;
     run(luma, target, flags, offsets, s);
-    Answer::Accepted
+    Ok(())
 }

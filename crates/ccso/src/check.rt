@@ -3,14 +3,15 @@ ghost use Rattle.std.specs.Prelude.{◌≡◌, Bool, true, ◌≤◌, ◌*◌, p
 ghost use Rattle.std.specs.Int.Signed.{le_z};
 ghost use Rattle.rules.specs.Numbers.{depth_ok, in_range, in_range_z};
 ghost use Rattle.rules.specs.Ccso.{target_width, target_height, ccso_sizes_ok, ccso_lengths_ok, ccso_settings_ok, offset_ok, offset_count, ccso_check};
-ghost use Rattle.rules.specs.Refusals.{first, found_unless};
+ghost use Rattle.rules.specs.Refusals.{first, found, found_unless, over_row};
+ghost use Rattle.rules.specs.declared.refusals.Refusal.TheVariants.{Sample};
 ghost use Rattle.ccso.specs.Checks.{cuts_ok, classes_ok, taps_ok, samples_check};
 
 use checks::row;
-use laws::split;
+use laws::Gap;
 use rounding::{halved, superblocks};
 use rules::depth::Depth;
-use rules::refusals::{Answer, Found, Refusal};
+use rules::refusals::Refusal;
 use rules::settings::Ccso;
 
 fn sizes_ok(s: Ccso) -> bool
@@ -38,7 +39,7 @@ fn sizes_ok(s: Ccso) -> bool
 fn in_range(v: i32, low: u32, high: u32) -> bool
     ensures { result ≡ in_range_z (neg_ℤ (pos low)) (pos high) v }
 {
-    let g = split(v);
+    let g = Gap::from(v);
     if low < g.down {
         return false;
     }
@@ -149,56 +150,66 @@ fn count_of(s: Ccso) -> usize
 }
 
 // The first of count offsets that is not in -10..7.
-fn bad_offset(offsets: &[i8], count: usize) -> Found
+fn bad_offset(offsets: &[i8], count: usize) -> Option<usize>
     requires { count ≤ length offsets.now }
     ensures { result ≡ first count (λ k. found_unless (offset_ok offsets.now k) k) }
 {
     for k in 0..count {
         let o = offsets[k];
         if !in_range(o as i32, 10, 7) {
-            return Found::At(k);
+            return Some(k);
         }
     }
-    Found::Nothing
+    None
 }
 
 // The first refusal, or none.
-pub fn check(luma: &[u16], target: &[u16], flags: &[u8], offsets: &[i8], s: Ccso) -> Answer
+pub fn check(
+    luma: &[u16],
+    target: &[u16],
+    flags: &[u8],
+    offsets: &[i8],
+    s: Ccso,
+) -> Result<(), Refusal>
     ensures { result ≡ ccso_check s luma.now flags.now offsets.now target.now }
 {
     if !Depth::is(s.depth) {
-        return Answer::Refused(Refusal::Depth);
+        return Err(Refusal::Depth);
     }
     if !sizes_ok(s) {
-        return Answer::Refused(Refusal::Size);
+        return Err(Refusal::Size);
     }
     if !lengths_ok(s, luma.len(), target.len(), flags.len(), offsets.len()) {
-        return Answer::Refused(Refusal::Length);
+        return Err(Refusal::Length);
     }
     if !settings_ok(s) {
-        return Answer::Refused(Refusal::Setting);
+        return Err(Refusal::Setting);
     }
-    if let Found::At(_) = bad_offset(offsets, count_of(s)) {
-        return Answer::Refused(Refusal::Setting);
+    if bad_offset(offsets, count_of(s)).is_some() {
+        return Err(Refusal::Setting);
     }
     samples_ok(luma, target, s)
 }
 
+// Refusal 8 of the first count samples of a list.
+fn list_ok(xs: &[u16], count: usize, top: u16) -> Result<(), Refusal>
+    requires { count ≤ length xs.now }
+    ensures { result ≡ found (over_row top xs.now 0 count) Sample }
+{
+    match row(xs, 0, count, top) {
+        Some(k) => Err(Refusal::Sample(k)),
+        None => Ok(()),
+    }
+}
+
 // The last check: every sample of luma, then of the target.
-fn samples_ok(luma: &[u16], target: &[u16], s: Ccso) -> Answer
+fn samples_ok(luma: &[u16], target: &[u16], s: Ccso) -> Result<(), Refusal>
     requires { (depth_ok s.depth ≡ true) × (ccso_sizes_ok s ≡ true) × (s.height * s.width ≤ length luma.now) × (target_height s * target_width s ≤ length target.now) }
     ensures { result ≡ samples_check s luma.now target.now }
 {
     let d = Depth { bits: s.depth };
     let top = d.top();
-    let over = row(luma, 0, s.height * s.width, top);
-    if let Found::At(k) = over {
-        return Answer::Refused(Refusal::Sample(k));
-    }
+    list_ok(luma, s.height * s.width, top)?;
     let count = halved(s.ssy, s.height) * halved(s.ssx, s.width);
-    let past = row(target, 0, count, top);
-    if let Found::At(k) = past {
-        return Answer::Refused(Refusal::Sample(k));
-    }
-    Answer::Accepted
+    list_ok(target, count, top)
 }

@@ -10,7 +10,6 @@ ghost use Rattle.ccso.specs.Lists.{CcsoFits, moved_cell, block_row};
 use ccso_sample::counts::{Counts, Sizes, counts_of, sizes_of};
 use ccso_sample::sample::sample_at;
 use ccso_sample::taps::{Row, limited};
-use laws::least;
 use rules::settings::Ccso;
 
 // Row y of the target.
@@ -94,7 +93,7 @@ fn block(
         return;
     }
     let start = b * z.blockw;
-    let end = least(start + z.blockw, z.width);
+    let end = (start + z.blockw).min(z.width);
     cells(luma, target, offsets, s, k, r, start, end - start);
 }
 

@@ -7,7 +7,6 @@ ghost use Rattle.rules.specs.Plane.{cell_of, cell_before, capped_of, index_at, s
 ghost use Rattle.cell_edges.specs.Cells.{Sizes, Cell, Inner, Indices, sized, marked, starting, short_by};
 
 use crate::starts::starts_tile;
-use laws::least;
 use lengths::ladder::filter_lengths;
 use rules::settings::Plane;
 
@@ -50,9 +49,9 @@ fn capped(chroma: bool, place: usize, size: usize, m: usize) -> usize
     ensures { (result ≡ capped_of chroma place size m) × (result ≤ 6) }
 {
     if chroma {
-        if size < place + 8 { least(m, 1) } else { m }
+        if size < place + 8 { m.min(1) } else { m }
     } else {
-        if size < place + 16 { least(m, 2) } else { m }
+        if size < place + 16 { m.min(2) } else { m }
     }
 }
 
@@ -63,7 +62,7 @@ fn index_at(sizes: &[u8], s: Plane, dir: usize, r: usize, c: usize) -> usize
 {
     let i = cell_of(s, r, c);
     let b = cell_before(s, dir, r, c);
-    let m = least(wide(sizes[i]), wide(sizes[b]));
+    let m = wide(sizes[i]).min(wide(sizes[b]));
     capped(
         s.chroma,
         by_dir(dir, c * 4, r * 4),
@@ -107,9 +106,5 @@ pub fn is_edge(marks: &[u8], s: Plane, dir: usize, r: usize, c: usize) -> bool
     requires { Sizes s × Cell s r c × (s.rows * s.cols ≤ length marks.now) }
     ensures { result ≡ is_edge s (marked marks.now) dir r c }
 {
-    if by_dir(dir, c, r) == 0 {
-        return false;
-    }
-    let i = cell_of(s, r, c);
-    marks[i] == 1
+    by_dir(dir, c, r) != 0 && marks[cell_of(s, r, c)] == 1
 }

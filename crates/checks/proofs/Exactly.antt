@@ -8,10 +8,10 @@ use Prim.Native.Nat.{ℕ, zero, suc, ◌+◌, ◌≤◌, ◌<◌}
 use native.Mathlib.Omega.{arith}
 use borrow.Author.Tests.{ltb-true}
 use Rattle.rules.specs.declared.refusals.Refusal.{Refusal}
-use Rattle.rules.specs.declared.refusals.Answer.{Answer}
-use Rattle.rules.specs.declared.refusals.Answer.TheVariants.{Accepted, Refused}
-use Rattle.rules.specs.declared.refusals.Found.{Found}
-use Rattle.rules.specs.declared.refusals.Found.TheVariants.{At, Nothing}
+use Rattle.rules.specs.Refusals.{Answer}
+use Rattle.std.specs.declared.result.Result.TheVariants.{Ok, Err}
+use Rattle.std.specs.declared.option.Option.{Option}
+use Rattle.std.specs.declared.option.Option.TheVariants.{Some, None}
 use Rattle.rules.specs.Refusals.{number_of, place_refused, or_else, unless, found, only_if}
 use Rattle.checks.specs.Exactly.{Test, ask, seek, seek_any, and_then, asked_if, Holds, Fails, answer_of, Check, check, refusal_of, chain, turn_of, has_place, placed, in_order, Given, Each, Exactly, Among}
 use Rattle.checks.proofs.Checks.{refused_not}
@@ -22,10 +22,10 @@ use Rattle.checks.proofs.Checks.{refused_not}
 outcome : (t : Test) → Holds t ⊎ ((p : ℕ) × Fails t p)
 outcome (ask true) = inl refl
 outcome (ask false) = inr (0, (refl, refl))
-outcome (seek (At k)) = inr (k, refl)
-outcome (seek Nothing) = inl refl
-outcome (seek_any (At k)) = inr (0, ((k, refl), refl))
-outcome (seek_any Nothing) = inl refl
+outcome (seek (Some k)) = inr (k, refl)
+outcome (seek None) = inl refl
+outcome (seek_any (Some k)) = inr (0, ((k, refl), refl))
+outcome (seek_any None) = inl refl
 outcome (and_then s t) =
     ⊎_elim
     (λ h. ⊎_elim (λ i. inl (h, i)) (λ f. inr (f.0, inr (h, f.1))) (outcome t))
@@ -35,7 +35,7 @@ outcome (asked_if true t) = ⊎_elim (λ h. inl (λ e. h)) (λ f. inr (f.0, (ref
 outcome (asked_if false t) = inl (λ e. absurd (let z : ◌≡◌ {A = ℕ} 0 1 = cc in omega arith))
 
 module _ (r : ℕ → Refusal) where
-  held : (t : Test) → Holds t → answer_of r t ≡ Accepted
+  held : (t : Test) → Holds t → answer_of r t ≡ Ok tt
   unfolding unless found or_else only_if
   held (ask b) h = rw h
   held (seek f) h = rw h
@@ -44,7 +44,7 @@ module _ (r : ℕ → Refusal) where
   held (asked_if true t) h = held t (h refl)
   held (asked_if false t) h = refl
 
-  failed : (t : Test) (p : ℕ) → Fails t p → answer_of r t ≡ Refused (r p)
+  failed : (t : Test) (p : ℕ) → Fails t p → answer_of r t ≡ Err (r p)
   unfolding unless found or_else only_if
   failed (ask b) p h = rw (h.0, h.1)
   failed (seek f) p h = rw h
@@ -112,10 +112,10 @@ place_of k (asked_if b t) p e f = place_of k t p e f.1
 
 -- ---- a chain
 
-else_accepted : (a : Answer) → a ≡ or_else a Accepted
+else_accepted : (a : Answer) → a ≡ or_else a (Ok tt)
 unfolding or_else
-else_accepted Accepted = refl
-else_accepted (Refused r) = refl
+else_accepted (Ok tt) = refl
+else_accepted (Err r) = refl
 
 module _ (c : Check) where
   chain_more : (cs : List Check) → chain (c ∷ cs) ≡ or_else (answer_of (refusal_of c.number) c.test) (chain cs)
@@ -126,15 +126,15 @@ module _ (c : Check) where
   unfolding or_else
   goes_on_holds cs h = chain_more cs ∙ rw (held (refusal_of c.number) c.test h)
 
-  stops : (cs : List Check) (p : ℕ) → Fails c.test p → chain (c ∷ cs) ≡ Refused (refusal_of c.number p)
+  stops : (cs : List Check) (p : ℕ) → Fails c.test p → chain (c ∷ cs) ≡ Err (refusal_of c.number p)
   unfolding or_else
   stops cs p f = chain_more cs ∙ rw (failed (refusal_of c.number) c.test p f)
 
 -- one chain after another
 pub else_joined : (a b c : Answer) → or_else (or_else a b) c ≡ or_else a (or_else b c)
 unfolding or_else
-else_joined Accepted b c = refl
-else_joined (Refused r) b c = refl
+else_joined (Ok tt) b c = refl
+else_joined (Err r) b c = refl
 
 pub chain_joined : (c : Check) (cs ds : List Check) → or_else (chain (c ∷ cs)) (chain ds) ≡ chain (c ∷ cs ++ ds)
 chain_joined c [] ds = sym (chain_more c ds)
@@ -158,11 +158,11 @@ module _ (n : ℕ) (c : Check) (cs : List Check) (s : Stands n c cs) (p : ℕ) w
   its_place : Fails c.test p → place_refused (refusal_of c.number p) ≡ p
   its_place f = place_is n c.number p s.later (place_of c.number c.test p s.places f)
 
-same_refusal : {a : Answer} {r t : Refusal} → a ≡ Refused r → a ≡ Refused t → r ≡ t
+same_refusal : {a : Answer} {r t : Refusal} → a ≡ Err r → a ≡ Err t → r ≡ t
 same_refusal e f = cc
 
 -- a chain refuses only by numbers whose turn is still to come
-comes_later : (n : ℕ) (cs : List Check) → in_order n cs ≡ true → (r : Refusal) → chain cs ≡ Refused r → n < turn_of (number_of r)
+comes_later : (n : ℕ) (cs : List Check) → in_order n cs ≡ true → (r : Refusal) → chain cs ≡ Err r → n < turn_of (number_of r)
 comes_later n [] e r f = refused_not (sym f)
 comes_later n (c ∷ cs) e r f =
     let s = stands n c cs e in
@@ -186,7 +186,7 @@ module _ (a : Answer) (before : Type 0) (n : ℕ) (c : Check) (cs : List Check) 
       (λ f. subst (Fails c.test) (sym (its_place n c cs s f.0 f.1) ∙ ap place_refused (same_refusal (is b ∙ stops c cs f.0 f.1) g.is) ∙ g.place) f.1)
       (outcome c.test)
 
-  holds_accepted : before → a ≡ Accepted → Holds c.test
+  holds_accepted : before → a ≡ Ok tt → Holds c.test
   holds_accepted b e = ⊎_elim (λ h. h) (λ f. refused_not (sym (is b ∙ stops c cs f.0 f.1) ∙ e)) (outcome c.test)
 
   holds_later : (k p : ℕ) → before → turn_of c.number < turn_of k → Given a k p → Holds c.test
@@ -196,7 +196,7 @@ module _ (a : Answer) (before : Type 0) (n : ℕ) (c : Check) (cs : List Check) 
       (λ f. absurd (let e = ap turn_of (sym (its_number n c cs s f.0) ∙ ap number_of (same_refusal (is b ∙ stops c cs f.0 f.1) g.is) ∙ g.number) in omega arith))
       (outcome c.test)
 
-each : (a : Answer) (before : Type 0) (n : ℕ) (cs : List Check) → in_order n cs ≡ true → (before → a ≡ chain cs) → (a ≡ Accepted → before) → ((k p : ℕ) → n < turn_of k → Given a k p → before) → Each a before cs
+each : (a : Answer) (before : Type 0) (n : ℕ) (cs : List Check) → in_order n cs ≡ true → (before → a ≡ chain cs) → (a ≡ Ok tt → before) → ((k p : ℕ) → n < turn_of k → Given a k p → before) → Each a before cs
 each a before n [] e is accepted given = (accepted, is)
 each a before n (c ∷ cs) e is accepted given =
     let s = stands n c cs e in (

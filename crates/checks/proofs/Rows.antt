@@ -8,7 +8,7 @@ use native.Mathlib.Omega.{arith}
 use mir.Val.{Fits}
 use mir.Syntax.{w64}
 use Rattle.laws.specs.Largest.{largest, largest_none, largest_more, largest_end, under_largest}
-use Rattle.rules.specs.declared.refusals.Found.TheVariants.{Nothing}
+use Rattle.std.specs.declared.option.Option.TheVariants.{None}
 use Rattle.rules.specs.Refusals.{over_row, over_top}
 use Rattle.checks.specs.Rows.{Box}
 use Rattle.checks.proofs.First.{firsts, all_nothing, over_good}
@@ -38,7 +38,7 @@ start_fits y b s h = record { fits = omega (arith, row_inside y b h) }
 
 -- ---- a row's largest
 
-pub row_clean : (top m : ℕ) (xs : List ℕ) (start count : ℕ) → m ≡ largest xs start count → m ≤ top → Nothing ≡ over_row top xs start count
+pub row_clean : (top m : ℕ) (xs : List ℕ) (start count : ℕ) → m ≡ largest xs start count → m ≤ top → None ≡ over_row top xs start count
 unfolding over_row
 row_clean top m xs start count e l =
     sym (all_nothing (λ x. over_top top xs (start + x)) count (λ x lt. sym (over_good top xs (start + x) (let u = under_largest xs start count x lt in omega arith))))

@@ -3,10 +3,10 @@
 use Rattle.std.specs.Prelude.{◌≡◌, ◌⊎◌, ◌↔◌, Bool, true, false, ◌&&◌, List, [], ◌∷◌, ℕ, ◌-◌, ltb, get_or}
 use Rattle.rules.specs.declared.refusals.Refusal.{Refusal}
 use Rattle.rules.specs.declared.refusals.Refusal.TheVariants.{Depth, Size, Length, Steps, Setting, Cell, Room, Sample, Leaf, Buffer, Header, Cut, Entry, Filled, Spent}
-use Rattle.rules.specs.declared.refusals.Answer.{Answer}
-use Rattle.rules.specs.declared.refusals.Answer.TheVariants.{Accepted, Refused}
-use Rattle.rules.specs.declared.refusals.Found.{Found}
-use Rattle.rules.specs.declared.refusals.Found.TheVariants.{At, Nothing}
+use Rattle.rules.specs.Refusals.{Answer}
+use Rattle.std.specs.declared.result.Result.TheVariants.{Ok, Err}
+use Rattle.std.specs.declared.option.Option.{Option}
+use Rattle.std.specs.declared.option.Option.TheVariants.{Some, None}
 use Rattle.rules.specs.Refusals.{number_of, place_refused, or_else, unless, found, only_if}
 
 -- ---- a test
@@ -15,23 +15,23 @@ use Rattle.rules.specs.Refusals.{number_of, place_refused, or_else, unless, foun
 -- `and_then` is one test after the other, `asked_if` a test that counts only where the condition holds
 pub data Test : Type 0 where
   ask : Bool → Test
-  seek : Found → Test
-  seek_any : Found → Test
+  seek : Option ℕ → Test
+  seek_any : Option ℕ → Test
   and_then : Test → Test → Test
   asked_if : Bool → Test → Test
 
 abbrev pub Holds : Test → Type 0
 Holds (ask b) = b ≡ true
-Holds (seek f) = f ≡ Nothing
-Holds (seek_any f) = f ≡ Nothing
+Holds (seek f) = f ≡ None
+Holds (seek_any f) = f ≡ None
 Holds (and_then s t) = Holds s × Holds t
 Holds (asked_if b t) = b ≡ true → Holds t
 
 -- it fails, and the place reported is p
 abbrev pub Fails : Test → ℕ → Type 0
 Fails (ask b) p = (b ≡ false) × (p ≡ 0)
-Fails (seek f) p = f ≡ At p
-Fails (seek_any f) p = ((k : ℕ) × (f ≡ At k)) × (p ≡ 0)
+Fails (seek f) p = f ≡ Some p
+Fails (seek_any f) p = ((k : ℕ) × (f ≡ Some k)) × (p ≡ 0)
 Fails (and_then s t) p = Fails s p ⊎ (Holds s × Fails t p)
 Fails (asked_if b t) p = (b ≡ true) × Fails t p
 
@@ -61,7 +61,7 @@ abbrev pub refusal_of : ℕ → ℕ → Refusal
 refusal_of k = get_or kinds (k - 1) (λ p. Depth)
 
 abbrev pub chain : List Check → Answer
-chain [] = Accepted
+chain [] = Ok tt
 chain (c ∷ []) = answer_of (refusal_of c.number) c.test
 chain (c ∷ d ∷ cs) = or_else (answer_of (refusal_of c.number) c.test) (chain (d ∷ cs))
 
@@ -90,13 +90,13 @@ in_order n (c ∷ cs) = ltb n (turn_of c.number) && (placed c.number c.test && i
 -- the answer's number is k and its place p
 pub record Given (a : Answer) (k p : ℕ) : Type 0 where
   pub refusal : Refusal
-  pub is : a ≡ Refused refusal
+  pub is : a ≡ Err refusal
   pub number : number_of refusal ≡ k
   pub place : place_refused refusal ≡ p
 
 -- each number is given, with a place, exactly when its test fails at that place and all before it hold; accepted exactly when all hold
 abbrev pub Each : Answer → Type 0 → List Check → Type 0
-Each a before [] = (a ≡ Accepted) ↔ before
+Each a before [] = (a ≡ Ok tt) ↔ before
 Each a before (c ∷ cs) =
     ((p : ℕ) → Given a c.number p ↔ (before × Fails c.test p)) × Each a (before × Holds c.test) cs
 

@@ -8,6 +8,6 @@ mod range;
 // A byte for each cell: the largest, and keep marks.
 mod marks;
 
-pub use marks::{asked, bad_keep, highest, larger};
+pub use marks::{asked, bad_keep, highest};
 pub use over::{row, samples};
 pub use range::in_range;

@@ -6,8 +6,5 @@ ghost use Rattle.rules.specs.Numbers.{in_range};
 pub fn in_range(low: usize, high: usize, n: usize) -> bool
     ensures { result ≡ in_range low high n }
 {
-    if n < low {
-        return false;
-    }
-    n <= high
+    low <= n && n <= high
 }

@@ -20,16 +20,13 @@ fn main(rt: HostRuntime) {
     let told = Target::Output(ends.output);
     let mut first = buffer();
     let mut second = buffer();
-    let a = word(&rt, 1, &mut first);
-    let b = word(&rt, 2, &mut second);
-    if a == 0 {
+    let Some(a) = word(&rt, 1, &mut first) else {
         say::usage(&told);
         return;
-    }
+    };
     // Two calls: one alone would be compiled into main, whose stack would then be that of both records.
-    if b == 0 {
-        run::run(&rt, ends, &told, &first[..a], b"-");
-        return;
-    }
-    run::run(&rt, ends, &told, &first[..a], &second[..b]);
+    let _ = match word(&rt, 2, &mut second) {
+        None => run::run(&rt, ends, &told, a, b"-"),
+        Some(b) => run::run(&rt, ends, &told, a, b),
+    };
 }

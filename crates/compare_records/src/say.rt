@@ -1,15 +1,17 @@
-// The answer, in words.
+// The answer, in words; one that can't be written is lost.
 use compared::{length_after, length_before};
 use rules::edge::Edge;
 use rules::refusals::Refusal;
-use system::files::{Target, print_decimal, write_all};
+use std::cmp::Ordering;
+use std::io::Write;
+use system::files::{Target, write_all};
+
+// That there is nothing more to do: the answer said why.
+#[derive(Clone, Copy, Debug, PartialEq, Eq)]
+pub struct Answered;
 
 pub fn words(told: &Target, text: &[u8]) {
-    write_all(told, text);
-}
-
-pub fn number(told: &Target, n: usize) {
-    print_decimal(told, n as u64);
+    let _ = write_all(told, text);
 }
 
 pub fn usage(told: &Target) {
@@ -17,16 +19,17 @@ pub fn usage(told: &Target) {
 }
 
 // A file that is no record.
-pub fn bad(told: &Target, name: &[u8], what: &[u8]) {
+pub fn bad(told: &Target, name: &[u8], what: &[u8]) -> Answered {
     words(told, b"2");
     words(told, name);
     words(told, b": ");
     words(told, what);
     words(told, b"\n");
+    Answered
 }
 
 // Why a record is refused.
-pub fn refused(told: &Target, name: &[u8], r: Refusal) {
+pub fn refused(told: &Target, name: &[u8], r: Refusal) -> Answered {
     match r {
         Refusal::Cut(k) => bad_entry(told, name, 12, k, b" is cut\n"),
         Refusal::Entry(k) => bad_entry(told, name, 13, k, b" is outside document 01's ranges\n"),
@@ -34,28 +37,23 @@ pub fn refused(told: &Target, name: &[u8], r: Refusal) {
     }
 }
 
-fn bad_entry(told: &Target, name: &[u8], rule: usize, k: usize, what: &[u8]) {
+fn bad_entry(told: &Target, name: &[u8], rule: usize, k: usize, what: &[u8]) -> Answered {
     words(told, b"2");
     words(told, name);
-    words(told, b": refused by ");
-    number(told, rule);
-    words(told, b": entry ");
-    number(told, k);
+    let mut to = told;
+    let _ = write!(to, ": refused by {rule}: entry {k}");
     words(told, what);
+    Answered
 }
 
-// A name and its number.
-fn named(told: &Target, name: &[u8], n: usize) {
-    words(told, name);
-    number(told, n);
+// Records that are the same.
+pub fn equal(told: &Target, edges: usize) {
+    let mut to = told;
+    let _ = write!(to, "0equal: {edges} edges\n");
 }
 
-fn direction(told: &Target, dir: usize) {
-    if dir == 0 {
-        words(told, b" vertical");
-    } else {
-        words(told, b" horizontal");
-    }
+fn direction(dir: usize) -> &'static str {
+    if dir == 0 { " vertical" } else { " horizontal" }
 }
 
 // The two lengths of a pair.
@@ -63,60 +61,57 @@ fn lengths(told: &Target, pair: usize) {
     if 8 <= pair {
         return;
     }
-    named(told, b"lengths ", length_before(pair));
-    named(told, b" and ", length_after(pair));
+    let mut to = told;
+    let _ = write!(
+        to,
+        "lengths {} and {}",
+        length_before(pair),
+        length_after(pair)
+    );
 }
 
-// An edge with its number in the record.
+// That records differ, first in an edge with its number in the record.
 pub fn edge(told: &Target, k: usize, e: Edge) {
-    named(told, b"edge ", k);
-    named(told, b": x ", e.x);
-    named(told, b" y ", e.y);
-    direction(told, e.dir);
-    words(told, b", ");
+    let mut to = told;
+    let _ = write!(to, "1edge {k}: x {} y {}{}, ", e.x, e.y, direction(e.dir));
     lengths(told, e.pair);
-    named(told, b", q ", e.q as usize);
-    named(told, b", side ", e.side as usize);
+    let _ = write!(to, ", q {}, side {}", e.q, e.side);
 }
 
 // What the other record's edge has instead, where a number differs.
-fn instead(told: &Target, name: &[u8], mine: usize, other: usize) {
+fn instead(told: &Target, name: &str, mine: usize, other: usize) {
     if mine != other {
-        named(told, name, other);
+        let mut to = told;
+        let _ = write!(to, " {name} {other}");
     }
 }
 
 pub fn other(told: &Target, e: Edge, f: Edge) {
     words(told, b"; the other has");
-    instead(told, b" x ", e.x, f.x);
-    instead(told, b" y ", e.y, f.y);
+    instead(told, "x", e.x, f.x);
+    instead(told, "y", e.y, f.y);
     if e.dir != f.dir {
-        direction(told, f.dir);
+        words(told, direction(f.dir).as_bytes());
     }
     if e.pair != f.pair {
         words(told, b" ");
         lengths(told, f.pair);
     }
-    instead(told, b" q ", e.q as usize, f.q as usize);
-    instead(told, b" side ", e.side as usize, f.side as usize);
+    instead(told, "q", e.q as usize, f.q as usize);
+    instead(told, "side", e.side as usize, f.side as usize);
     words(told, b"\n");
 }
 
 // Which record is longer.
 pub fn longer(told: &Target, a: &[u8], n: usize, b: &[u8], m: usize) {
+    let which = match n.cmp(&m) {
+        Ordering::Equal => "both are as long",
+        Ordering::Greater => "the first is longer",
+        Ordering::Less => "the second is longer",
+    };
+    let mut to = told;
     words(told, a);
-    named(told, b": ", n);
-    words(told, b" edges; ");
+    let _ = write!(to, ": {n} edges; ");
     words(told, b);
-    named(told, b": ", m);
-    words(told, b" edges; ");
-    if n == m {
-        words(told, b"both are as long\n");
-        return;
-    }
-    if m < n {
-        words(told, b"the first is longer\n");
-    } else {
-        words(told, b"the second is longer\n");
-    }
+    let _ = write!(to, ": {m} edges; {which}\n");
 }

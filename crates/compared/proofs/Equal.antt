@@ -12,9 +12,9 @@ use lib.ListN.{get_or}
 use Rattle.laws.specs.Choose.{pick, all, all_parts}
 use Rattle.laws.specs.Loops.{each}
 use Rattle.rules.specs.declared.edge.Edge.{Edge}
-use Rattle.rules.specs.declared.refusals.Answer.TheVariants.{Accepted}
-use Rattle.rules.specs.declared.refusals.Found.{Found}
-use Rattle.rules.specs.declared.refusals.Found.TheVariants.{At, Nothing}
+use Rattle.std.specs.declared.result.Result.TheVariants.{Ok}
+use Rattle.std.specs.declared.option.Option.{Option}
+use Rattle.std.specs.declared.option.Option.TheVariants.{Some, None}
 use Rattle.rules.specs.Refusals.{first, found_unless}
 use Rattle.rules.specs.Record.{record_of, edges_in, entry_count}
 use Rattle.rules.specs.Replay.{record_check}
@@ -57,7 +57,7 @@ each_alike f g (suc n) h =
 
 record Alike (a b : List ℕ) : Type 0 where
   pub counts : entry_count a ≡ entry_count b
-  pub none : first_difference a b ≡ Nothing
+  pub none : first_difference a b ≡ None
 
 -- what "equal" says
 equal_says : (a b : List ℕ) {n : ℕ} → difference_of a b ≡ Equal n → Alike a b
@@ -74,9 +74,9 @@ equal_says a b {n} h = go (first_difference a b) refl h
         let y : entry_count b ≤ entry_count a = ltb-false (entry_count a) (entry_count b) q in
         omega arith
 
-    go : (r : Found) → first_difference a b ≡ r → said_of a b r ≡ Equal n → Alike a b
-    go (At k) f e = absurd (let z : ◌≡◌ {A = ℕ} 0 1 = cc in omega arith)
-    go Nothing f e = record { counts = counts _ _ refl refl e; none = f }
+    go : (r : Option ℕ) → first_difference a b ≡ r → said_of a b r ≡ Equal n → Alike a b
+    go (Some k) f e = absurd (let z : ◌≡◌ {A = ℕ} 0 1 = cc in omega arith)
+    go None f e = record { counts = counts _ _ refl refl e; none = f }
 
 same_edges : (a b : List ℕ) → Alike a b → edges_in a ≡ edges_in b
 unfolding edges_in first_difference
@@ -86,7 +86,7 @@ same_edges a b h =
     same_is _ _ (unless_nothing _ k (nothing_all (apart a b) (min (entry_count a) (entry_count b)) h.none k (omega arith))))
     ∙ ap (λ (n : ℕ). each n (λ k. edge_of b k ∷ [])) h.counts
 
-module _ (a b : List ℕ) (good : record_check a ≡ Accepted) (other : record_check b ≡ Accepted) (small : (k : ℕ) → get_or a k 0 < 256) (bytes : (k : ℕ) → get_or b k 0 < 256) where
+module _ (a b : List ℕ) (good : record_check a ≡ Ok tt) (other : record_check b ≡ Ok tt) (small : (k : ℕ) → get_or a k 0 < 256) (bytes : (k : ℕ) → get_or b k 0 < 256) where
   -- records called equal have equal bytes
   pub equal_bytes : {n : ℕ} → difference_of a b ≡ Equal n → a ≡ b
   equal_bytes h = sym (write_checked a small good) ∙ ap record_of (same_edges a b (equal_says a b h)) ∙ write_checked b bytes other
@@ -95,10 +95,10 @@ module _ (a b : List ℕ) (good : record_check a ≡ Accepted) (other : record_c
 pub equal_self : (a : List ℕ) → difference_of a a ≡ Equal (entry_count a)
 unfolding difference_of first_difference said_of pick found_unless
 equal_self a =
-    let none : first (min (entry_count a) (entry_count a)) (apart a a) ≡ Nothing = all_nothing (apart a a) _ (λ k h. same k) in
+    let none : first (min (entry_count a) (entry_count a)) (apart a a) ≡ None = all_nothing (apart a a) _ (λ k h. same k) in
     rw none (go (ltb (entry_count a) (entry_count a)) refl)
   where
-    same : (k : ℕ) → apart a a k ≡ Nothing
+    same : (k : ℕ) → apart a a k ≡ None
     same k = rw (same_self (edge_of a k))
 
     go : (t : Bool) → ltb (entry_count a) (entry_count a) ≡ t

@@ -2,12 +2,11 @@
 ghost use Rattle.std.specs.Prelude.{◌≡◌, ◌≤◌, length};
 ghost use Rattle.compared.specs.Compare.{same_numbers, first_difference, difference_of};
 
-use laws::least;
 use replay::{count, entry};
 use rules::edge::Edge;
-use rules::refusals::Found;
 
 // Equal records of so many edges; both edges of the first entry that differs, with its number; or the first edge of the longer record that the other lacks.
+// An enum of its own: none of its four cases is a failure.
 #[derive(Drop)]
 pub enum Difference {
     Equal(usize),
@@ -38,25 +37,24 @@ fn same_numbers(e: Edge, f: Edge) -> bool
 }
 
 // The first entry that both records have and that differs.
-fn first_difference(a: &[u8], b: &[u8]) -> Found
+fn first_difference(a: &[u8], b: &[u8]) -> Option<usize>
     requires { (5 ≤ length a.now) × (5 ≤ length b.now) }
     ensures { result ≡ first_difference a.now b.now }
 {
-    let n = least(count(a), count(b));
+    let n = count(a).min(count(b));
     for k in 0..n {
         if !same_numbers(entry(a, k), entry(b, k)) {
-            return Found::At(k);
+            return Some(k);
         }
     }
-    Found::Nothing
+    None
 }
 
 pub fn compare(a: &[u8], b: &[u8]) -> Difference
     requires { (5 ≤ length a.now) × (5 ≤ length b.now) }
     ensures { result ≡ difference_of a.now b.now }
 {
-    let f = first_difference(a, b);
-    if let Found::At(k) = f {
+    if let Some(k) = first_difference(a, b) {
         return Difference::Edges(k, entry(a, k), entry(b, k));
     }
     let n = count(a);

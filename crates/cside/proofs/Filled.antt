@@ -17,8 +17,8 @@ use Rattle.rules.specs.declared.rows.RowState.{RowState}
 use Rattle.rules.specs.declared.rows.RowsAnswer.{RowsAnswer}
 use Rattle.rules.specs.declared.refusals.Refusal.{Refusal}
 use Rattle.rules.specs.declared.refusals.Refusal.TheVariants.{Depth, Size, Length, Spent}
-use Rattle.rules.specs.declared.refusals.Answer.{Answer}
-use Rattle.rules.specs.declared.refusals.Answer.TheVariants.{Accepted, Refused}
+use Rattle.rules.specs.Refusals.{Answer}
+use Rattle.std.specs.declared.result.Result.TheVariants.{Ok, Err}
 use Rattle.rules.specs.Refusals.{number_of, or_else, unless, settle}
 use Rattle.rules.specs.Plane.{Grid}
 use Rattle.rules.specs.Rows.{final_of, rows_check, rows_final, spent_by, state_after, rows_state}
@@ -38,8 +38,8 @@ use Rattle.by_list.proofs.States.{state_long, settings_long}
 
 -- an answer spends the state
 abbrev spends : Answer → Bool
-spends Accepted = false
-spends (Refused r) = eqb (number_of r) 8
+spends (Ok tt) = false
+spends (Err r) = eqb (number_of r) 8
 
 -- the lists' own refusals do not
 each_way : (a b c d e : Bool) → spends (or_else (unless a Length) (or_else (unless b Spent) (or_else (unless c Length) (or_else (unless d Depth) (unless e Size))))) ≡ false
@@ -62,8 +62,8 @@ set_own (x ∷ st) = refl
 
 state_left_holds : (st : List ℕ) (a : Answer) (filled : ℕ) → held_by (state_after a (unspent st) filled) st ≡ state_left a st filled
 unfolding held_by state_after state_left spent_by pick
-state_left_holds st Accepted filled = refl
-state_left_holds st (Refused r) filled = go (eqb (number_of r) 8)
+state_left_holds st (Ok tt) filled = refl
+state_left_holds st (Err r) filled = go (eqb (number_of r) 8)
   where
     go : (b : Bool) → held_by (pick b (record { held = get_or st 0 0; spent = true }) (unspent st)) st ≡ pick b (set st 1 1) st
     go true = ap (λ (x : List ℕ). set x 1 1) (set_own st)
@@ -75,8 +75,8 @@ unfolding rows_final settle
 final_few s steps g was filled l = go (rows_check s steps g was filled l) refl
   where
     go : (x : Answer) → rows_check s steps g was filled l ≡ x → settle x 0 (final_of s.rows filled) ≤ 4096
-    go Accepted e = omega (arith, final_in s.rows filled, (passed s steps g was filled l e).checks.sizes_ok.rows_most)
-    go (Refused r) e = omega arith
+    go (Ok tt) e = omega (arith, final_in s.rows filled, (passed s steps g was filled l e).checks.sizes_ok.rows_most)
+    go (Err r) e = omega arith
 
 -- the rows that are final are a number that C's answer holds
 pub rows_few : (s : Plane) (steps : List ℕ) (g : Grid) (was : RowState) (filled : ℕ) (l : List ℕ) {x : RowsAnswer} {m : List ℕ} → Stated s steps g was filled l x m → x.finalrows < 2147483648
@@ -85,11 +85,11 @@ rows_few s steps g was filled l d = omega (arith, d.final_rows, final_few s step
 -- ---- what C is told
 
 module _ (settings : List ℤ) (steps : List ℕ) (g : Grid) (st : List ℕ) (filled : ℕ) (l : List ℕ) {a : Answer} (is : a ≡ lists_check settings st) {p q k c : List ℕ} {z : ℤ} where
-  pub rows_refused : {r : Refusal} → a ≡ Refused r → Told (Refused r) p z q × (c ≡ tallied 0 0 k) → RowsTold settings steps g st filled l p k (to_z w32 (of_z w32 z)) l st q c
+  pub rows_refused : {r : Refusal} → a ≡ Err r → Told (Err r) p z q × (c ≡ tallied 0 0 k) → RowsTold settings steps g st filled l p k (to_z w32 (of_z w32 z)) l st q c
   unfolding c_rows_check c_rows_plane c_rows_stored c_rows_changed c_rows_final state_left pick
   rows_refused {r} e u =
-      let no : Refused r ≡ lists_check settings st = sym e ∙ is in
-      let all : Refused r ≡ c_rows_check settings steps g st filled l = stop_by _ _ _ is e in
+      let no : Err r ≡ lists_check settings st = sym e ∙ is in
+      let all : Err r ≡ c_rows_check settings steps g st filled l = stop_by _ _ _ is e in
       record {
         told = refused_by_holds _ all u.0;
         plane = settle_refused _ _ _ no;
@@ -97,14 +97,14 @@ module _ (settings : List ℤ) (steps : List ℕ) (g : Grid) (st : List ℕ) (fi
         counts_are = u.1 ∙ ap₂ (λ (s c : ℕ). tallied s c k) (settle_refused _ _ _ no) (settle_refused _ _ _ no);
       }
 
-  pub rows_told : {s : Plane} {held : ℕ} {x : RowsAnswer} {m t : List ℕ} → a ≡ Accepted → s ≡ plane_of settings → held ≡ get_or st 0 0
+  pub rows_told : {s : Plane} {held : ℕ} {x : RowsAnswer} {m t : List ℕ} → a ≡ Ok tt → s ≡ plane_of settings → held ≡ get_or st 0 0
       → Stated s steps g (record { held = held; spent = false }) filled l x m → t ≡ held_by x.state st
       → Counted x.answer x.finalrows p z q × (c ≡ tallied x.stored x.changed k)
       → RowsTold settings steps g st filled l p k (to_z w32 (of_z w32 z)) m t q c
   unfolding c_rows_check c_rows_plane c_rows_stored c_rows_changed c_rows_final rows_state
   rows_told {s} {held} {x} {m} {t} e read first said next u =
       let w : Stated (plane_of settings) steps g (unspent st) filled l x m = rw (read, first) at said in
-      let yes : Accepted ≡ lists_check settings st = sym e ∙ is in
+      let yes : Ok tt ≡ lists_check settings st = sym e ∙ is in
       let own : rows_check (plane_of settings) steps g (unspent st) filled l ≡ c_rows_check settings steps g st filled l = go_on_by _ _ _ _ is e refl in
       record {
         told = counted_on (w.answer ∙ own) (settle_accepted _ _ _ _ yes w.final_rows) (rows_few _ _ _ _ _ _ w) u.0;

@@ -10,8 +10,8 @@ use lib.IntN.{ℤ}
 use Rattle.laws.specs.Choose.{pick, both}
 use Rattle.rules.specs.declared.settings.TuGrid.{TuGrid}
 use Rattle.rules.specs.declared.refusals.Refusal.TheVariants.{Size}
-use Rattle.rules.specs.declared.refusals.Answer.{Answer}
-use Rattle.rules.specs.declared.refusals.Answer.TheVariants.{Refused}
+use Rattle.rules.specs.Refusals.{Answer}
+use Rattle.std.specs.declared.result.Result.TheVariants.{Err}
 use Rattle.rules.specs.Numbers.{in_range}
 use Rattle.rules.specs.Refusals.{or_else, unless, settle}
 use Rattle.rules.specs.TuGrid.{Marks, cells_ok, tx_grid_check}
@@ -25,7 +25,7 @@ use Rattle.cside.proofs.Telling.{grid_left}
 
 module _ (settings : List ℤ) (leaves skips : List ℕ) (g : Marks) (k : List ℕ) where
   -- a grid of no cells is refused, whatever the leaves
-  none_refused : Refused Size ≡ tx_grid_check no_grid leaves skips g k
+  none_refused : Err Size ≡ tx_grid_check no_grid leaves skips g k
   unfolding tx_grid_check cells_ok both in_range
   none_refused = stop _ _ (unless_bad _ _ refl)
 

@@ -16,9 +16,11 @@ use Rattle.rules.specs.declared.settings.Keep.{Keep}
 use Rattle.rules.specs.declared.settings.Ccso.{Ccso}
 use Rattle.rules.specs.declared.refusals.Refusal.{Refusal}
 use Rattle.rules.specs.declared.refusals.Refusal.TheVariants.{Length}
-use Rattle.rules.specs.declared.refusals.Answer.{Answer}
-use Rattle.rules.specs.declared.refusals.Answer.TheVariants.{Accepted, Refused}
-use Rattle.rules.specs.declared.refusals.PlaneAnswer.{PlaneAnswer}
+use Rattle.rules.specs.Refusals.{Answer}
+use Rattle.std.specs.declared.result.Result.TheVariants.{Ok, Err}
+use Rattle.std.specs.declared.result.Result.{Result}
+use Rattle.rules.specs.declared.counts.Counts.{Counts}
+use Rattle.rules.specs.Refusals.{answered, changed_in, stored_in}
 use Rattle.rules.specs.Refusals.{settle}
 use Rattle.rules.specs.Plane.{Grid, plane_after, plane_stored, plane_changed}
 use Rattle.rules.specs.Replay.{replay_after, replay_stored, replay_changed}
@@ -43,16 +45,16 @@ use Rattle.by_list.proofs.Lists.{plane_long, rectangle_long}
 -- ---- a plane
 
 module _ (settings : List ℤ) (steps : List ℕ) (g : Grid) (l : List ℕ) {a : Answer} (is : a ≡ list_check settings) {p q k t : List ℕ} {z : ℤ} where
-  pub plane_refused : {r : Refusal} → a ≡ Refused r → Told (Refused r) p z q × (t ≡ tallied 0 0 k) → PlaneTold settings steps g l p k (to_z w32 (of_z w32 z)) l q t
+  pub plane_refused : {r : Refusal} → a ≡ Err r → Told (Err r) p z q × (t ≡ tallied 0 0 k) → PlaneTold settings steps g l p k (to_z w32 (of_z w32 z)) l q t
   unfolding c_plane_check
   plane_refused e u = filter_refused l _ _ _ (stop_by _ _ _ is e) u
 
-  pub plane_told : {s : Plane} {x : PlaneAnswer} {m : List ℕ} → a ≡ Accepted → s ≡ plane_of settings → «PlaneStated» s steps g l x m → Told x.answer p z q × (t ≡ tallied x.stored x.changed k)
+  pub plane_told : {s : Plane} {x : Result Counts Refusal} {m : List ℕ} → a ≡ Ok tt → s ≡ plane_of settings → «PlaneStated» s steps g l x m → Told (answered x) p z q × (t ≡ tallied (stored_in x) (changed_in x) k)
       → PlaneTold settings steps g l p k (to_z w32 (of_z w32 z)) m q t
   unfolding c_plane_check plane_after plane_stored plane_changed
   plane_told {s} {x} {m} e read d u =
       let w : «PlaneStated» (plane_of settings) steps g l x m = rw read at d in
-      filter_on l _ _ _ (go_on_by _ _ _ _ is e refl) w.answer w.plane w.stored w.changed u
+      filter_on l _ _ _ _ (go_on_by _ _ _ _ is e refl) w.answer w.plane w.stored w.changed u
 
 pub ruleset planes = (rules, plane_long, plane_refused, plane_told)
 
@@ -60,19 +62,19 @@ pub ruleset planes = (rules, plane_long, plane_refused, plane_told)
 
 word_kept : (a : Answer) (n : ℕ) → in_word (settle a 0 n) ≡ settle a 0 (in_word n)
 unfolding settle
-word_kept Accepted n = refl
-word_kept (Refused r) n = refl
+word_kept (Ok tt) n = refl
+word_kept (Err r) n = refl
 
 module _ (settings : List ℤ) (bytes keep l : List ℕ) {p q k t : List ℕ} {z : ℤ} where
-  pub replay_short : length settings < 4 → Told (Refused Length) p z q × (t ≡ tallied 0 0 k) → ReplayTold settings bytes keep l p k (to_z w32 (of_z w32 z)) l q t
+  pub replay_short : length settings < 4 → Told (Err Length) p z q × (t ≡ tallied 0 0 k) → ReplayTold settings bytes keep l p k (to_z w32 (of_z w32 z)) l q t
   replay_short h u = filter_refused l _ _ _ (short_is 4 settings _ h) u
 
-  pub replay_told : {s : Replay} {x : PlaneAnswer} {m : List ℕ} → 4 ≤ length settings → s ≡ replay_settings settings → Replayed s bytes keep l x m → Told x.answer p z q × (t ≡ tallied x.stored x.changed k)
+  pub replay_told : {s : Replay} {x : Result Counts Refusal} {m : List ℕ} → 4 ≤ length settings → s ≡ replay_settings settings → Replayed s bytes keep l x m → Told (answered x) p z q × (t ≡ tallied (stored_in x) (changed_in x) k)
       → ReplayTold settings bytes keep l p k (to_z w32 (of_z w32 z)) m q t
   unfolding replay_after replay_stored replay_changed
   replay_told {s} {x} {m} enough read d u =
       let w : Replayed (replay_settings settings) bytes keep l x m = rw read at d in
-      filter_on l _ _ _ (long_is 4 settings _ enough) w.answer w.plane (w.stored ∙ word_kept _ _) (w.changed ∙ word_kept _ _) u
+      filter_on l _ _ _ _ (long_is 4 settings _ enough) w.answer w.plane (w.stored ∙ word_kept _ _) (w.changed ∙ word_kept _ _) u
 
 pub ruleset replays = (rules, replay_short, replay_told)
 
@@ -114,11 +116,11 @@ pub ruleset gates = (rules, short, offsets_told)
 -- ---- keep marks over a rectangle
 
 module _ (settings : List ℤ) (k : List ℕ) {a : Answer} (is : a ≡ rectangle_check settings) {p q : List ℕ} {z : ℤ} where
-  pub rectangle_refused : {r : Refusal} → a ≡ Refused r → Told (Refused r) p z q → RectangleTold settings k p (to_z w32 (of_z w32 z)) k q
+  pub rectangle_refused : {r : Refusal} → a ≡ Err r → Told (Err r) p z q → RectangleTold settings k p (to_z w32 (of_z w32 z)) k q
   unfolding c_rectangle_check
   rectangle_refused e t = reported_refused k _ (stop_by _ _ _ is e) t
 
-  pub rectangle_told : {s : Keep} {x : Answer} {n : List ℕ} → a ≡ Accepted → s ≡ rectangle_of settings → «RectangleStated» s k x n → Told x p z q → RectangleTold settings k p (to_z w32 (of_z w32 z)) n q
+  pub rectangle_told : {s : Keep} {x : Answer} {n : List ℕ} → a ≡ Ok tt → s ≡ rectangle_of settings → «RectangleStated» s k x n → Told x p z q → RectangleTold settings k p (to_z w32 (of_z w32 z)) n q
   unfolding c_rectangle_check keep_after
   rectangle_told {s} {x} {n} e read d t =
       let w : «RectangleStated» (rectangle_of settings) k x n = rw read at d in

@@ -8,9 +8,11 @@ use mir.Syntax.{w32}
 use mir.Val.{to_z, of_z}
 use Rattle.rules.specs.declared.settings.Frame.{Frame}
 use Rattle.rules.specs.declared.refusals.Refusal.{Refusal}
-use Rattle.rules.specs.declared.refusals.Answer.{Answer}
-use Rattle.rules.specs.declared.refusals.Answer.TheVariants.{Accepted, Refused}
-use Rattle.rules.specs.declared.refusals.PlaneAnswer.{PlaneAnswer}
+use Rattle.rules.specs.Refusals.{Answer}
+use Rattle.std.specs.declared.result.Result.TheVariants.{Ok, Err}
+use Rattle.std.specs.declared.result.Result.{Result}
+use Rattle.rules.specs.declared.counts.Counts.{Counts}
+use Rattle.rules.specs.Refusals.{answered, changed_in, stored_in}
 use Rattle.rules.specs.Frame.{Given, Lent, or_done}
 use Rattle.checks.proofs.Checks.{settle_refused, settle_accepted}
 use Rattle.frame.specs.Stated.{Stated}
@@ -20,24 +22,24 @@ use Rattle.answers.proofs.Unique.{told_unique}
 use Rattle.by_list.specs.Frames.{frame_settings, list_check, c_frame_of, c_frame_stored, c_frame_changed, FrameTold}
 
 module _ (settings : List ℤ) (n : Given) (l : Lent) {a : Answer} (is : a ≡ list_check settings) {p q k t : List ℕ} {z : ℤ} where
-  pub frame_refused : {r : Refusal} → a ≡ Refused r → Told (Refused r) p z q × (t ≡ tallied 0 0 k) → FrameTold settings n l p k (to_z w32 (of_z w32 z)) l q t
+  pub frame_refused : {r : Refusal} → a ≡ Err r → Told (Err r) p z q × (t ≡ tallied 0 0 k) → FrameTold settings n l p k (to_z w32 (of_z w32 z)) l q t
   unfolding c_frame_of or_done c_frame_stored c_frame_changed
   frame_refused {r} e u =
-      let no : Refused r ≡ list_check settings = sym e ∙ is in
-      let own : Refused r ≡ (c_frame_of settings n l).answer = rw (← no) in
+      let no : Err r ≡ list_check settings = sym e ∙ is in
+      let own : Err r ≡ (c_frame_of settings n l).answer = rw (← no) in
       record {
         told = told_by own u.0;
         lists_are = rw (← no);
         counts_are = u.1 ∙ ap₂ (λ (s c : ℕ). tallied s c k) (settle_refused _ _ _ no) (settle_refused _ _ _ no);
       }
 
-  pub frame_told : {f : Frame} {x : PlaneAnswer} {m : Lent} → a ≡ Accepted → f ≡ frame_settings settings → Stated f n l x m → Told x.answer p z q × (t ≡ tallied x.stored x.changed k)
+  pub frame_told : {f : Frame} {x : Result Counts Refusal} {m : Lent} → a ≡ Ok tt → f ≡ frame_settings settings → Stated f n l x m → Told (answered x) p z q × (t ≡ tallied (stored_in x) (changed_in x) k)
       → FrameTold settings n l p k (to_z w32 (of_z w32 z)) m q t
   unfolding c_frame_of or_done c_frame_stored c_frame_changed
   frame_told {f} {x} {m} e read d u =
       let w : Stated (frame_settings settings) n l x m = rw read at d in
-      let ok : Accepted ≡ list_check settings = sym e ∙ is in
-      let own : x.answer ≡ (c_frame_of settings n l).answer = rw (← ok) w.answer in
+      let ok : Ok tt ≡ list_check settings = sym e ∙ is in
+      let own : answered x ≡ (c_frame_of settings n l).answer = rw (← ok) w.answer in
       record {
         told = told_by own u.0;
         lists_are = rw (← ok) w.lists;

@@ -15,10 +15,10 @@ use Rattle.laws.specs.Choose.{told_yes_not, told_no_not}
 use Rattle.rules.specs.declared.settings.Lone.{Lone}
 use Rattle.rules.specs.declared.refusals.Refusal.{Refusal}
 use Rattle.rules.specs.declared.refusals.Refusal.TheVariants.{Depth, Length}
-use Rattle.rules.specs.declared.refusals.Answer.{Answer}
-use Rattle.rules.specs.declared.refusals.Answer.TheVariants.{Accepted, Refused}
-use Rattle.rules.specs.declared.refusals.LoneAnswer.{LoneAnswer}
-use Rattle.rules.specs.declared.refusals.Width.TheVariants.{Samples, Refused as «NoWidth»}
+use Rattle.rules.specs.Refusals.{Answer}
+use Rattle.std.specs.declared.result.Result.TheVariants.{Ok, Err}
+use Rattle.std.specs.declared.result.Result.{Result}
+use Rattle.rules.specs.declared.refusals.Filtered.{Filtered}
 use Rattle.rules.specs.Numbers.{depth_ok}
 use Rattle.rules.specs.Refusals.{number_of, or_else, unless}
 use Rattle.rules.specs.Segment.{edge_place, window_of, chosen_of, width_at}
@@ -27,22 +27,22 @@ use Rattle.rules.specs.CSide.{samples_in, bytes_of, window_edge, c_segment_check
 use Rattle.lengths.proofs.Lengths.{pair_facts}
 use Rattle.width.proofs.Most.{pair_most}
 use Rattle.checks.proofs.Checks.{stop, go_on, unless_bad, unless_good, settle_refused, settle_accepted}
-use Rattle.lone.specs.Stated.{Stated}
+use Rattle.lone.specs.Stated.{width_in, stored_in, changed_in, Stated}
 use Rattle.lone.proofs.Accepted.{passed}
 use Rattle.answers.specs.Told.{tallied}
 use Rattle.answers.proofs.Numbers.{held, held_minus, answer_refused, answer_accepted, tallied_last}
 use Rattle.cside.specs.Segment.{c_stored, c_changed, SegmentTold}
 
 -- what an answer of either kind says of the check behind it
-from_samples : (a : Answer) (w : ℕ) {n : ℕ} → Samples n ≡ answer_width a w → (Accepted ≡ a) × (n ≡ w)
+from_samples : (a : Answer) (w : ℕ) {n : ℕ} → Ok n ≡ answer_width a w → (Ok tt ≡ a) × (n ≡ w)
 unfolding answer_width
-from_samples Accepted w e = (refl, cc)
-from_samples (Refused r) w e = absurd (let z : ◌≡◌ {A = ℕ} 0 1 = cc in omega arith)
+from_samples (Ok tt) w e = (refl, cc)
+from_samples (Err r) w e = absurd (let z : ◌≡◌ {A = ℕ} 0 1 = cc in omega arith)
 
-from_refused : (a : Answer) (w : ℕ) {r : Refusal} → «NoWidth» r ≡ answer_width a w → Refused r ≡ a
+from_refused : (a : Answer) (w : ℕ) {r : Refusal} → Err r ≡ answer_width a w → Err r ≡ a
 unfolding answer_width
-from_refused Accepted w e = absurd (let z : ◌≡◌ {A = ℕ} 0 1 = cc in omega arith)
-from_refused (Refused r) w e = cc
+from_refused (Ok tt) w e = absurd (let z : ◌≡◌ {A = ℕ} 0 1 = cc in omega arith)
+from_refused (Err r) w e = cc
 
 -- the width of an edge whose pair is good
 width_most : (depth pair q side : ℕ) (l : List ℕ) → pair < 8 → width_at 18 (edge_of (window_edge depth pair q side)) l ≤ 8
@@ -53,7 +53,7 @@ width_most depth pair q side l h =
 
 module _ (depth pair q side : ℕ) (bytes : List ℕ) where
   -- at a way out with a refusal, the counts as they were put first
-  refused_told : {r : Refusal} {z : ℤ} {counts tally : List ℕ} → Refused r ≡ c_segment_check depth pair q side bytes → z ≡ neg_ℤ (pos (number_of r)) → tally ≡ tallied 0 0 counts
+  refused_told : {r : Refusal} {z : ℤ} {counts tally : List ℕ} → Err r ≡ c_segment_check depth pair q side bytes → z ≡ neg_ℤ (pos (number_of r)) → tally ≡ tallied 0 0 counts
       → SegmentTold depth pair q side bytes counts (to_z w32 (of_z w32 z)) bytes tally
   unfolding c_segment c_window c_stored c_changed
   refused_told {r} {z} {counts} a f t = record {
@@ -81,15 +81,15 @@ module _ (depth pair q side : ℕ) (bytes : List ℕ) where
         unfolding c_segment_check or_else unless
         check_is a e = rw (← deep, eq-eqb _ _ long) e
 
-        module _ {l m : List ℕ} {a : LoneAnswer} {s : Lone} (samples : l ≡ samples_in bytes) (edge : s ≡ window_edge depth pair q side) (stated : Stated s l a m) where
+        module _ {l m : List ℕ} {a : Result Filtered Refusal} {s : Lone} (samples : l ≡ samples_in bytes) (edge : s ≡ window_edge depth pair q side) (stated : Stated s l a m) where
           here : Stated (window_edge depth pair q side) (samples_in bytes) a m
           here = rw (edge, samples) at stated
 
-          parts : {n : ℕ} → a.width ≡ Samples n → (Accepted ≡ lone_check (window_edge depth pair q side) (samples_in bytes)) × (n ≡ width_at 18 (edge_of (window_edge depth pair q side)) (samples_in bytes))
+          parts : {f : Filtered} → a ≡ Ok f → (Ok tt ≡ lone_check (window_edge depth pair q side) (samples_in bytes)) × (f.width ≡ width_at 18 (edge_of (window_edge depth pair q side)) (samples_in bytes))
           unfolding lone_width
-          parts e = from_samples _ _ (sym e ∙ here.width)
+          parts e = from_samples _ _ (sym (ap width_in e) ∙ here.width)
 
-          width_few : {n : ℕ} → a.width ≡ Samples n → n ≤ 8
+          width_few : {f : Filtered} → a ≡ Ok f → f.width ≤ 8
           unfolding edge_of
           width_few e =
               let p = parts e in
@@ -97,27 +97,27 @@ module _ (depth pair q side : ℕ) (bytes : List ℕ) where
               omega (arith, p.1, width_most depth pair q side (samples_in bytes) h)
 
           -- the width is a number that C's answer holds
-          pub width_range : {n : ℕ} → a.width ≡ Samples n → n < 2147483648
+          pub width_range : {f : Filtered} → a ≡ Ok f → f.width < 2147483648
           width_range e = omega (arith, width_few e)
 
           -- at the way out with a width: the number that the machine holds, the bytes of what the segment left, and its counts
-          pub told_width : {n : ℕ} {z : ℤ} {after counts put tally : List ℕ} → a.width ≡ Samples n → z ≡ pos n → after ≡ bytes_of m → put ≡ tallied 0 0 counts → tally ≡ tallied a.stored a.changed put
+          pub told_width : {w : Filtered} {z : ℤ} {after counts put tally : List ℕ} → a ≡ Ok w → z ≡ pos w.width → after ≡ bytes_of m → put ≡ tallied 0 0 counts → tally ≡ tallied w.stored w.changed put
               → SegmentTold depth pair q side bytes counts (to_z w32 (of_z w32 z)) after tally
           unfolding c_segment c_window c_stored c_changed
-          told_width {n} {z} {after} {counts} e f g none t =
+          told_width {w} {z} {after} {counts} e f g none t =
               let p = parts e in
-              let ok = check_is Accepted p.0 in
+              let ok = check_is (Ok tt) p.0 in
               record {
-                answer = held z n f (width_range e) ∙ answer_accepted _ _ ok p.1;
+                answer = held z w.width f (width_range e) ∙ answer_accepted _ _ ok p.1;
                 window_is = g ∙ settle_accepted _ _ _ (bytes_of m) ok (ap bytes_of here.plane);
                 counts_are =
-                    t ∙ ap (tallied a.stored a.changed) none ∙ tallied_last _ _ _ _ counts
-                    ∙ ap₂ (λ (s c : ℕ). tallied s c counts) (settle_accepted _ _ _ _ ok here.stored) (settle_accepted _ _ _ _ ok here.changed);
+                    t ∙ ap (tallied w.stored w.changed) none ∙ tallied_last _ _ _ _ counts
+                    ∙ ap₂ (λ (s c : ℕ). tallied s c counts) (settle_accepted _ _ _ _ ok (sym (ap stored_in e) ∙ here.stored)) (settle_accepted _ _ _ _ ok (sym (ap changed_in e) ∙ here.changed));
               }
 
           -- at the way out with a refusal
-          pub told_refused : {r : Refusal} {z : ℤ} {counts put : List ℕ} → a.width ≡ «NoWidth» r → z ≡ neg_ℤ (pos (number_of r)) → put ≡ tallied 0 0 counts → SegmentTold depth pair q side bytes counts (to_z w32 (of_z w32 z)) bytes put
+          pub told_refused : {r : Refusal} {z : ℤ} {counts put : List ℕ} → a ≡ Err r → z ≡ neg_ℤ (pos (number_of r)) → put ≡ tallied 0 0 counts → SegmentTold depth pair q side bytes counts (to_z w32 (of_z w32 z)) bytes put
           unfolding lone_width
-          told_refused {r} e f none = refused_told (check_is (Refused r) (from_refused _ _ (sym e ∙ here.width))) f none
+          told_refused {r} e f none = refused_told (check_is (Err r) (from_refused _ _ (sym (ap width_in e) ∙ here.width))) f none
 
 pub ruleset windows = (rules, bad_depth, bad_length, width_range, told_width, told_refused)

@@ -3,7 +3,7 @@
 use Rattle.std.specs.Prelude.{◌≡◌, List, ℕ, leb, length, ℤ}
 use Rattle.ac_steps.specs.Steps.{tabled}
 use Rattle.rules.specs.declared.refusals.Refusal.TheVariants.{Length}
-use Rattle.rules.specs.declared.refusals.Answer.{Answer}
+use Rattle.rules.specs.Refusals.{Answer}
 use Rattle.rules.specs.Refusals.{unless, settle}
 use Rattle.rules.specs.CSide.{c_answer}
 

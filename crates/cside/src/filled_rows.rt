@@ -6,7 +6,6 @@ use answers::{told_refusal, told_rows};
 use by_list::filled_rows::{hold, lists_check};
 use numbers::plane_of;
 use rows::deblock_rows;
-use rules::refusals::Answer;
 use rules::rows::RowState;
 
 // How many rows are final, or minus the refusal number with its place in the first entry of `place`; stored and changed samples in `counts`; the state for the next call in `state`.
@@ -43,7 +42,7 @@ pub extern "C" fn bihargesh_rows(
         counts.new }
 {
     let lists = lists_check(settings, state);
-    if let Answer::Refused(r) = lists {
+    if let Err(r) = lists {
         return told_refusal(r, place, counts);
     }
     let s = plane_of(settings);

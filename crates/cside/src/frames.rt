@@ -6,7 +6,6 @@ ghost use Rattle.by_list.specs.Frames.{FrameTold};
 use answers::{told_counts, told_refusal};
 use by_list::frames::{frame_of, list_check};
 use frame::frame::deblock_frame;
-use rules::refusals::Answer;
 
 // 0, or minus the refusal number with its place in the first entry of `place`; stored and changed samples in `counts`.
 #[unsafe(no_mangle)]
@@ -57,7 +56,7 @@ pub extern "C" fn bihargesh_frame(
         counts.new }
 {
     let lists = list_check(settings);
-    if let Answer::Refused(r) = lists {
+    if let Err(r) = lists {
         return told_refusal(r, place, counts);
     }
     let f = frame_of(settings);

@@ -6,7 +6,7 @@ ghost use Rattle.numbers.specs.Settings.{offsets_of};
 use answers::told;
 use ccso::apply::apply_edge_gated;
 use numbers::offsets_of;
-use rules::refusals::{Answer, Refusal};
+use rules::refusals::Refusal;
 
 // 0, or minus the refusal number with its place in the first entry of `place`.
 #[unsafe(no_mangle)]
@@ -28,7 +28,7 @@ pub extern "C" fn bihargesh_ccso(
         place.new }
 {
     if settings.len() < 16 {
-        return told(Answer::Refused(Refusal::Length), place);
+        return told(Err(Refusal::Length), place);
     }
     let s = offsets_of(settings);
     let a = apply_edge_gated(luma, target, flags, offsets, s);

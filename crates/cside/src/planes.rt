@@ -6,7 +6,6 @@ use answers::{told_counts, told_refusal};
 use by_list::planes::list_check;
 use numbers::plane_of;
 use plane::deblock_plane;
-use rules::refusals::Answer;
 
 // 0, or minus the refusal number with its place in the first entry of `place`; stored and changed samples in `counts`.
 #[unsafe(no_mangle)]
@@ -37,7 +36,7 @@ pub extern "C" fn bihargesh_plane(
         counts.new }
 {
     let lists = list_check(settings);
-    if let Answer::Refused(r) = lists {
+    if let Err(r) = lists {
         return told_refusal(r, place, counts);
     }
     let s = plane_of(settings);

@@ -6,7 +6,7 @@ ghost use Rattle.numbers.specs.Settings.{qindex_grid_of};
 use answers::told;
 use numbers::qindex_grid_of;
 use qindex::qindex_grid::build_qindex_grid;
-use rules::refusals::{Answer, Refusal};
+use rules::refusals::Refusal;
 
 // 0, or minus the refusal number with its place in the first entry of `place`.
 #[unsafe(no_mangle)]
@@ -26,7 +26,7 @@ pub extern "C" fn bihargesh_qindex_grid(
         place.new }
 {
     if settings.len() < 5 {
-        return told(Answer::Refused(Refusal::Length), place);
+        return told(Err(Refusal::Length), place);
     }
     let s = qindex_grid_of(settings);
     let a = build_qindex_grid(sbq, qindex, s);

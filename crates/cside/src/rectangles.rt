@@ -5,7 +5,6 @@ use answers::told;
 use by_list::rectangles::rectangle_check;
 use numbers::rectangle_of;
 use rectangle::keep_rectangle;
-use rules::refusals::Answer;
 
 // 0, or minus the refusal number with its place in the first entry of `place`.
 #[unsafe(no_mangle)]
@@ -17,8 +16,8 @@ pub extern "C" fn bihargesh_keep_rectangle(
     ensures { RectangleTold settings.now keep.old place.old result keep.new place.new }
 {
     let lists = rectangle_check(settings);
-    if let Answer::Refused(r) = lists {
-        return told(Answer::Refused(r), place);
+    if let Err(r) = lists {
+        return told(Err(r), place);
     }
     let s = rectangle_of(settings);
     let a = keep_rectangle(keep, s);

@@ -5,7 +5,7 @@ ghost use Rattle.rules.specs.CSide.{c_thresholds};
 use answers::{minus, packed};
 use byte_lists::table;
 use rules::depth::Depth;
-use rules::refusals::{Refusal, Thresholds};
+use rules::refusals::Refusal;
 use thresholds::combine::combine_thresholds;
 
 // q·65536 + side, or minus the refusal number.
@@ -26,9 +26,9 @@ pub extern "C" fn bihargesh_thresholds(
     if steps.len() != 1408 {
         return minus(Refusal::Steps(0));
     }
-    let t = table::steps(steps);
-    match combine_thresholds(curr, prev, deltaq, deltaside, depth, &t) {
-        Thresholds::Both(q, side) => packed(q, side),
-        Thresholds::Refused(r) => minus(r),
+    let table = table::steps(steps);
+    match combine_thresholds(curr, prev, deltaq, deltaside, depth, &table) {
+        Ok(t) => packed(t.q, t.side),
+        Err(r) => minus(r),
     }
 }

@@ -5,7 +5,7 @@ ghost use Rattle.by_list.specs.Grids.{GridTold};
 use answers::told;
 use grid::tx_grid::build_tx_grid;
 use numbers::tu_grid_of;
-use rules::refusals::{Answer, Refusal};
+use rules::refusals::Refusal;
 
 // 0, or minus the refusal number with its place in the first entry of `place`.
 #[unsafe(no_mangle)]
@@ -33,7 +33,7 @@ pub extern "C" fn bihargesh_tx_grid(
         place.new }
 {
     if settings.len() < 6 {
-        return told(Answer::Refused(Refusal::Length), place);
+        return told(Err(Refusal::Length), place);
     }
     let s = tu_grid_of(settings);
     let a = build_tx_grid(leaves, skips, vedge, hedge, sqw, sqh, keep, s);

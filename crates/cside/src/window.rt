@@ -5,7 +5,7 @@ use answers::{count, minus, put_counts};
 use byte_lists::window as lent;
 use lone::filter_lone;
 use rules::depth::Depth;
-use rules::refusals::{Refusal, Width};
+use rules::refusals::Refusal;
 
 // The width, or minus the refusal number; `counts` tells of none until the segment is filtered.
 #[unsafe(no_mangle)]
@@ -28,14 +28,12 @@ pub extern "C" fn bihargesh_segment(
     }
     let mut l = lent::samples(window);
     let s = lent::edge(depth, pair, q, side);
-    let a = filter_lone(&mut l, s);
-    let w = a.width;
-    match w {
-        Width::Samples(n) => {
+    match filter_lone(&mut l, s) {
+        Ok(f) => {
             lent::put_samples(window, &l);
-            put_counts(counts, a.stored, a.changed);
-            count(n)
+            put_counts(counts, f.stored, f.changed);
+            count(f.width)
         }
-        Width::Refused(r) => minus(r),
+        Err(r) => minus(r),
     }
 }

@@ -1,4 +1,5 @@
 -- A record over lists that are all zero, and by the lists that the settings have. Assumes nothing.
+use Rattle.std.specs.declared.result.Result.{Result}
 use mathlib.Core.Path.{◌≡◌, refl, ap, ◌∙◌}
 use mathlib.Core.Bool.{Bool, true, false}
 use mathlib.Core.List.{List}
@@ -8,8 +9,10 @@ use Rattle.rules.specs.declared.settings.Frame.{Frame}
 use Rattle.rules.specs.declared.settings.Plane.{Plane}
 use Rattle.rules.specs.declared.settings.TuGrid.{TuGrid}
 use Rattle.rules.specs.declared.settings.QindexGrid.{QindexGrid}
-use Rattle.rules.specs.declared.refusals.Answer.{Answer}
-use Rattle.rules.specs.declared.refusals.RecordAnswer.{RecordAnswer}
+use Rattle.rules.specs.Refusals.{Answer}
+use Rattle.rules.specs.declared.counts.Visited.{Visited}
+use Rattle.rules.specs.declared.refusals.Refusal.{Refusal}
+use Rattle.rules.specs.Refusals.{length_told}
 use Rattle.rules.specs.Plane.{Grid, keeping}
 use Rattle.rules.specs.TuGrid.{Marks, marks, tx_grid_after}
 use Rattle.rules.specs.QindexGrid.{q_grid_after}
@@ -38,10 +41,10 @@ module _ (t : TuGrid) (q : QindexGrid) (leaves skips sbq ts : List ℕ) {r : Ans
       ∙ ap (λ (l : List ℕ). with_q m l ts o') (rw z5 at g)
       ∙ ap (λ (l : List ℕ). with_q m (q_grid_after q sbq zeros) ts l) d.cleared
 
-  pub noted_by : (s : Plane) (steps b : List ℕ) {l m c : List ℕ} {a : RecordAnswer} {n : ℕ}
+  pub noted_by : (s : Plane) (steps b : List ℕ) {l m c : List ℕ} {a : Result Visited Refusal} {n : ℕ}
       → TxStated t leaves skips (marks v h w x) o r (marks v' h' w' x') o' → i' ≡ q_grid_after q sbq i
       → v ≡ zeros → h ≡ zeros → w ≡ zeros → x ≡ zeros → o ≡ zeros → i ≡ zeros → l ≡ dark
-      → Stated s steps (keeping v' h' w' x' i' ts o') l b a m c → n ≡ bytes_of a.«record»
+      → Stated s steps (keeping v' h' w' x' i' ts o') l b a m c → n ≡ bytes_of (length_told a)
       → Noted s steps (grid_by t q leaves skips sbq ts) b n c
   noted_by s steps b {l = l} e g z0 z1 z2 z3 z4 z5 is d k =
       let same = built e g z0 z1 z2 z3 z4 z5 in

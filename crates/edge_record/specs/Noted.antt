@@ -5,8 +5,9 @@ use Rattle.rules.specs.declared.settings.Frame.{Frame}
 use Rattle.rules.specs.declared.settings.Plane.{Plane}
 use Rattle.rules.specs.declared.settings.TuGrid.{TuGrid}
 use Rattle.rules.specs.declared.settings.QindexGrid.{QindexGrid}
-use Rattle.rules.specs.declared.refusals.Recorded.{Recorded}
-use Rattle.rules.specs.declared.refusals.Recorded.TheVariants.{Bytes, Refused}
+use Rattle.std.specs.declared.result.Result.{Result}
+use Rattle.rules.specs.declared.refusals.Refusal.{Refusal}
+use Rattle.std.specs.declared.result.Result.TheVariants.{Ok, Err}
 use Rattle.rules.specs.Plane.{Grid}
 use Rattle.rules.specs.TuGrid.{marks, tx_grid_after, cleared_after}
 use Rattle.rules.specs.QindexGrid.{q_grid_after}
@@ -25,9 +26,9 @@ grid_by t q leaves skips sbq ts =
     with_q (tx_grid_after t leaves skips (marks zeros zeros zeros zeros) zeros) (q_grid_after q sbq zeros) ts
     (cleared_after t leaves skips (marks zeros zeros zeros zeros) zeros)
 
-unfoldable pub bytes_of : Recorded → ℕ
-bytes_of (Bytes n) = n
-bytes_of (Refused r) = 0
+unfoldable pub bytes_of : Result ℕ Refusal → ℕ
+bytes_of (Ok n) = n
+bytes_of (Err r) = 0
 
 -- a record of n bytes, and the buffer b afterwards
 pub record Noted (s : Plane) (steps : List ℕ) (g : Grid) (b : List ℕ) (n : ℕ) (c : List ℕ) : Type 0 where

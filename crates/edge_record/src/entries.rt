@@ -1,5 +1,6 @@
 // The record of a picture's luma or chroma, by the frame and the settings' own lists.
 ghost use Rattle.std.specs.Prelude.{◌≡◌, length};
+ghost use Rattle.rules.specs.Refusals.{length_told};
 ghost use Rattle.frame_checks.specs.Settings.{Sized};
 ghost use Rattle.frame_by_settings.specs.Framed.{ListsLong, given_asked, starts_asked};
 ghost use Rattle.edge_record.specs.Noted.{dark, grid_by, bytes_of, Noted, NotedBy};
@@ -11,7 +12,8 @@ use grid::tx_grid::build_tx_grid;
 use gridded::spans::{leaves_of, tiles_of};
 use qindex::qindex_grid::build_qindex_grid;
 use recorded::record_plane;
-use rules::refusals::Recorded;
+use rules::counts::Visited;
+use rules::refusals::Refusal;
 use rules::settings::{Frame, Plane, QindexGrid, TuGrid};
 
 // Room for the record of every edge of the largest plane.
@@ -27,12 +29,12 @@ fn dark_plane() -> [u16; 16777216]
 }
 
 // A record's length, 0 where there is none.
-fn bytes_of(a: Recorded) -> usize
-    ensures { result ≡ bytes_of a }
+fn bytes_of(a: Result<Visited, Refusal>) -> usize
+    ensures { result ≡ bytes_of (length_told a) }
 {
     match a {
-        Recorded::Bytes(n) => n,
-        Recorded::Refused(_) => 0,
+        Ok(v) => v.bytes,
+        Err(_) => 0,
     }
 }
 
@@ -57,15 +59,15 @@ fn noted(
     let mut sqh = marks();
     let mut keep = marks();
     let mut qindex = indices();
-    build_tx_grid(
+    // a grid that is refused stays without an edge, and the plane's record says so
+    let _ = build_tx_grid(
         leaves, skips, &mut vedge, &mut hedge, &mut sqw, &mut sqh, &mut keep, t,
     );
-    build_qindex_grid(sbq, &mut qindex, q);
+    let _ = build_qindex_grid(sbq, &mut qindex, q);
     let a = record_plane(
         &mut plane, buffer, &vedge, &hedge, &sqw, &sqh, &qindex, tiles, &keep, steps, s,
     );
-    let length = a.record;
-    bytes_of(length)
+    bytes_of(a)
 }
 
 // Luma's record, or chroma's; how long it is, 0 where there is none.

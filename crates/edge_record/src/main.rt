@@ -9,6 +9,7 @@ mod entries;
 // The files, and the order of it all.
 mod run;
 
+use run::{Fault, Record};
 use std::fs::File;
 use std::rt::{Env, Files};
 use system::bytes::buffer;
@@ -16,26 +17,28 @@ use system::files::{Ends, Target, answers, open_out, print_decimal, word, write_
 
 // The file of an argument, to write to.
 fn opened<R: Env + Files<File = File>>(rt: &R, ends: Ends, k: usize) -> Target {
-    let mut name = buffer();
-    let n = word(rt, k, &mut name);
-    open_out(rt, ends, &name[..n])
+    open_out(rt, ends, word(rt, k, &mut buffer()).unwrap_or(b""))
 }
 
 // Whether a record goes to standard output.
 fn has_output(to: &Target) -> bool {
-    match to {
-        Target::Output(_) => true,
-        Target::Errors(_) | Target::File(_) | Target::Shut => false,
+    matches!(to, Target::Output(_))
+}
+
+// The outcome as it is printed.
+fn number(outcome: Result<Record, Fault>) -> u64 {
+    match outcome {
+        Ok(Record::NotAsked) => 0,
+        Ok(Record::Written) => 1,
+        Err(Fault::NoFiles) => 2,
+        Err(Fault::Unwritten) => 3,
     }
 }
 
 // Says the outcome, apart from the records where one has standard output.
-fn tell<R: Files<File = File>>(rt: &R, ends: Ends, apart: bool, outcome: u8) {
-    if apart {
-        print_decimal(&answers(rt, ends, b"-"), outcome as u64);
-    } else {
-        print_decimal(&Target::Output(ends.output), outcome as u64);
-    }
+fn tell<R: Files<File = File>>(rt: &R, ends: Ends, apart: bool, outcome: Result<Record, Fault>) {
+    let name: &[u8] = if apart { b"-" } else { b"" };
+    let _ = print_decimal(&answers(rt, ends, name), number(outcome));
 }
 
 fn main(rt: HostRuntime) {
@@ -46,25 +49,24 @@ fn main(rt: HostRuntime) {
     };
     let mut picture = buffer();
     let mut settings = buffer();
-    let p = word(&rt, 1, &mut picture);
-    let s = word(&rt, 2, &mut settings);
-    if p == 0 || s == 0 {
-        write_all(
+    let (Some(picture), Some(settings)) = (word(&rt, 1, &mut picture), word(&rt, 2, &mut settings))
+    else {
+        let _ = write_all(
             &Target::Output(ends.output),
             b"usage: edge_record PICTURE SETTINGS Y C\n",
         );
         return;
-    }
+    };
     // Two calls: one alone would be compiled into main, whose stack would then be that of a record. Y is closed before C is opened.
     let y = opened(&rt, ends, 3);
-    let luma = run::run(&rt, ends, &picture[..p], &settings[..s], false, &y);
+    let luma = run::run(&rt, ends, picture, settings, false, &y);
     let first = has_output(&y);
     drop(y);
-    if luma != 1 {
+    let Ok(Record::Written) = luma else {
         tell(&rt, ends, first, luma);
         return;
-    }
+    };
     let c = opened(&rt, ends, 4);
-    let chroma = run::run(&rt, ends, &picture[..p], &settings[..s], true, &c);
+    let chroma = run::run(&rt, ends, picture, settings, true, &c);
     tell(&rt, ends, first || has_output(&c), chroma);
 }

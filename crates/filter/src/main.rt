@@ -6,6 +6,9 @@
 // The answer.
 mod say;
 
+// What the settings ask for.
+mod asked;
+
 // The filters over the planes.
 mod treat;
 
@@ -15,6 +18,7 @@ mod one_frame;
 // The order of it all.
 mod run;
 
+use run::Names;
 use system::bytes::buffer;
 use system::files::{Ends, answers, word};
 
@@ -27,13 +31,15 @@ fn main(rt: HostRuntime) {
     let mut picture = buffer();
     let mut settings = buffer();
     let mut out = buffer();
-    let p = word(&rt, 1, &mut picture);
-    let s = word(&rt, 2, &mut settings);
-    let o = word(&rt, 3, &mut out);
-    let answer = answers(&rt, ends, &out[..o]);
-    if p == 0 || s == 0 || o == 0 {
+    let out = word(&rt, 3, &mut out);
+    let answer = answers(&rt, ends, out.unwrap_or(b""));
+    let (Some(picture), Some(settings), Some(out)) = (
+        word(&rt, 1, &mut picture),
+        word(&rt, 2, &mut settings),
+        out,
+    ) else {
         say::usage(&answer);
         return;
-    }
-    run::run(&rt, ends, &answer, &picture[..p], &settings[..s], &out[..o]);
+    };
+    let _ = run::run(&rt, ends, &answer, picture, Names { settings, out });
 }

@@ -1,29 +1,29 @@
 // Both filters over the planes, and the answer that says why one refused.
-ghost use Rattle.std.specs.Prelude.{length};
-ghost use Rattle.filter.specs.Lent.{Lent};
 ghost use Rattle.streams.specs.Shaped.{Shaped};
 
+use crate::asked::Asked;
 use by_settings::gated::{Applied, offset_planes};
 use by_settings::places::at;
 use frame_by_settings::lists::deblock_asked;
-use pictures::planes;
+use pictures::planes::copy;
 use refused::frames::{deblocked, frame_by, say_setting, starts_good};
 use refused::say;
 use rules::counts::Counts;
-use rules::refusals::{Answer, Refusal, number, place};
+use rules::refusals::{Refusal, number, place};
 use rules::settings::Frame;
-use std::rt::Env;
+use settings::kinds::Kind;
 use streams::job::Job;
+use streams::planes::Planes;
 use streams::save::pack;
-use system::bytes::buffer;
-use system::files::{Target, word};
+use streams::say::Answered;
+use system::files::Target;
 
 // The kind of a plane's CCSO line.
-fn ccso_kind(plane: usize) -> usize {
+fn ccso_kind(plane: usize) -> Kind {
     match plane {
-        0 => 12,
-        1 => 13,
-        _ => 14,
+        0 => Kind::CcsoY,
+        1 => Kind::CcsoU,
+        _ => Kind::CcsoV,
     }
 }
 
@@ -32,78 +32,50 @@ fn say_plane(answer: &Target, r: Refusal, plane: usize, width: usize, f: Frame, 
     if number(r) == 5 {
         say_setting(answer, ccso_kind(plane), f, text);
     } else {
-        say::refused(answer, r, at(plane, place(r), width), 0);
+        say::refused(answer, r, at(plane, place(r), width), None);
     }
 }
 
-// Whether every plane was offset; else after the answer that says why not.
-fn offset(answer: &Target, d: Applied, f: Frame, across: usize, text: &[u8]) -> bool {
-    let a = d.answer;
+// Whether every plane was offset; else an error after the answer that says why not.
+fn offset(j: Job<'_>, d: Applied, f: Frame, text: &[u8]) -> Result<(), Answered> {
+    let Err(r) = d.answer else {
+        return Ok(());
+    };
     let plane = d.plane;
-    match a {
-        Answer::Accepted => true,
-        Answer::Refused(r) => {
-            let samples = if plane == 0 { f.width } else { across };
-            say_plane(answer, r, plane, samples, f, text);
-            false
-        }
-    }
-}
-
-// Chroma's samples in a row.
-fn width_of(j: Job<'_>) -> usize {
     let c = j.c;
-    c.width
+    let samples = if plane == 0 { f.width } else { c.width };
+    say_plane(j.told, r, plane, samples, f, text);
+    Err(Answered)
 }
 
-// Whether the plain engine is asked for, by the program's fourth word.
-pub fn plain_asked<R: Env>(rt: &R) -> bool {
-    let mut room = buffer();
-    word(rt, 4, &mut room) != 0
-}
-
-// Whether the planes were filtered, and how many samples deblocking stored and changed.
-#[derive(Clone, Copy)]
-pub struct Treated {
-    pub good: bool,
-    pub counts: Counts,
-}
-
-// Deblocks the planes, packs them and applies the offsets by a copy of luma; not good after the answer that says why not.
+// Deblocks the planes, packs them and applies the offsets by a copy of luma, and counts what deblocking stored and changed; an error after the answer that says why not.
 pub fn treat(
-    y: &mut [u16],
-    u: &mut [u16],
-    v: &mut [u16],
+    frame: &mut Planes<'_>,
     luma: &mut [u16],
     j: Job<'_>,
-    numbers: &[i32],
-    shorts: &[u16],
-    steps: &[u32],
-    flags: &[u8],
-    offsets: &[i8],
-    places: &[usize],
-    keep: &[u8],
-    chromakeep: &[u8],
-    text: &[u8],
-    plain: bool,
-) -> Treated
-    requires { Shaped j × Lent (length numbers.now) (length shorts.now) (length steps.now) (length flags.now) (length offsets.now) (length places.now) }
+    s: Asked<'_>,
+) -> Result<Counts, Answered>
+    requires { Shaped j }
 {
-    let f = frame_by(j, numbers);
-    let o = deblock_asked(y, u, v, shorts, steps, keep, chromakeep, places, f, plain);
-    let counts = Counts {
-        stored: o.stored,
-        changed: o.changed,
-    };
-    if !deblocked(j.told, o, f, starts_good(shorts, places, f), text) {
-        return Treated {
-            good: false,
-            counts,
-        };
-    }
-    pack(y, u, v, j);
-    planes::copy(y, luma);
-    let d = offset_planes(y, u, v, luma, numbers, flags, offsets, places, f);
-    let good = offset(j.told, d, f, width_of(j), text);
-    Treated { good, counts }
+    let f = frame_by(j, s.numbers);
+    let o = deblock_asked(
+        frame.y,
+        frame.u,
+        frame.v,
+        s.shorts,
+        s.steps,
+        s.keep,
+        s.chromakeep,
+        s.places,
+        f,
+        s.plain,
+    );
+    let counts = deblocked(j.told, o, f, starts_good(s.shorts, s.places, f), s.text)?;
+    pack(frame, j);
+    copy(&*frame.y, luma);
+    let d = offset_planes(
+        frame.y, frame.u, frame.v, luma, s.numbers, s.flags, s.offsets, s.places, f,
+    );
+    offset(j, d, f, s.text)?;
+    Ok(counts)
 }

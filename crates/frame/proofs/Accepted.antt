@@ -10,8 +10,8 @@ use lib.Dec.{eqb}
 use lib.ListN.{length}
 use Rattle.laws.specs.Choose.{either, both, all_ok, all_none}
 use Rattle.rules.specs.declared.settings.Frame.{Frame}
-use Rattle.rules.specs.declared.refusals.Answer.TheVariants.{Accepted}
-use Rattle.rules.specs.declared.refusals.Found.TheVariants.{Nothing}
+use Rattle.std.specs.declared.result.Result.TheVariants.{Ok}
+use Rattle.std.specs.declared.option.Option.TheVariants.{None}
 use Rattle.rules.specs.Numbers.{in_range, down}
 use Rattle.rules.specs.Thresholds.{deltas_check}
 use Rattle.rules.specs.Plane.{Grid, no_room, over_plane, plane_sizes_ok, plane_check}
@@ -73,7 +73,7 @@ sizes_ok f chroma size k =
 
 -- ---- one plane by a good grid
 
-pub plane_accepted : (f : Frame) (chroma : Bool) (steps : List ℕ) (g : Grid) (l : List ℕ) → Gridded f chroma g (length l) → Stepped f chroma steps → no_room (plane_of f chroma) g ≡ Nothing → over_plane (plane_of f chroma) l ≡ Nothing → plane_check (plane_of f chroma) steps g l ≡ Accepted
+pub plane_accepted : (f : Frame) (chroma : Bool) (steps : List ℕ) (g : Grid) (l : List ℕ) → Gridded f chroma g (length l) → Stepped f chroma steps → no_room (plane_of f chroma) g ≡ None → over_plane (plane_of f chroma) l ≡ None → plane_check (plane_of f chroma) steps g l ≡ Ok tt
 unfolding plane_check deltas_check both
 plane_accepted f chroma steps g l k t room over =
     sym
@@ -88,5 +88,5 @@ plane_accepted f chroma steps g l k t room over =
     (found_good _ _ (sym over))))))))))
 
 -- what running it asks
-pub runnable : {f : Frame} {chroma : Bool} {g : Grid} {l : List ℕ} → Gridded f chroma g (length l) → {steps : List ℕ} → Stepped f chroma steps → no_room (plane_of f chroma) g ≡ Nothing → over_plane (plane_of f chroma) l ≡ Nothing → Runnable f chroma steps g l
+pub runnable : {f : Frame} {chroma : Bool} {g : Grid} {l : List ℕ} → Gridded f chroma g (length l) → {steps : List ℕ} → Stepped f chroma steps → no_room (plane_of f chroma) g ≡ None → over_plane (plane_of f chroma) l ≡ None → Runnable f chroma steps g l
 runnable {f} {chroma} {g} {l} k {steps} s room over = record { sized = k.sampled.sized; accepted = plane_accepted f chroma steps g l k s room over }

@@ -12,8 +12,8 @@ use Rattle.laws.specs.Choose.{both, all, both_parts, all_parts}
 use Rattle.rules.specs.declared.settings.Frame.{Frame}
 use Rattle.rules.specs.declared.settings.Plane.{Plane}
 use Rattle.rules.specs.declared.refusals.Refusal.TheVariants.{Depth, Length, Setting, Cell, Leaf}
-use Rattle.rules.specs.declared.refusals.Answer.TheVariants.{Accepted}
-use Rattle.rules.specs.declared.refusals.Found.TheVariants.{Nothing}
+use Rattle.std.specs.declared.result.Result.TheVariants.{Ok}
+use Rattle.std.specs.declared.option.Option.TheVariants.{None}
 use Rattle.rules.specs.Numbers.{depth_ok, delta_ok}
 use Rattle.rules.specs.Refusals.{unless, only_if, found}
 use Rattle.rules.specs.Thresholds.{steps_check}
@@ -91,7 +91,7 @@ record Settings (f : Frame) : Type 0 where
   pub ccapw : cap_ok f.ccapw ≡ true
   pub ccaph : cap_ok f.ccaph ≡ true
 
-settings : (f : Frame) → frame_settings f ≡ Accepted → Settings f
+settings : (f : Frame) → frame_settings f ≡ Ok tt → Settings f
 unfolding frame_settings
 settings f e =
     let p1 = all_parts _ _ (unless_true _ Setting e) in
@@ -104,15 +104,15 @@ settings f e =
 
 -- ---- a frame whose early checks accept, by the lengths k of its lists, the tile starts and the keep marks
 
-module _ (f : Frame) (k : FrameLengths) (ltiles ctiles lkeep ckeep : List ℕ) (n : Given) (ok : frame_early f k ltiles ctiles lkeep ckeep n ≡ Accepted) where
-  shape : (unless (depth_ok f.depth) Depth ≡ Accepted) × (frame_sizes f ≡ Accepted) × (frame_lengths f k ≡ Accepted)
+module _ (f : Frame) (k : FrameLengths) (ltiles ctiles lkeep ckeep : List ℕ) (n : Given) (ok : frame_early f k ltiles ctiles lkeep ckeep n ≡ Ok tt) where
+  shape : (unless (depth_ok f.depth) Depth ≡ Ok tt) × (frame_sizes f ≡ Ok tt) × (frame_lengths f k ≡ Ok tt)
   unfolding frame_early frame_shape
   shape =
       let e1 = else_parts _ _ (else_parts _ _ ok).0 in
       let e2 = else_parts _ _ e1.1 in
       (e1.0, e2.0, e2.1)
 
-  rest : (steps_check n.steps ≡ Accepted) × (frame_settings f ≡ Accepted) × (frame_tiles f ltiles ctiles ≡ Accepted) × (frame_leaves n ≡ Accepted)
+  rest : (steps_check n.steps ≡ Ok tt) × (frame_settings f ≡ Ok tt) × (frame_tiles f ltiles ctiles ≡ Ok tt) × (frame_leaves n ≡ Ok tt)
   unfolding frame_early frame_given
   rest =
       let e1 = else_parts _ _ (else_parts _ _ (else_parts _ _ ok).1).0 in
@@ -120,7 +120,7 @@ module _ (f : Frame) (k : FrameLengths) (ltiles ctiles lkeep ckeep : List ℕ) (
       let e3 = else_parts _ _ e2.1 in
       (e1.0, e2.0, e3.0, e3.1)
 
-  marks : frame_keep f lkeep ckeep ≡ Accepted
+  marks : frame_keep f lkeep ckeep ≡ Ok tt
   unfolding frame_early
   marks = (else_parts _ _ (else_parts _ _ ok).1).1
 
@@ -165,12 +165,12 @@ module _ (f : Frame) (k : FrameLengths) (ltiles ctiles lkeep ckeep : List ℕ) (
   unfolding chroma_plane
   chroma_stepped = let s = settings f rest.1 in record { steps_ok = rest.0; deltaq_ok = s.deltauv; deltaside_ok = s.deltauv }
 
-  pub luma_starts : tiles_check (luma_plane f).cols ltiles ≡ Accepted
+  pub luma_starts : tiles_check (luma_plane f).cols ltiles ≡ Ok tt
   unfolding frame_tiles
   luma_starts = (else_parts _ _ rest.2).0
 
   -- ticket 7: the lent marks are tested before the grids are built, and there is one for each cell
-  pub luma_marks : ((luma_plane f).rows * (luma_plane f).cols ≤ k.luma.keep) × (bad_keep ((luma_plane f).rows * (luma_plane f).cols) lkeep ≡ Nothing)
+  pub luma_marks : ((luma_plane f).rows * (luma_plane f).cols ≤ k.luma.keep) × (bad_keep ((luma_plane f).rows * (luma_plane f).cols) lkeep ≡ None)
   unfolding frame_keep
   luma_marks = ((lists _ _ luma_long_holds.1).keep, found_nothing _ Cell (else_parts _ _ marks).0)
 
@@ -192,11 +192,11 @@ module _ (f : Frame) (k : FrameLengths) (ltiles ctiles lkeep ckeep : List ℕ) (
 
   -- chroma's, where it is filtered
   module _ (on : chroma_on f ≡ true) where
-    pub chroma_starts : tiles_check (chroma_plane f).cols ctiles ≡ Accepted
+    pub chroma_starts : tiles_check (chroma_plane f).cols ctiles ≡ Ok tt
     unfolding frame_tiles
     chroma_starts = only_part _ _ (else_parts _ _ rest.2).1 on
 
-    pub chroma_marks : ((chroma_plane f).rows * (chroma_plane f).cols ≤ k.chroma.keep) × (bad_keep ((chroma_plane f).rows * (chroma_plane f).cols) ckeep ≡ Nothing)
+    pub chroma_marks : ((chroma_plane f).rows * (chroma_plane f).cols ≤ k.chroma.keep) × (bad_keep ((chroma_plane f).rows * (chroma_plane f).cols) ckeep ≡ None)
     unfolding frame_keep
     chroma_marks = ((lists _ _ (chroma_long_holds on).2).keep, found_nothing _ Cell (only_part _ _ (else_parts _ _ marks).1 on))
 

@@ -10,8 +10,8 @@ use lib.ListN.{length}
 use Rattle.laws.specs.Choose.{pick, all, all_ok, all_none, all_parts, is_le}
 use Rattle.rules.specs.declared.settings.Frame.{Frame}
 use Rattle.rules.specs.declared.settings.Plane.{Plane}
-use Rattle.rules.specs.declared.refusals.Answer.TheVariants.{Accepted}
-use Rattle.rules.specs.declared.refusals.Found.TheVariants.{Nothing}
+use Rattle.std.specs.declared.result.Result.TheVariants.{Ok}
+use Rattle.std.specs.declared.option.Option.TheVariants.{None}
 use Rattle.rules.specs.Refusals.{found_unless, over_top}
 use Rattle.rules.specs.Plane.{Grid, tiled, keeping, tiles_check, cell_good, bad_cell, bad_keep, plane_lengths_ok}
 use Rattle.rules.specs.TuGrid.{Marks, marks, tx_grid_of}
@@ -46,12 +46,12 @@ tu_long f false n h = h
 tu_long f true n h = h
 
 -- what is built is good, whatever the qindex and the tile starts
-built_cells : (f : Frame) (chroma : Bool) (ls ks q ts : List ℕ) (m : Marks) → bad_cell (plane_of f chroma) (with_q (tx_grid_of (tu_of f chroma) ls ks m) q ts []) ≡ Nothing
+built_cells : (f : Frame) (chroma : Bool) (ls ks q ts : List ℕ) (m : Marks) → bad_cell (plane_of f chroma) (with_q (tx_grid_of (tu_of f chroma) ls ks m) q ts []) ≡ None
 unfolding bad_cell cell_good
 built_cells f chroma ls ks q ts m = no_bad_cell (plane_of f chroma) (tu_of f chroma) ls ks m [] (rows_same f chroma) (cols_same f chroma)
 
 -- good keep marks beside cells that are good without them
-kept_cells : (s : Plane) (v h w t q ts ks : List ℕ) → bad_cell s (tiled v h w t q ts) ≡ Nothing → bad_keep (s.rows * s.cols) ks ≡ Nothing → bad_cell s (keeping v h w t q ts ks) ≡ Nothing
+kept_cells : (s : Plane) (v h w t q ts ks : List ℕ) → bad_cell s (tiled v h w t q ts) ≡ None → bad_keep (s.rows * s.cols) ks ≡ None → bad_cell s (keeping v h w t q ts ks) ≡ None
 unfolding bad_cell bad_keep cell_good
 kept_cells s v h w t q ts ks e m = all_nothing _ (s.rows * s.cols) (λ k l.
     let p1 = all_parts _ _ (unless_nothing _ k (nothing_all (λ i. found_unless (cell_good (tiled v h w t q ts) i) i) _ e k l)) in
@@ -61,7 +61,7 @@ kept_cells s v h w t q ts ks e m = all_nothing _ (s.rows * s.cols) (λ k l.
     let mark = is_le _ 1 (over_nothing 1 ks k (nothing_all (λ i. over_top 1 ks i) _ m k l)) in
     sym (found_unless_not _ k (all_ok _ _ _ (sym p1.0) (all_ok _ _ _ (sym p2.0) (all_ok _ _ _ (sym p3.0) (all_ok _ _ _ (sym p4.0) (all_ok _ _ _ mark all_none)))))))
 
-good_cells : (f : Frame) (chroma : Bool) (ls ks sbq : List ℕ) (g : Grid) → bad_keep ((plane_of f chroma).rows * (plane_of f chroma).cols) g.keep ≡ Nothing → bad_cell (plane_of f chroma) (built_grid (tu_of f chroma) (q_of f chroma) ls ks sbq g) ≡ Nothing
+good_cells : (f : Frame) (chroma : Bool) (ls ks sbq : List ℕ) (g : Grid) → bad_keep ((plane_of f chroma).rows * (plane_of f chroma).cols) g.keep ≡ None → bad_cell (plane_of f chroma) (built_grid (tu_of f chroma) (q_of f chroma) ls ks sbq g) ≡ None
 unfolding built_grid
 good_cells f chroma ls ks sbq g = kept_cells _ _ _ _ _ _ _ _ (built_cells f chroma ls ks _ _ _)
 
@@ -74,7 +74,7 @@ long_enough_holds s n v h w t q ts ks a b c d e f i = rw (le-leb _ _ a, le-leb _
 -- lists of the same lengths that hold the built grid
 module _ {f : Frame} {chroma : Bool} {ls ks : List ℕ} (sbq : List ℕ) (g : Grid) {size count : ℕ} {v h w t q : List ℕ} {lv lh lw lt lq : ℕ} (ts keep : List ℕ) where
   pub gridded : Sampled f chroma size → Buildable f chroma ls ks count lv lh lw lt lq → length v ≡ lv → length h ≡ lh → length w ≡ lw → length t ≡ lt → length q ≡ lq
-      → kind_on f chroma ≡ true → tiles_check (plane_of f chroma).cols ts ≡ Accepted → ((plane_of f chroma).rows * (plane_of f chroma).cols ≤ length keep) × (bad_keep ((plane_of f chroma).rows * (plane_of f chroma).cols) g.keep ≡ Nothing)
+      → kind_on f chroma ≡ true → tiles_check (plane_of f chroma).cols ts ≡ Ok tt → ((plane_of f chroma).rows * (plane_of f chroma).cols ≤ length keep) × (bad_keep ((plane_of f chroma).rows * (plane_of f chroma).cols) g.keep ≡ None)
       → keeping v h w t q ts keep ≡ pick (kind_on f chroma) (built_grid (tu_of f chroma) (q_of f chroma) ls ks sbq g) g → Gridded f chroma (keeping v h w t q ts keep) size
   unfolding pick
   gridded sampled b ev eh ew et eq on starts kept is =
@@ -95,7 +95,7 @@ module _ {f : Frame} {chroma : Bool} {ls ks : List ℕ} (sbq : List ℕ) (g : Gr
 -- ---- what the checks of a plane with such a grid ask
 
 module _ {f : Frame} {chroma : Bool} {v h w t q ts ks : List ℕ} {size : ℕ} (k : Gridded f chroma (keeping v h w t q ts ks) size) where
-  same_cells : (p us : List ℕ) → Nothing ≡ bad_cell (plane_of f chroma) (keeping v h w t p us ks)
+  same_cells : (p us : List ℕ) → None ≡ bad_cell (plane_of f chroma) (keeping v h w t p us ks)
   unfolding bad_cell cell_good
   same_cells p us = sym k.cells
 

@@ -4,8 +4,8 @@ use Rattle.std.specs.Prelude.{◌≡◌, Bool, true, List, ℕ, length}
 use Rattle.rules.specs.declared.settings.Frame.{Frame}
 use Rattle.rules.specs.declared.lent.GridLengths.{GridLengths}
 use Rattle.rules.specs.declared.lent.FrameLengths.{FrameLengths}
-use Rattle.rules.specs.declared.refusals.Answer.TheVariants.{Accepted}
-use Rattle.rules.specs.declared.refusals.Found.TheVariants.{Nothing}
+use Rattle.std.specs.declared.result.Result.TheVariants.{Ok}
+use Rattle.std.specs.declared.option.Option.TheVariants.{None}
 use Rattle.rules.specs.Numbers.{delta_ok}
 use Rattle.rules.specs.Thresholds.{steps_check}
 use Rattle.rules.specs.Plane.{Grid, tiles_check, plane_lengths_ok, bad_cell}
@@ -15,7 +15,7 @@ use Rattle.frame_planes.specs.Fit.{Sampled}
 
 -- the steps, and a plane's deltas
 pub record Stepped (f : Frame) (chroma : Bool) (steps : List ℕ) : Type 0 where
-  pub steps_ok : steps_check steps ≡ Accepted
+  pub steps_ok : steps_check steps ≡ Ok tt
   pub deltaq_ok : delta_ok (plane_of f chroma).deltaq ≡ true
   pub deltaside_ok : delta_ok (plane_of f chroma).deltaside ≡ true
 
@@ -23,8 +23,8 @@ pub record Stepped (f : Frame) (chroma : Bool) (steps : List ℕ) : Type 0 where
 pub record Gridded (f : Frame) (chroma : Bool) (g : Grid) (size : ℕ) : Type 0 where
   pub sampled : Sampled f chroma size
   pub lengths : plane_lengths_ok (plane_of f chroma) g size ≡ true
-  pub tiles_ok : tiles_check (plane_of f chroma).cols g.tiles ≡ Accepted
-  pub cells : bad_cell (plane_of f chroma) g ≡ Nothing
+  pub tiles_ok : tiles_check (plane_of f chroma).cols g.tiles ≡ Ok tt
+  pub cells : bad_cell (plane_of f chroma) g ≡ None
 
 -- a grid's lists by their lengths
 abbrev pub lengths_by : ℕ → ℕ → ℕ → ℕ → ℕ → ℕ → GridLengths

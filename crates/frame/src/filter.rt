@@ -1,25 +1,15 @@
-// The planes of a frame whose grids are built: the late checks, the planes run where they accept, and what a refusal tells.
+// The planes of a frame whose grids are built: the late checks, the planes run where they accept.
 ghost use Rattle.std.specs.Prelude.{◌≡◌, true, false, length};
 ghost use Rattle.rules.specs.Plane.{keeping};
 ghost use Rattle.rules.specs.Frame.{planes, grids, chroma_on};
 ghost use Rattle.frame.specs.Fit.{Gridded, Stepped};
-ghost use Rattle.frame.specs.Stated.{refused_by, Finished};
+ghost use Rattle.frame.specs.Stated.{Finished};
 
 use frame_planes::late::late;
 use frame_planes::run::run_planes;
-use rules::refusals::{Answer, PlaneAnswer, Refusal};
+use rules::counts::Counts;
+use rules::refusals::Refusal;
 use rules::settings::Frame;
-
-// A refusal tells of no samples.
-pub fn refused(r: Refusal) -> PlaneAnswer
-    ensures { result ≡ refused_by r }
-{
-    PlaneAnswer {
-        answer: Answer::Refused(r),
-        stored: 0,
-        changed: 0,
-    }
-}
 
 // Filters the planes, in document 01's order or in the plain one, and tells how many samples that stored and changed; or refuses them, and tells of none.
 pub fn filter(
@@ -43,7 +33,7 @@ pub fn filter(
     steps: &[u32],
     f: Frame,
     plain: bool,
-) -> PlaneAnswer
+) -> Result<Counts, Refusal>
     requires stepped { Stepped f false steps.now × Gridded f false (keeping lv.now lh.now lw.now lt.now lq.now ltiles.now lkeep.now) (length y.old) }
     requires stepped_2 { chroma_on f ≡ true → Stepped f true steps.now
         × Gridded f true (keeping cv.now ch.now cw.now ct.now cq.now ctiles.now ckeep.now) (length u.old)
@@ -57,17 +47,9 @@ pub fn filter(
         result
         (planes y.new u.new v.new) }
 {
-    let a = late(y, u, v, lv, lh, lw, lt, ltiles, cv, ch, cw, ct, ctiles, f);
-    if let Answer::Refused(r) = a {
-        return refused(r);
-    }
-    let n = run_planes(
+    late(y, u, v, lv, lh, lw, lt, ltiles, cv, ch, cw, ct, ctiles, f)?;
+    Ok(run_planes(
         y, u, v, lv, lh, lw, lt, lq, ltiles, lkeep, cv, ch, cw, ct, cq, ctiles, ckeep, steps, f,
         plain,
-    );
-    PlaneAnswer {
-        answer: Answer::Accepted,
-        stored: n.stored,
-        changed: n.changed,
-    }
+    ))
 }

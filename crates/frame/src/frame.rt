@@ -5,11 +5,12 @@ ghost use Rattle.rules.specs.Frame.{planes, grids, lent, given};
 ghost use Rattle.frame.specs.Fit.{lengths_by};
 ghost use Rattle.frame.specs.Stated.{Stated};
 
-use super::filter::{filter, refused};
+use super::filter::filter;
 use frame_checks::early::frame_early;
 use frame_planes::build::build;
+use rules::counts::Counts;
 use rules::lent::{FrameLengths, GridLengths};
-use rules::refusals::{Answer, PlaneAnswer};
+use rules::refusals::Refusal;
 use rules::settings::Frame;
 
 // How long a grid's lists are.
@@ -60,7 +61,7 @@ pub fn deblock_frame(
     chromakeep: &[u8],
     f: Frame,
     plain: bool,
-) -> PlaneAnswer
+) -> Result<Counts, Refusal>
     ensures { Stated f
         (given steps.now sbq.now leaves.now chromaleaves.now skips.now)
         (lent
@@ -95,7 +96,7 @@ pub fn deblock_frame(
         chromaleaves: chromaleaves.len(),
         skips: skips.len(),
     };
-    let a = frame_early(
+    frame_early(
         steps,
         leaves,
         chromaleaves,
@@ -106,10 +107,7 @@ pub fn deblock_frame(
         chromakeep,
         f,
         n,
-    );
-    if let Answer::Refused(r) = a {
-        return refused(r);
-    }
+    )?;
     build(lv, lh, lw, lt, lq, leaves, skips, sbq, f, false);
     build(cv, ch, cw, ct, cq, chromaleaves, skips, sbq, f, true);
     filter(

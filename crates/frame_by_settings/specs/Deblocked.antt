@@ -2,7 +2,10 @@
 -- Assumes nothing.
 use Rattle.std.specs.Prelude.{◌≡◌, false, List, [], ℕ, ◌/◌, length, replicate}
 use Rattle.rules.specs.declared.settings.Frame.{Frame}
-use Rattle.rules.specs.declared.refusals.PlaneAnswer.{PlaneAnswer}
+use Rattle.std.specs.declared.result.Result.{Result}
+use Rattle.rules.specs.declared.counts.Counts.{Counts}
+use Rattle.rules.specs.declared.refusals.Refusal.{Refusal}
+use Rattle.rules.specs.Refusals.{answered, changed_in, stored_in}
 use Rattle.rules.specs.Plane.{Grid, keeping, no_room}
 use Rattle.rules.specs.Frame.{Planes, Given, Lent, Done, grids, lent, luma_plane, luma_tu, luma_q, built_grid, frame_of, frame_stored, frame_changed}
 use Rattle.frame_planes.specs.Fit.{Sampled, Buildable}
@@ -44,11 +47,11 @@ over_zeros t k p = lent p (grids (zero_grid t.luma k.luma) (zero_grid t.chroma k
 unfoldable pub deblocked : Frame → Given → Starts → Keeps → Planes → Done
 deblocked f n t k p = frame_of f n (over_zeros t k p)
 
-pub record Deblocked (f : Frame) (n : Given) (t : Starts) (k : Keeps) (lent : Planes) (a : PlaneAnswer) (left : Planes) : Type 0 where
-  pub answer : a.answer ≡ (deblocked f n t k lent).answer
+pub record Deblocked (f : Frame) (n : Given) (t : Starts) (k : Keeps) (lent : Planes) (a : Result Counts Refusal) (left : Planes) : Type 0 where
+  pub answer : answered a ≡ (deblocked f n t k lent).answer
   pub samples : left ≡ (deblocked f n t k lent).lists.planes
-  pub stored : a.stored ≡ frame_stored f n (over_zeros t k lent)
-  pub changed : a.changed ≡ frame_changed f n (over_zeros t k lent)
+  pub stored : stored_in a ≡ frame_stored f n (over_zeros t k lent)
+  pub changed : changed_in a ≡ frame_changed f n (over_zeros t k lent)
 
 -- luma's grid over zeros, from leaves, skip leaves, superblocks and luma's tile starts; room does not depend on keep marks
 unfoldable pub luma_grid : Frame → List ℕ → List ℕ → List ℕ → List ℕ → Grid

@@ -1,11 +1,9 @@
 -- The frame by the settings' own lists, and where it was refused.
 -- Assumes nothing.
-use Rattle.std.specs.Prelude.{◌≡◌, List, ℕ, ◌≤◌, length, get_or}
+use Rattle.std.specs.Prelude.{◌≡◌, List, ℕ, ◌≤◌, length, get_or, Result, Ok, Err, IfErr}
 use Rattle.rules.specs.declared.settings.Frame.{Frame}
 use Rattle.rules.specs.declared.refusals.Refusal.{Refusal}
 use Rattle.rules.specs.declared.refusals.Refusal.TheVariants.{Depth, Size, Length, Steps, Setting, Cell, Room, Sample, Leaf, Buffer, Header, Cut, Entry, Filled, Spent}
-use Rattle.rules.specs.declared.refusals.Answer.{Answer}
-use Rattle.rules.specs.declared.refusals.Answer.TheVariants.{Accepted, Refused}
 use Rattle.rules.specs.Frame.{Planes, Given, given}
 use Rattle.by_settings.specs.declared.places.Place.{Place}
 use Rattle.by_settings.specs.declared.lists.Lists.{Lists}
@@ -13,7 +11,8 @@ use Rattle.by_settings.specs.Rooms.{fewest_shorts, steps_room, kinds, steps_kind
 use Rattle.by_settings.specs.Lists.{lists_asked, steps_asked, between}
 use Rattle.by_settings.specs.Places.{in_steps, in_frame, place_in, sample_place, leaves_place}
 use Rattle.frame_by_settings.specs.Deblocked.{Starts, Keeps, starts, Deblocked, room_place}
-use Rattle.frame_by_settings.specs.declared.lists.Outcome.{Outcome}
+use Rattle.rules.specs.declared.counts.Counts.{Counts}
+use Rattle.frame_by_settings.specs.declared.lists.Refused.{Refused}
 
 -- how long the short numbers, the steps and the places are at least
 pub record ListsLong (shorts steps places : ℕ) : Type 0 where
@@ -57,12 +56,12 @@ refusal_place f n ts p (Entry k) = place_in in_frame 0 0
 refusal_place f n ts p Filled = place_in in_frame 0 0
 refusal_place f n ts p Spent = place_in in_frame 0 0
 
--- an accepted frame has no place but itself
-unfoldable pub answer_place : Frame → Given → List ℕ → Planes → Answer → Place
-answer_place f n ts p Accepted = place_in in_frame 0 0
-answer_place f n ts p (Refused r) = refusal_place f n ts p r
+-- the answer without its place
+abbrev pub answer_in : Result Counts Refused → Result Counts Refusal
+answer_in (Ok n) = Ok n
+answer_in (Err x) = Err x.refusal
 
--- the answer with the counts, its place, and the planes afterwards
-pub record DeblockedAt (f : Frame) (n : Given) (t : Starts) (k : Keeps) (lent : Planes) (o : Outcome) (left : Planes) : Type 0 where
-  pub deblocked : Deblocked f n t k lent (record { answer = o.answer; stored = o.stored; changed = o.changed }) left
-  pub place : o.place ≡ answer_place f n t.luma lent o.answer
+-- the counts, or the refusal with its place, and the planes afterwards
+pub record DeblockedAt (f : Frame) (n : Given) (t : Starts) (k : Keeps) (lent : Planes) (o : Result Counts Refused) (left : Planes) : Type 0 where
+  pub deblocked : Deblocked f n t k lent (answer_in o) left
+  pub place : IfErr o (λ x. x.place ≡ refusal_place f n t.luma lent x.refusal)

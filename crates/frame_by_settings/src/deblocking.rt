@@ -4,7 +4,8 @@ ghost use Rattle.rules.specs.Frame.{planes, given};
 ghost use Rattle.frame_by_settings.specs.Deblocked.{zeros, starts, keeps, Deblocked};
 
 use frame::frame::deblock_frame;
-use rules::refusals::PlaneAnswer;
+use rules::counts::Counts;
+use rules::refusals::Refusal;
 use rules::settings::Frame;
 
 // How many cells the largest plane has.
@@ -40,7 +41,7 @@ pub fn deblock(
     chromakeep: &[u8],
     f: Frame,
     plain: bool,
-) -> PlaneAnswer
+) -> Result<Counts, Refusal>
     ensures { Deblocked f
         (given steps.now sbq.now leaves.now chromaleaves.now skips.now)
         (starts tiles.now chromatiles.now)

@@ -8,17 +8,16 @@ use crate::deblocking::deblock;
 use crate::places::place_of;
 use by_settings::kinds::STEPS;
 use by_settings::lists::{lists_of, steps_of};
-use by_settings::places::{FRAME, Place, at};
-use rules::refusals::Answer;
+use by_settings::places::Place;
+use rules::counts::Counts;
+use rules::refusals::Refusal;
 use rules::settings::Frame;
 
-// The answer, where a refusal stands, how many samples were stored, and how many of those differ from before.
-#[derive(Drop)]
-pub struct Outcome {
-    pub answer: Answer,
+// Why a frame is refused, and where.
+#[derive(Clone, Copy)]
+pub struct Refused {
+    pub refusal: Refusal,
     pub place: Place,
-    pub stored: usize,
-    pub changed: usize,
 }
 
 // Deblocks a frame, in document 01's order or in the plain one, or says where it was refused and leaves its planes as lent.
@@ -37,7 +36,7 @@ fn deblock_given(
     chromakeep: &[u8],
     f: Frame,
     plain: bool,
-) -> Outcome
+) -> Result<Counts, Refused>
     ensures { DeblockedAt f
         (given steps.now sbq.now leaves.now chromaleaves.now skips.now)
         (starts tiles.now chromatiles.now)
@@ -62,20 +61,12 @@ fn deblock_given(
         f,
         plain,
     );
-    let answer = a.answer;
-    if let Answer::Refused(r) = answer {
-        return Outcome {
-            answer: Answer::Refused(r),
-            place: place_of(r, y, u, sbq, leaves, chromaleaves, skips, tiles, f),
-            stored: a.stored,
-            changed: a.changed,
-        };
-    }
-    Outcome {
-        answer: Answer::Accepted,
-        place: at(FRAME, 0, 0),
-        stored: a.stored,
-        changed: a.changed,
+    match a {
+        Ok(counts) => Ok(counts),
+        Err(refusal) => Err(Refused {
+            refusal,
+            place: place_of(refusal, y, u, sbq, leaves, chromaleaves, skips, tiles, f),
+        }),
     }
 }
 
@@ -91,7 +82,7 @@ pub fn deblock_asked(
     places: &[usize],
     f: Frame,
     plain: bool,
-) -> Outcome
+) -> Result<Counts, Refused>
     requires { ListsLong (length shorts.now) (length steps.now) (length places.now) }
     ensures { DeblockedAt f
         (given_asked shorts.now steps.now places.now)

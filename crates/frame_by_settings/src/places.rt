@@ -11,11 +11,17 @@ use crate::deblocking::{indices, marks};
 use by_settings::places::{CHROMA, FRAME, LUMA, Place, STEPS, at, leaves_place, sample_place};
 use frame_planes::build::build;
 use frame_planes::late::room;
-use rules::refusals::{Answer, Refusal};
+use rules::refusals::Refusal;
 use rules::settings::Frame;
 
 // Refusal 7 of luma alone, by a grid of its own.
-fn luma_room(leaves: &[u16], skips: &[u16], sbq: &[u16], tiles: &[u16], f: Frame) -> Answer
+fn luma_room(
+    leaves: &[u16],
+    skips: &[u16],
+    sbq: &[u16],
+    tiles: &[u16],
+    f: Frame,
+) -> Result<(), Refusal>
     requires { LumaFit f leaves.now skips.now (length sbq.now) }
     ensures { result ≡ found (no_room (luma_plane f) (luma_grid f leaves.now skips.now sbq.now tiles.now)) Room }
 {
@@ -36,7 +42,7 @@ fn room_at(leaves: &[u16], skips: &[u16], sbq: &[u16], tiles: &[u16], f: Frame, 
     ensures { result ≡ room_place f leaves.now skips.now sbq.now tiles.now k }
 {
     let a = luma_room(leaves, skips, sbq, tiles, f);
-    if let Answer::Refused(_) = a {
+    if let Err(_) = a {
         return at(LUMA, k, f.lumastride / 4);
     }
     at(CHROMA, k, f.chromastride / 4)

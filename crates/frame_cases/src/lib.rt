@@ -1,11 +1,11 @@
 // The cases of frames: each line's frame through `deblock_frame`, and whether answer, counts, planes and grids are the line's.
 #![tactic(auto)]
 
-// The numbers and lists of a line.
+// The settings and the lists that a call only reads.
 mod read;
 
-// The lists after the call, held against the line's.
-mod held;
+// The lists that a call may change.
+mod lists;
 
 // One frame of the stream.
 mod case;

@@ -14,8 +14,8 @@ use Rattle.rules.specs.declared.settings.Plane.{Plane}
 use Rattle.rules.specs.declared.lent.GridLengths.{GridLengths}
 use Rattle.rules.specs.declared.lent.FrameLengths.{FrameLengths}
 use Rattle.rules.specs.declared.refusals.Refusal.TheVariants.{Size, Length}
-use Rattle.rules.specs.declared.refusals.Answer.{Answer}
-use Rattle.rules.specs.declared.refusals.Answer.TheVariants.{Accepted}
+use Rattle.rules.specs.Refusals.{Answer}
+use Rattle.std.specs.declared.result.Result.TheVariants.{Ok}
 use Rattle.rules.specs.Numbers.{in_range, subsampling_ok}
 use Rattle.rules.specs.Frame.{luma_plane, chroma_plane, chroma_on, stride_ok, grid_long, luma_long, chroma_long, frame_sizes, frame_lengths, frame_shape}
 use Rattle.checks.proofs.Checks.{else_parts, unless_true, only_part}
@@ -66,7 +66,7 @@ plane_sizes f chroma z e =
       sbh_most = b.3;
     }
 
-module _ (f : Frame) (ok : frame_sizes f ≡ Accepted) where
+module _ (f : Frame) (ok : frame_sizes f ≡ Ok tt) where
   luma : Sized f × (stride_ok (luma_plane f) ≡ true)
   unfolding frame_sizes
   luma = picture f (unless_true _ Size (else_parts _ _ ok).0)
@@ -93,8 +93,8 @@ keep_long s g e =
     leb-true _ _ (all_parts _ _ p5.1).0
 
 -- by the checks 1, 2, 3, as the code has their answer
-module _ (f : Frame) (k : FrameLengths) {a : Answer} (is : a ≡ frame_shape f k) (ok : a ≡ Accepted) where
-  shaped : (frame_sizes f ≡ Accepted) × (frame_lengths f k ≡ Accepted)
+module _ (f : Frame) (k : FrameLengths) {a : Answer} (is : a ≡ frame_shape f k) (ok : a ≡ Ok tt) where
+  shaped : (frame_sizes f ≡ Ok tt) × (frame_lengths f k ≡ Ok tt)
   unfolding frame_shape
   shaped = else_parts _ _ (else_parts _ _ (sym is ∙ ok)).1
 
@@ -120,7 +120,7 @@ pub four_cols_fit : (f : Frame) (chroma : Bool) {s : Plane} → s ≡ plane_of f
 four_cols_fit f chroma is z = let n = cells f chroma z in rw is (record { fits = omega (arith, n.cols_most) })
 
 -- chroma's plane where the code's test on it came out true
-pub chroma_by : (f : Frame) {t : Bool} → frame_sizes f ≡ Accepted → t ≡ chroma_on f → not t ≡ false → Sizes (chroma_plane f)
+pub chroma_by : (f : Frame) {t : Bool} → frame_sizes f ≡ Ok tt → t ≡ chroma_on f → not t ≡ false → Sizes (chroma_plane f)
 chroma_by f {t} ok e h = chroma_sizes f ok (sym (told_yes_not _ t e h))
 
 -- ---- three tests, and then the others of a list

@@ -5,7 +5,7 @@ ghost use Rattle.rules.specs.Numbers.{delta_ok};
 ghost use Rattle.rules.specs.TuGrid.{cap_ok};
 ghost use Rattle.rules.specs.Frame.{frame_settings};
 
-use rules::refusals::{Answer, Refusal};
+use rules::refusals::Refusal;
 use rules::settings::Frame;
 use thresholds::tests::delta_ok;
 use tiles::tests::cap_ok;
@@ -24,14 +24,14 @@ fn kind_ok(delta: i32, capw: usize, caph: usize) -> bool
 }
 
 // Refusal 5.
-pub fn frame_settings(f: Frame) -> Answer
+pub fn frame_settings(f: Frame) -> Result<(), Refusal>
     ensures { result ≡ frame_settings f }
 {
     if !kind_ok(f.deltay, f.capw, f.caph) {
-        return Answer::Refused(Refusal::Setting);
+        return Err(Refusal::Setting);
     }
     if !kind_ok(f.deltauv, f.ccapw, f.ccaph) {
-        return Answer::Refused(Refusal::Setting);
+        return Err(Refusal::Setting);
     }
-    Answer::Accepted
+    Ok(())
 }

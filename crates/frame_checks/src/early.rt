@@ -11,21 +11,18 @@ use super::sizes::frame_sizes;
 use super::starts::frame_tiles;
 use rules::depth::Depth;
 use rules::lent::FrameLengths;
-use rules::refusals::{Answer, Refusal};
+use rules::refusals::Refusal;
 use rules::settings::Frame;
 use thresholds::tests::steps_check;
 
 // Order 1, 2, 3: what the settings and the lengths of the lists decide.
-pub fn frame_shape(f: Frame, n: FrameLengths) -> Answer
+pub fn frame_shape(f: Frame, n: FrameLengths) -> Result<(), Refusal>
     ensures { result ≡ frame_shape f n }
 {
     if !Depth::is(f.depth) {
-        return Answer::Refused(Refusal::Depth);
+        return Err(Refusal::Depth);
     }
-    let a = frame_sizes(f);
-    if let Answer::Refused(r) = a {
-        return Answer::Refused(r);
-    }
+    frame_sizes(f)?;
     frame_lengths(f, n)
 }
 
@@ -38,22 +35,13 @@ fn frame_given(
     tiles: &[u16],
     chromatiles: &[u16],
     f: Frame,
-) -> Answer
+) -> Result<(), Refusal>
     requires { Sized f }
     ensures { (q : List ℕ) → result ≡ frame_given f tiles.now chromatiles.now (given steps.now q leaves.now chromaleaves.now skips.now) }
 {
-    let a = steps_check(steps);
-    if let Answer::Refused(r) = a {
-        return Answer::Refused(r);
-    }
-    let b = frame_settings(f);
-    if let Answer::Refused(r) = b {
-        return Answer::Refused(r);
-    }
-    let d = frame_tiles(tiles, chromatiles, f);
-    if let Answer::Refused(r) = d {
-        return Answer::Refused(r);
-    }
+    steps_check(steps)?;
+    frame_settings(f)?;
+    frame_tiles(tiles, chromatiles, f)?;
     frame_leaves(leaves, chromaleaves, skips)
 }
 
@@ -69,18 +57,12 @@ pub fn frame_early(
     chromakeep: &[u8],
     f: Frame,
     n: FrameLengths,
-) -> Answer
+) -> Result<(), Refusal>
     requires { (n.luma.keep ≡ length keep.now) × (n.chroma.keep ≡ length chromakeep.now) }
     ensures { (q : List ℕ) → result
         ≡ frame_early f n tiles.now chromatiles.now keep.now chromakeep.now (given steps.now q leaves.now chromaleaves.now skips.now) }
 {
-    let a = frame_shape(f, n);
-    if let Answer::Refused(r) = a {
-        return Answer::Refused(r);
-    }
-    let b = frame_given(steps, leaves, chromaleaves, skips, tiles, chromatiles, f);
-    if let Answer::Refused(r) = b {
-        return Answer::Refused(r);
-    }
+    frame_shape(f, n)?;
+    frame_given(steps, leaves, chromaleaves, skips, tiles, chromatiles, f)?;
     frame_keep(keep, chromakeep, f)
 }

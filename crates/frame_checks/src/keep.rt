@@ -8,33 +8,29 @@ ghost use Rattle.frame_checks.specs.Settings.{KeepLong, kind_on, plane_of};
 
 use super::parts::{kind_on, plane_of};
 use checks::bad_keep;
-use rules::refusals::{Answer, Found, Refusal};
+use rules::refusals::Refusal;
 use rules::settings::Frame;
 
 // One list's refusal 6, where planes of its kind are filtered.
-fn kind_keep(keep: &[u8], f: Frame, chroma: bool) -> Answer
+fn kind_keep(keep: &[u8], f: Frame, chroma: bool) -> Result<(), Refusal>
     requires { kind_on f chroma ≡ true → KeepLong f chroma (length keep.now) }
     ensures { result ≡ only_if (kind_on f chroma) (found (bad_keep ((plane_of f chroma).rows * (plane_of f chroma).cols) keep.now) Cell) }
 {
     if !kind_on(f, chroma) {
-        return Answer::Accepted;
+        return Ok(());
     }
     let s = plane_of(f, chroma);
-    let bad = bad_keep(keep, s.rows * s.cols);
-    if let Found::At(k) = bad {
-        return Answer::Refused(Refusal::Cell(k));
+    match bad_keep(keep, s.rows * s.cols) {
+        Some(k) => Err(Refusal::Cell(k)),
+        None => Ok(()),
     }
-    Answer::Accepted
 }
 
 // Refusal 6 of both lists.
-pub fn frame_keep(keep: &[u8], chromakeep: &[u8], f: Frame) -> Answer
+pub fn frame_keep(keep: &[u8], chromakeep: &[u8], f: Frame) -> Result<(), Refusal>
     requires { KeepLong f false (length keep.now) × (chroma_on f ≡ true → KeepLong f true (length chromakeep.now)) }
     ensures { result ≡ frame_keep f keep.now chromakeep.now }
 {
-    let a = kind_keep(keep, f, false);
-    if let Answer::Refused(r) = a {
-        return Answer::Refused(r);
-    }
+    kind_keep(keep, f, false)?;
     kind_keep(chromakeep, f, true)
 }

@@ -4,31 +4,24 @@ ghost use Rattle.rules.specs.Refusals.{or_else, found};
 ghost use Rattle.rules.specs.TuGrid.{bad_leaf};
 ghost use Rattle.rules.specs.declared.refusals.Refusal.TheVariants.{Leaf};
 
-use rules::refusals::{Answer, Found, Refusal};
+use rules::refusals::Refusal;
 use tiles::leaf::bad_leaf;
 
 // One list's refusal 9.
-fn list_leaves(leaves: &[u16], skip: bool) -> Answer
+fn list_leaves(leaves: &[u16], skip: bool) -> Result<(), Refusal>
     ensures { result ≡ found (bad_leaf skip leaves.now) Leaf }
 {
-    let f = bad_leaf(leaves, skip);
-    if let Found::At(k) = f {
-        return Answer::Refused(Refusal::Leaf(k));
+    match bad_leaf(leaves, skip) {
+        Some(k) => Err(Refusal::Leaf(k)),
+        None => Ok(()),
     }
-    Answer::Accepted
 }
 
 // Refusal 9.
-pub fn frame_leaves(leaves: &[u16], chromaleaves: &[u16], skips: &[u16]) -> Answer
+pub fn frame_leaves(leaves: &[u16], chromaleaves: &[u16], skips: &[u16]) -> Result<(), Refusal>
     ensures { result ≡ or_else (found (bad_leaf false leaves.now) Leaf) (or_else (found (bad_leaf false chromaleaves.now) Leaf) (found (bad_leaf true skips.now) Leaf)) }
 {
-    let a = list_leaves(leaves, false);
-    if let Answer::Refused(r) = a {
-        return Answer::Refused(r);
-    }
-    let b = list_leaves(chromaleaves, false);
-    if let Answer::Refused(r) = b {
-        return Answer::Refused(r);
-    }
+    list_leaves(leaves, false)?;
+    list_leaves(chromaleaves, false)?;
     list_leaves(skips, true)
 }

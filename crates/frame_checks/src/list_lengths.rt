@@ -3,7 +3,7 @@
 ghost use Rattle.std.specs.Prelude.{◌≡◌, [], ◌∷◌, ◌*◌, leb};
 ghost use Rattle.laws.specs.Choose.{all};
 ghost use Rattle.rules.specs.declared.refusals.Refusal.TheVariants.{Length};
-ghost use Rattle.rules.specs.declared.refusals.Answer.TheVariants.{Accepted};
+ghost use Rattle.std.specs.declared.result.Result.TheVariants.{Ok};
 ghost use Rattle.rules.specs.Refusals.{unless, only_if};
 ghost use Rattle.rules.specs.TuGrid.{fours_ok};
 ghost use Rattle.rules.specs.Frame.{superblocks, luma_plane, chroma_plane, chroma_on, frame_sizes, samples_long, grid_long, luma_long, chroma_long, given_long, frame_lengths};
@@ -12,7 +12,7 @@ ghost use Rattle.frame_checks.specs.Settings.{Sized};
 
 use super::parts::{chroma_on, plane_of};
 use rules::lent::{FrameLengths, GridLengths};
-use rules::refusals::{Answer, Refusal};
+use rules::refusals::Refusal;
 use rules::settings::{Frame, Plane};
 use tiles::tests::fours;
 
@@ -56,8 +56,7 @@ fn luma_long(f: Frame, n: FrameLengths) -> bool
     if !samples_long(s, n.y) {
         return false;
     }
-    let g = n.luma;
-    grid_long(s, g)
+    grid_long(s, n.luma)
 }
 
 fn chroma_long(f: Frame, n: FrameLengths) -> bool
@@ -71,8 +70,7 @@ fn chroma_long(f: Frame, n: FrameLengths) -> bool
     if !samples_long(s, n.v) {
         return false;
     }
-    let g = n.chroma;
-    grid_long(s, g)
+    grid_long(s, n.chroma)
 }
 
 // An entry for each superblock.
@@ -108,33 +106,30 @@ fn given_long(f: Frame, n: FrameLengths) -> bool
 }
 
 // Refusal 3 of chroma's lists, where they are used.
-fn chroma_lengths(f: Frame, n: FrameLengths) -> Answer
-    requires { frame_sizes f ≡ Accepted }
+fn chroma_lengths(f: Frame, n: FrameLengths) -> Result<(), Refusal>
+    requires { frame_sizes f ≡ Ok tt }
     ensures { result ≡ only_if (chroma_on f) (unless (chroma_long f n) Length) }
 {
     if !chroma_on(f) {
-        return Answer::Accepted;
+        return Ok(());
     }
     if !chroma_long(f, n) {
-        return Answer::Refused(Refusal::Length);
+        return Err(Refusal::Length);
     }
-    Answer::Accepted
+    Ok(())
 }
 
 // Refusal 3.
-pub fn frame_lengths(f: Frame, n: FrameLengths) -> Answer
-    requires { frame_sizes f ≡ Accepted }
+pub fn frame_lengths(f: Frame, n: FrameLengths) -> Result<(), Refusal>
+    requires { frame_sizes f ≡ Ok tt }
     ensures { result ≡ frame_lengths f n }
 {
     if !luma_long(f, n) {
-        return Answer::Refused(Refusal::Length);
+        return Err(Refusal::Length);
     }
-    let a = chroma_lengths(f, n);
-    if let Answer::Refused(r) = a {
-        return Answer::Refused(r);
-    }
+    chroma_lengths(f, n)?;
     if !given_long(f, n) {
-        return Answer::Refused(Refusal::Length);
+        return Err(Refusal::Length);
     }
-    Answer::Accepted
+    Ok(())
 }

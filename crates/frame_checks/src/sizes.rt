@@ -7,7 +7,7 @@ ghost use Rattle.frame_checks.specs.Settings.{Sized, plane_of};
 
 use super::parts::{chroma_on, plane_of};
 use checks::in_range;
-use rules::refusals::{Answer, Refusal};
+use rules::refusals::Refusal;
 use rules::settings::Frame;
 use tiles::tests::subsampling_ok;
 
@@ -37,17 +37,17 @@ fn luma_ok(f: Frame) -> bool
 }
 
 // Refusal 2.
-pub fn frame_sizes(f: Frame) -> Answer
+pub fn frame_sizes(f: Frame) -> Result<(), Refusal>
     ensures { result ≡ frame_sizes f }
 {
     if !luma_ok(f) {
-        return Answer::Refused(Refusal::Size);
+        return Err(Refusal::Size);
     }
     if !chroma_on(f) {
-        return Answer::Accepted;
+        return Ok(());
     }
     if !stride_ok(f, true) {
-        return Answer::Refused(Refusal::Size);
+        return Err(Refusal::Size);
     }
-    Answer::Accepted
+    Ok(())
 }

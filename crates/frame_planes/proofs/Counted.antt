@@ -11,14 +11,14 @@ use Rattle.laws.specs.Choose.{pick}
 use Rattle.rules.specs.declared.settings.Frame.{Frame}
 use Rattle.rules.specs.declared.settings.Plane.{Plane}
 use Rattle.rules.specs.declared.counts.Counts.{Counts}
-use Rattle.rules.specs.declared.refusals.PlaneAnswer.{PlaneAnswer}
+use Rattle.std.specs.declared.result.Result.TheVariants.{Ok}
 use Rattle.rules.specs.Refusals.{settle}
 use Rattle.rules.specs.Numbers.{top_of}
 use Rattle.rules.specs.Plane.{Grid, kept_by, edges_of, run_stored, run_changed, plane_after, plane_stored, plane_changed}
 use Rattle.rules.specs.Frame.{planes, grids, run_frame, run_frame_stored, run_frame_changed}
 use Rattle.segment.proofs.Counts.{run_stored_holds, run_changed_holds}
 use Rattle.plane.specs.Checked.{Checked, Filtered, Stated}
-use Rattle.plane.specs.declared.visited.Visited.{Visited}
+use Rattle.rules.specs.declared.counts.Visited.{Visited}
 use Rattle.plane.proofs.Accepting.{checked}
 use Rattle.plane.proofs.Everywhere.{edges_inside}
 use Rattle.orders.proofs.Once.{edges_most}
@@ -66,7 +66,7 @@ module _ {f : Frame} {chroma : Bool} {steps : List ℕ} {g : Grid} {l : List ℕ
       }
 
   -- one that is, by the plane's entry in the plain order
-  pub plane_plain : true ≡ kind_on f chroma → Runnable f chroma steps g l → {a : PlaneAnswer} {m : List ℕ} → Stated (plane_of f chroma) steps g l a m → PlaneRun f chroma steps g l (record { stored = a.stored; changed = a.changed }) m
+  pub plane_plain : true ≡ kind_on f chroma → Runnable f chroma steps g l → {a : Counts} {m : List ℕ} → Stated (plane_of f chroma) steps g l (Ok a) m → PlaneRun f chroma steps g l a m
   unfolding plane_after plane_stored plane_changed settle
   plane_plain on k {a} done =
       plane_on on k {x = record { bytes = 5 + 10 * length (edges_of (plane_of f chroma) steps g); stored = a.stored; changed = a.changed }}

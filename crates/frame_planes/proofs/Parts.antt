@@ -9,8 +9,8 @@ use Rattle.rules.specs.declared.settings.Frame.{Frame}
 use Rattle.rules.specs.declared.settings.TuGrid.{TuGrid}
 use Rattle.rules.specs.declared.settings.QindexGrid.{QindexGrid}
 use Rattle.rules.specs.declared.refusals.Refusal.TheVariants.{Room, Sample}
-use Rattle.rules.specs.declared.refusals.Answer.{Answer}
-use Rattle.rules.specs.declared.refusals.Answer.TheVariants.{Accepted, Refused}
+use Rattle.rules.specs.Refusals.{Answer}
+use Rattle.std.specs.declared.result.Result.TheVariants.{Ok, Err}
 use Rattle.rules.specs.Refusals.{or_else, found, only_if}
 use Rattle.rules.specs.Plane.{Grid, keeping, no_room, over_plane}
 use Rattle.rules.specs.TuGrid.{marks, tx_grid_of}
@@ -49,8 +49,8 @@ samples_is f p = either_kind (chroma_on f) _ _ _
 
 first_two : (a b c : Answer) → or_else (or_else a b) c ≡ or_else (only_if true a) (or_else b c)
 unfolding only_if or_else
-first_two Accepted b c = refl
-first_two (Refused r) b c = refl
+first_two (Ok tt) b c = refl
+first_two (Err r) b c = refl
 
 pub late_is : (f : Frame) (l c : Grid) (p : Planes) → frame_late f (grids l c) p ≡ or_else (only_if true (found (no_room (luma_plane f) l) Room)) (or_else (only_if (chroma_on f) (found (no_room (chroma_plane f) c) Room)) (frame_samples f p))
 unfolding frame_late frame_room

@@ -4,7 +4,7 @@ use Rattle.std.specs.Prelude.{◌≡◌, Bool, List, ℕ, ◌≤◌}
 use Rattle.laws.specs.Choose.{pick}
 use Rattle.rules.specs.declared.settings.Frame.{Frame}
 use Rattle.rules.specs.declared.counts.Counts.{Counts}
-use Rattle.rules.specs.declared.refusals.Answer.TheVariants.{Accepted}
+use Rattle.std.specs.declared.result.Result.TheVariants.{Ok}
 use Rattle.rules.specs.Plane.{Grid, plane_check, run_plane, run_stored, run_changed}
 use Rattle.rules.specs.Frame.{Planes, Grids, run_frame, run_frame_stored, run_frame_changed}
 use Rattle.frame_checks.specs.Settings.{Sized, kind_on, plane_of}
@@ -12,7 +12,7 @@ use Rattle.frame_checks.specs.Settings.{Sized, kind_on, plane_of}
 -- a plane l that can be run by its grid, in any order that gives document 01's plane
 pub record Runnable (f : Frame) (chroma : Bool) (steps : List ℕ) (g : Grid) (l : List ℕ) : Type 0 where
   pub sized : Sized f
-  pub accepted : plane_check (plane_of f chroma) steps g l ≡ Accepted
+  pub accepted : plane_check (plane_of f chroma) steps g l ≡ Ok tt
 
 -- of one plane l, where it is filtered: the plane m and its counts, which are small enough to be added
 pub record PlaneRun (f : Frame) (chroma : Bool) (steps : List ℕ) (g : Grid) (l : List ℕ) (a : Counts) (m : List ℕ) : Type 0 where

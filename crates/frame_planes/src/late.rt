@@ -10,7 +10,7 @@ ghost use Rattle.frame_planes.specs.Fit.{Sampled, Marked};
 use frame_checks::parts::{kind_on, plane_of};
 use plane_checks::room::no_room;
 use plane_checks::samples::over_plane;
-use rules::refusals::{Answer, Found, Refusal};
+use rules::refusals::Refusal;
 use rules::settings::Frame;
 
 // Refusal 7 of one kind of plane where it is filtered, whatever the qindex and the keep marks.
@@ -22,48 +22,42 @@ pub fn room(
     tiles: &[u16],
     f: Frame,
     chroma: bool,
-) -> Answer
+) -> Result<(), Refusal>
     requires { kind_on f chroma ≡ true → Marked f chroma vedge.now hedge.now sqw.now sqh.now }
     ensures { (q ks : List ℕ) → result ≡ only_if (kind_on f chroma) (found (no_room (plane_of f chroma) (keeping vedge.now hedge.now sqw.now sqh.now q tiles.now ks)) Room) }
 {
     if !kind_on(f, chroma) {
-        return Answer::Accepted;
+        return Ok(());
     }
     let bad = no_room(vedge, hedge, sqw, sqh, tiles, plane_of(f, chroma));
-    if let Found::At(k) = bad {
-        return Answer::Refused(Refusal::Room(k));
+    if let Some(k) = bad {
+        return Err(Refusal::Room(k));
     }
-    Answer::Accepted
+    Ok(())
 }
 
 // Refusal 8 of one plane where it is filtered.
-fn over(plane: &[u16], f: Frame, chroma: bool) -> Answer
+fn over(plane: &[u16], f: Frame, chroma: bool) -> Result<(), Refusal>
     requires { kind_on f chroma ≡ true → Sampled f chroma (length plane.now) }
     ensures { result ≡ only_if (kind_on f chroma) (found (over_plane (plane_of f chroma) plane.now) Sample) }
 {
     if !kind_on(f, chroma) {
-        return Answer::Accepted;
+        return Ok(());
     }
     let bad = over_plane(plane, plane_of(f, chroma));
-    if let Found::At(k) = bad {
-        return Answer::Refused(Refusal::Sample(k));
+    if let Some(k) = bad {
+        return Err(Refusal::Sample(k));
     }
-    Answer::Accepted
+    Ok(())
 }
 
 // Refusal 8 of luma, then of U and of V.
-fn overs(y: &[u16], u: &[u16], v: &[u16], f: Frame) -> Answer
+fn overs(y: &[u16], u: &[u16], v: &[u16], f: Frame) -> Result<(), Refusal>
     requires { Sampled f false (length y.now) × (chroma_on f ≡ true → Sampled f true (length u.now) × Sampled f true (length v.now)) }
     ensures { result ≡ frame_samples f (planes y.now u.now v.now) }
 {
-    let a = over(y, f, false);
-    if let Answer::Refused(r) = a {
-        return Answer::Refused(r);
-    }
-    let b = over(u, f, true);
-    if let Answer::Refused(r) = b {
-        return Answer::Refused(r);
-    }
+    over(y, f, false)?;
+    over(u, f, true)?;
     over(v, f, true)
 }
 
@@ -83,7 +77,7 @@ pub fn late(
     ct: &[u8],
     ctiles: &[u16],
     f: Frame,
-) -> Answer
+) -> Result<(), Refusal>
     requires sampled { Sampled f false (length y.now) × (chroma_on f ≡ true → Sampled f true (length u.now) × Sampled f true (length v.now)) }
     requires marked { Marked f false lv.now lh.now lw.now lt.now × (chroma_on f ≡ true → Marked f true cv.now ch.now cw.now ct.now) }
     ensures { (q d ks es : List ℕ) → result ≡ frame_late f
@@ -92,13 +86,7 @@ pub fn late(
         (keeping cv.now ch.now cw.now ct.now d ctiles.now es))
         (planes y.now u.now v.now) }
 {
-    let a = room(lv, lh, lw, lt, ltiles, f, false);
-    if let Answer::Refused(r) = a {
-        return Answer::Refused(r);
-    }
-    let b = room(cv, ch, cw, ct, ctiles, f, true);
-    if let Answer::Refused(r) = b {
-        return Answer::Refused(r);
-    }
+    room(lv, lh, lw, lt, ltiles, f, false)?;
+    room(cv, ch, cw, ct, ctiles, f, true)?;
     overs(y, u, v, f)
 }

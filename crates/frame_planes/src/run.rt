@@ -37,11 +37,9 @@ fn run(
     }
     let s = plane_of(f, chroma);
     if plain {
-        let a = deblock_plane_plain(plane, vedge, hedge, sqw, sqh, qindex, tiles, keep, steps, s);
-        return Counts {
-            stored: a.stored,
-            changed: a.changed,
-        };
+        return deblock_plane_plain(
+            plane, vedge, hedge, sqw, sqh, qindex, tiles, keep, steps, s,
+        ).unwrap();
     }
     let done = run_plane(plane, vedge, hedge, sqw, sqh, qindex, tiles, keep, steps, s);
     Counts {

@@ -9,7 +9,7 @@ use lib.ListN.{replicate}
 use Rattle.laws.specs.Choose.{pick, either, both, all}
 use Rattle.laws.specs.Loops.{turns}
 use Rattle.rules.specs.declared.settings.Frame.{Frame}
-use Rattle.rules.specs.declared.refusals.Answer.TheVariants.{Accepted}
+use Rattle.std.specs.declared.result.Result.TheVariants.{Ok}
 use Rattle.rules.specs.Numbers.{depth_ok, top_of, in_range, in_range_z, delta_ok, subsampling_ok, down, up}
 use Rattle.rules.specs.Refusals.{or_else, unless, found, only_if, sooner, first, found_if, found_unless, over_top, over_row, over_box}
 use Rattle.rules.specs.Thresholds.{step_good, bad_step, steps_check}
@@ -62,7 +62,7 @@ kept = 1 ∷ blank 3
 abbrev cells : Grids
 cells = grids (keeping (blank 4) (blank 4) (blank 4) (blank 4) (blank 4) [] kept) (keeping (blank 4) (blank 4) (blank 4) (blank 4) (blank 4) [] (blank 4))
 
-early : early_of small lists (lent samples cells) ≡ Accepted
+early : early_of small lists (lent samples cells) ≡ Ok tt
 unfolding pick either both all depth_ok in_range in_range_z delta_ok subsampling_ok down or_else unless found only_if sooner first found_unless step_good bad_step steps_check flag_of bare_of is_size cap_ok fours_ok leaf_good leaf_good_at bad_leaf up_to_eight halved superblocks luma_plane chroma_plane chroma_on frame_sizes
     grid_long luma_long chroma_long given_long frame_lengths bad_start tiles_check bad_keep found_if over_top frame_shape frame_settings frame_tiles frame_leaves frame_given frame_keep frame_early
 early = refl
@@ -75,14 +75,14 @@ built : built_grids small lists cells ≡ grids (ones kept) (ones (blank 4))
 unfolding pick either both turns down up flag_of bare_of log2_of size_of whole_of tile_of mark_of store_cell paint_cell paint_row paint_of leaf_of leaves_of clear_of tx_grid_of superblock_of q_cell q_row q_grid_of up_to_eight halved superblocks luma_plane chroma_plane luma_tu chroma_tu luma_q chroma_q chroma_on built_grid built_grids
 built = refl
 
-room : frame_room small (grids (ones kept) (ones (blank 4))) ≡ Accepted
+room : frame_room small (grids (ones kept) (ones (blank 4))) ≡ Ok tt
 unfolding pick both all down or_else found only_if sooner first found_unless pair_of reach_before reach_after reach_of length_before length_after has_room cell_of cell_before marks_of indices_of capped_of index_at shortened_at is_edge edge_room lacks_room lacks_row lacks_dir no_room up_to_eight halved luma_plane chroma_plane chroma_on frame_room
 room = refl
 
-within : frame_samples small samples ≡ Accepted
+within : frame_samples small samples ≡ Ok tt
 unfolding both down or_else found only_if first sooner found_if over_top over_row over_box top_of over_plane up_to_eight halved luma_plane chroma_plane chroma_on frame_samples
 within = refl
 
-pub frame_accepts : (frame_of small lists (lent samples cells)).answer ≡ Accepted
+pub frame_accepts : (frame_of small lists (lent samples cells)).answer ≡ Ok tt
 unfolding or_else frame_late
 frame_accepts = answer_is small lists (lent samples cells) ∙ rw (early, built, room, within)

@@ -3,9 +3,12 @@
 use mathlib.Core.Path.{◌≡◌, refl, ◌∙◌}
 use mathlib.Core.List.{List}
 use Rattle.rules.specs.declared.settings.Frame.{Frame}
-use Rattle.rules.specs.declared.refusals.Answer.{Answer}
-use Rattle.rules.specs.declared.refusals.Answer.TheVariants.{Accepted, Refused}
-use Rattle.rules.specs.declared.refusals.PlaneAnswer.{PlaneAnswer}
+use Rattle.rules.specs.Refusals.{Answer}
+use Rattle.std.specs.declared.result.Result.TheVariants.{Ok, Err}
+use Rattle.std.specs.declared.result.Result.{Result}
+use Rattle.rules.specs.declared.counts.Counts.{Counts}
+use Rattle.rules.specs.declared.refusals.Refusal.{Refusal}
+use Rattle.rules.specs.Refusals.{answered}
 use Rattle.rules.specs.Refusals.{or_else}
 use Rattle.rules.specs.Thresholds.{steps_check}
 use Rattle.rules.specs.Plane.{tiles_check}
@@ -22,8 +25,8 @@ early_of f n l = frame_early f (lengths_of n l) l.grids.luma.tiles l.grids.chrom
 -- the early checks, then the late ones
 pub answer_by : (a : Answer) (l : Lent) (d : Done) → (or_done a l d).answer ≡ or_else a d.answer
 unfolding or_done or_else
-answer_by Accepted l d = refl
-answer_by (Refused r) l d = refl
+answer_by (Ok tt) l d = refl
+answer_by (Err r) l d = refl
 
 pub answer_is : (f : Frame) (n : Given) (l : Lent) → (frame_of f n l).answer ≡ or_else (early_of f n l) (frame_late f (built_grids f n l.grids) l.planes)
 unfolding frame_of frame_built
@@ -34,6 +37,6 @@ in_one : (a1 a2 a3 a4 a5 b5 a9 a6 a7 a8 : Answer) → or_else (or_else (or_else 
 in_one a1 a2 a3 a4 a5 b5 a9 a6 a7 a8 = simp else_joined
 
 -- every result that the entry's statement allows
-pub frame_exactly : (f : Frame) (n : Given) (l : Lent) {a : PlaneAnswer} {m : Lent} → Stated f n l a m → Exactly a.answer (frame_tests f n l)
+pub frame_exactly : (f : Frame) (n : Given) (l : Lent) {a : Result Counts Refusal} {m : Lent} → Stated f n l a m → Exactly (answered a) (frame_tests f n l)
 unfolding frame_early frame_shape frame_sizes frame_lengths frame_given frame_settings frame_tiles tiles_check frame_leaves frame_keep steps_check frame_late frame_room frame_samples
 frame_exactly f n l e = exactly (frame_tests f n l) refl (e.answer ∙ answer_is f n l ∙ in_one _ _ _ _ _ _ _ _ _ _)

@@ -8,9 +8,11 @@ use native.Mathlib.Omega.{arith}
 use Rattle.laws.specs.Choose.{pick}
 use Rattle.rules.specs.declared.settings.Frame.{Frame}
 use Rattle.rules.specs.declared.refusals.Refusal.{Refusal}
-use Rattle.rules.specs.declared.refusals.Answer.{Answer}
-use Rattle.rules.specs.declared.refusals.Answer.TheVariants.{Accepted, Refused}
-use Rattle.rules.specs.declared.refusals.PlaneAnswer.{PlaneAnswer}
+use Rattle.rules.specs.Refusals.{Answer}
+use Rattle.std.specs.declared.result.Result.TheVariants.{Ok, Err}
+use Rattle.std.specs.declared.result.Result.{Result}
+use Rattle.rules.specs.declared.counts.Counts.{Counts}
+use Rattle.rules.specs.Refusals.{answered, changed_in, stored_in}
 use Rattle.rules.specs.Refusals.{settle}
 use Rattle.rules.specs.Frame.{Grids, Given, Lent, chroma_on, built_grids, run_frame_stored, run_frame_changed, frame_of, frame_stored, frame_changed}
 use Rattle.promises.proofs.Counts.{plane_changed_holds, plane_stored_holds, plane_fits}
@@ -39,7 +41,7 @@ module _ (f : Frame) (n : Given) (l : Lent) where
 
   -- ---- an accepted frame
 
-  module _ (ok : (frame_of f n l).answer ≡ Accepted) where
+  module _ (ok : (frame_of f n l).answer ≡ Ok tt) where
     frame_stored_holds : run_frame_stored f n.steps built l.planes ≤ most_stored f
     unfolding run_frame_stored
     frame_stored_holds =
@@ -54,17 +56,17 @@ module _ (f : Frame) (n : Given) (l : Lent) where
 
   -- ---- whatever the entry may answer
 
-  module _ {a : PlaneAnswer} {m : Lent} (done : Stated f n l a m) where
-    pub counts_most : (a.stored ≤ most_stored f) × (a.changed ≤ a.stored) × (a.stored ≤ 402259968)
+  module _ {a : Result Counts Refusal} {m : Lent} (done : Stated f n l a m) where
+    pub counts_most : (stored_in a ≤ most_stored f) × (changed_in a ≤ stored_in a) × (stored_in a ≤ 402259968)
     unfolding frame_stored frame_changed settle
     counts_most = go (frame_of f n l).answer refl done.stored done.changed
       where
         go : (x : Answer) → (frame_of f n l).answer ≡ x → {u v : ℕ} → u ≡ settle x 0 (run_frame_stored f n.steps built l.planes) → v ≡ settle x 0 (run_frame_changed f n.steps built l.planes) → (u ≤ most_stored f) × (v ≤ u) × (u ≤ 402259968)
-        go Accepted ok p q = (rw p (frame_stored_holds ok), rw (p, q) frame_changed_holds, rw p (frame_fits ok))
-        go (Refused r) ok p q = (omega (arith, p), omega (arith, p, q), omega (arith, p))
+        go (Ok tt) ok p q = (rw p (frame_stored_holds ok), rw (p, q) frame_changed_holds, rw p (frame_fits ok))
+        go (Err r) ok p q = (omega (arith, p), omega (arith, p, q), omega (arith, p))
 
     -- "A refusal reports zero for both."
-    pub counts_refused : {r : Refusal} → a.answer ≡ Refused r → (a.stored ≡ 0) × (a.changed ≡ 0)
+    pub counts_refused : {r : Refusal} → answered a ≡ Err r → (stored_in a ≡ 0) × (changed_in a ≡ 0)
     unfolding frame_stored frame_changed settle
     counts_refused e =
         let no = sym done.answer ∙ e in (

@@ -5,14 +5,14 @@ use mathlib.Core.Bool.{true}
 use Prim.Native.Nat.{ℕ}
 use lib.ListN.{get_or}
 use Rattle.rules.specs.declared.settings.Frame.{Frame}
-use Rattle.rules.specs.declared.refusals.Answer.TheVariants.{Accepted}
+use Rattle.std.specs.declared.result.Result.TheVariants.{Ok}
 use Rattle.rules.specs.Plane.{edges_of}
 use Rattle.rules.specs.Frame.{Grids, Given, Lent, luma_plane, chroma_plane, chroma_on, built_grids, frame_of}
 use Rattle.promises.specs.Edges.{EachPromised, Spared}
 use Rattle.promises.proofs.Edges.{plane_demand_3, plane_kept}
 use Rattle.frame_promises.proofs.Planes.{luma_accepted, u_accepted, v_accepted, luma_after, u_after, v_after}
 
-module _ (f : Frame) (n : Given) (l : Lent) (ok : (frame_of f n l).answer ≡ Accepted) where
+module _ (f : Frame) (n : Given) (l : Lent) (ok : (frame_of f n l).answer ≡ Ok tt) where
   abbrev built : Grids
   built = built_grids f n l.grids
 

@@ -7,9 +7,11 @@ use Prim.Native.Nat.{ℕ}
 use lib.ListN.{get_or}
 use Rattle.laws.specs.Choose.{pick}
 use Rattle.rules.specs.declared.settings.Frame.{Frame}
-use Rattle.rules.specs.declared.refusals.Answer.{Answer}
-use Rattle.rules.specs.declared.refusals.Answer.TheVariants.{Accepted, Refused}
-use Rattle.rules.specs.declared.refusals.PlaneAnswer.{PlaneAnswer}
+use Rattle.rules.specs.Refusals.{Answer}
+use Rattle.std.specs.declared.result.Result.TheVariants.{Ok, Err}
+use Rattle.std.specs.declared.result.Result.{Result}
+use Rattle.rules.specs.declared.counts.Counts.{Counts}
+use Rattle.rules.specs.declared.refusals.Refusal.{Refusal}
 use Rattle.rules.specs.Plane.{kept_by}
 use Rattle.rules.specs.Frame.{Planes, Grids, Given, Lent, luma_plane, chroma_plane, chroma_tu, chroma_q, chroma_on, built_grid, built_grids, frame_built, or_done, frame_of}
 use Rattle.promises.proofs.Edges.{plane_held}
@@ -40,8 +42,8 @@ module _ (f : Frame) (n : Given) (l : Lent) where
 
   marks_by : (a : Answer) → MarksAsLent l (or_done a l (frame_built f n.steps (built_grids f n l.grids) l.planes)).lists
   unfolding or_done frame_built
-  marks_by (Refused r) = (refl, refl)
-  marks_by Accepted = (luma_marks f n l.grids, chroma_marks f n l.grids)
+  marks_by (Err r) = (refl, refl)
+  marks_by (Ok tt) = (luma_marks f n l.grids, chroma_marks f n l.grids)
 
   marks_after : MarksAsLent l after
   unfolding frame_of
@@ -50,21 +52,21 @@ module _ (f : Frame) (n : Given) (l : Lent) where
   -- ---- kept samples
 
   luma_by : (a : Answer) → (frame_of f n l).answer ≡ a → (i : ℕ) → kept_by (luma_plane f) l.grids.luma i ≡ true → get_or after.planes.y i 0 ≡ get_or l.planes.y i 0
-  luma_by (Refused r) e i h = ap (λ (p : Planes). get_or p.y i 0) (refused_kept f n l e)
-  luma_by Accepted e i h = rw (luma_after f n l e) (plane_held _ _ _ _ i (rw (luma_marks f n l.grids) h))
+  luma_by (Err r) e i h = ap (λ (p : Planes). get_or p.y i 0) (refused_kept f n l e)
+  luma_by (Ok tt) e i h = rw (luma_after f n l e) (plane_held _ _ _ _ i (rw (luma_marks f n l.grids) h))
 
   module _ (i : ℕ) (h : kept_by (chroma_plane f) l.grids.chroma i ≡ true) where
     held : kept_by (chroma_plane f) (built_grids f n l.grids).chroma i ≡ true
     held = rw (chroma_marks f n l.grids) h
 
     chroma_by : (a : Answer) (t : Bool) → (frame_of f n l).answer ≡ a → chroma_on f ≡ t → (get_or after.planes.u i 0 ≡ get_or l.planes.u i 0) × (get_or after.planes.v i 0 ≡ get_or l.planes.v i 0)
-    chroma_by (Refused r) t e on = let k = refused_kept f n l e in (ap (λ (p : Planes). get_or p.u i 0) k, ap (λ (p : Planes). get_or p.v i 0) k)
-    chroma_by Accepted true e on = (rw (u_after f n l e on) (plane_held _ _ _ _ i held), rw (v_after f n l e on) (plane_held _ _ _ _ i held))
-    chroma_by Accepted false e off = let k = chroma_kept f n l off in (ap (λ (x : List ℕ). get_or x i 0) k.0, ap (λ (x : List ℕ). get_or x i 0) k.1)
+    chroma_by (Err r) t e on = let k = refused_kept f n l e in (ap (λ (p : Planes). get_or p.u i 0) k, ap (λ (p : Planes). get_or p.v i 0) k)
+    chroma_by (Ok tt) true e on = (rw (u_after f n l e on) (plane_held _ _ _ _ i held), rw (v_after f n l e on) (plane_held _ _ _ _ i held))
+    chroma_by (Ok tt) false e off = let k = chroma_kept f n l off in (ap (λ (x : List ℕ). get_or x i 0) k.0, ap (λ (x : List ℕ). get_or x i 0) k.1)
 
   -- ---- whatever the entry may answer and leave
 
-  module _ {a : PlaneAnswer} {m : Lent} (done : Stated f n l a m) where
+  module _ {a : Result Counts Refusal} {m : Lent} (done : Stated f n l a m) where
     -- "never writes them"
     pub marks_as_lent : MarksAsLent l m
     marks_as_lent = rw done.lists marks_after

@@ -12,10 +12,13 @@ use Rattle.laws.specs.Choose.{pick, both, all}
 use Rattle.rules.specs.declared.settings.Frame.{Frame}
 use Rattle.rules.specs.declared.settings.Plane.{Plane}
 use Rattle.rules.specs.declared.refusals.Refusal.TheVariants.{Length, Cell}
-use Rattle.rules.specs.declared.refusals.Answer.{Answer}
-use Rattle.rules.specs.declared.refusals.Answer.TheVariants.{Accepted, Refused}
-use Rattle.rules.specs.declared.refusals.PlaneAnswer.{PlaneAnswer}
-use Rattle.rules.specs.declared.refusals.Found.TheVariants.{Nothing}
+use Rattle.rules.specs.Refusals.{Answer}
+use Rattle.std.specs.declared.result.Result.TheVariants.{Ok, Err}
+use Rattle.std.specs.declared.result.Result.{Result}
+use Rattle.rules.specs.declared.counts.Counts.{Counts}
+use Rattle.rules.specs.declared.refusals.Refusal.{Refusal}
+use Rattle.rules.specs.Refusals.{answered, changed_in, stored_in}
+use Rattle.std.specs.declared.option.Option.TheVariants.{None}
 use Rattle.rules.specs.Refusals.{or_else, unless, found, only_if, settle, over_top}
 use Rattle.rules.specs.Plane.{Grid, bad_keep}
 use Rattle.rules.specs.Frame.{Planes, Grids, Given, Lent, planes, grids, lent, finish, grid_lengths, lengths_of, luma_plane, chroma_plane, chroma_tu, chroma_q, chroma_on, built_grid, built_grids, samples_long, grid_long, luma_long, chroma_long, given_long}
@@ -36,7 +39,7 @@ unfolding only_if
 only_same true e = e refl
 only_same false e = refl
 
-only_accepted : (t : Bool) → only_if t Accepted ≡ Accepted
+only_accepted : (t : Bool) → only_if t (Ok tt) ≡ Ok tt
 unfolding only_if
 only_accepted true = refl
 only_accepted false = refl
@@ -52,10 +55,10 @@ planes_same a b c = rw (a, b, c)
 sum_same : {y u v y' u' v' : ℕ} → y ≡ y' → u ≡ u' → v ≡ v' → y + u + v ≡ y' + u' + v'
 sum_same a b c = rw (a, b, c)
 
-else_accepted : (a : Answer) → or_else a Accepted ≡ a
+else_accepted : (a : Answer) → or_else a (Ok tt) ≡ a
 unfolding or_else
-else_accepted Accepted = refl
-else_accepted (Refused r) = refl
+else_accepted (Ok tt) = refl
+else_accepted (Err r) = refl
 
 -- ---- good marks change no answer
 
@@ -63,7 +66,7 @@ grid_before : (s : Plane) (g : Grid) → s.rows * s.cols ≤ length g.keep → g
 unfolding grid_long grid_long_before
 grid_before s g long = rw (le-leb _ _ long) (all_but _)
 
-no_bad : {s : Plane} {keep : List ℕ} → KeepUpTo 1 s keep → bad_keep (s.rows * s.cols) keep ≡ Nothing
+no_bad : {s : Plane} {keep : List ℕ} → KeepUpTo 1 s keep → bad_keep (s.rows * s.cols) keep ≡ None
 unfolding bad_keep
 no_bad {s} {keep} m = all_nothing (λ k. over_top 1 keep k) (s.rows * s.cols) (λ k h. sym (over_good 1 keep k (m.small k h)))
 
@@ -95,7 +98,7 @@ module _ (f : Frame) (n : Given) (l : Lent) (good : FrameKeepUpTo 1 f l) where
       ap (λ (b : Bool). unless (all (samples_long (chroma_plane f) (length l.planes.u) ∷ samples_long (chroma_plane f) (length l.planes.v) ∷ b ∷ [])) Length)
       (grid_before (chroma_plane f) l.grids.chroma (good.chroma on).long))))
 
-  marks_accepted : frame_keep f l.grids.luma.keep l.grids.chroma.keep ≡ Accepted
+  marks_accepted : frame_keep f l.grids.luma.keep l.grids.chroma.keep ≡ Ok tt
   unfolding frame_keep found or_else
   marks_accepted = rw (no_bad good.luma) (only_same (chroma_on f) (λ on. rw (no_bad (good.chroma on))) ∙ only_accepted (chroma_on f))
 
@@ -125,7 +128,7 @@ module _ (f : Frame) (n : Given) (l : Lent) (none : FrameKeepUpTo 0 f l) where
   chroma_none : chroma_on f ≡ true → (k : ℕ) → k < (chroma_plane f).rows * (chroma_plane f).cols → get_or built.chroma.keep k 0 ≡ 0
   chroma_none on k h = rw (chroma_marks f n l.grids) (omega (arith, (none.chroma on).small k h))
 
-  module _ (ok : (frame_of f n l).answer ≡ Accepted) where
+  module _ (ok : (frame_of f n l).answer ≡ Ok tt) where
     planes_before_holds : run_frame f n.steps built l.planes ≡ planes_before f n.steps (built_grids f n (bare l).grids) l.planes
     unfolding run_frame planes_before
     planes_before_holds =
@@ -154,16 +157,16 @@ module _ (f : Frame) (n : Given) (l : Lent) (none : FrameKeepUpTo 0 f l) where
   abbrev new : Planes
   new = planes_before f n.steps (built_grids f n (bare l).grids) l.planes
 
-  settled : (a : Answer) → frame_late f built l.planes ≡ a → early_of f n l ≡ Accepted → settle a l.planes (run_frame f n.steps built l.planes) ≡ settle a l.planes new
+  settled : (a : Answer) → frame_late f built l.planes ≡ a → early_of f n l ≡ Ok tt → settle a l.planes (run_frame f n.steps built l.planes) ≡ settle a l.planes new
   unfolding settle or_else
-  settled (Refused r) e early = refl
-  settled Accepted e early = planes_before_holds (answer_is f n l ∙ rw (early, e))
+  settled (Err r) e early = refl
+  settled (Ok tt) e early = planes_before_holds (answer_is f n l ∙ rw (early, e))
 
   lists_by : (a : Answer) → early_of f n l ≡ a → bare (or_done a l (frame_built f n.steps built l.planes)).lists
       ≡ (or_done a (bare l) (finish (frame_late f (built_grids f n (bare l).grids) l.planes) (built_grids f n (bare l).grids) l.planes new)).lists
   unfolding or_done frame_built
-  lists_by (Refused r) e = refl
-  lists_by Accepted e = rw (← late_before f n l) (ap₂ lent (settled (frame_late f built l.planes) refl e) (sym (grids_before f n l)))
+  lists_by (Err r) e = refl
+  lists_by (Ok tt) e = rw (← late_before f n l) (ap₂ lent (settled (frame_late f built l.planes) refl e) (sym (grids_before f n l)))
 
   lists_before : bare (frame_of f n l).lists ≡ (frame_before f n (bare l)).lists
   unfolding frame_of frame_before
@@ -171,13 +174,13 @@ module _ (f : Frame) (n : Given) (l : Lent) (none : FrameKeepUpTo 0 f l) where
 
   -- ---- of whatever the entry may answer and leave
 
-  counted : (a : Answer) → (frame_of f n l).answer ≡ a → {x y : ℕ} → ((frame_of f n l).answer ≡ Accepted → x ≡ y) → settle a 0 x ≡ settle a 0 y
+  counted : (a : Answer) → (frame_of f n l).answer ≡ a → {x y : ℕ} → ((frame_of f n l).answer ≡ Ok tt → x ≡ y) → settle a 0 x ≡ settle a 0 y
   unfolding settle
-  counted (Refused r) e h = refl
-  counted Accepted e h = h e
+  counted (Err r) e h = refl
+  counted (Ok tt) e h = h e
 
-  pub stated_unkept : {a : PlaneAnswer} {m : Lent} → Stated f n l a m
-      → (a.answer ≡ (frame_before f n (bare l)).answer) × (bare m ≡ (frame_before f n (bare l)).lists) × (a.stored ≡ frame_stored_before f n (bare l)) × (a.changed ≡ frame_changed_before f n (bare l))
+  pub stated_unkept : {a : Result Counts Refusal} {m : Lent} → Stated f n l a m
+      → (answered a ≡ (frame_before f n (bare l)).answer) × (bare m ≡ (frame_before f n (bare l)).lists) × (stored_in a ≡ frame_stored_before f n (bare l)) × (changed_in a ≡ frame_changed_before f n (bare l))
   unfolding frame_stored frame_changed frame_stored_before frame_changed_before
   stated_unkept done =
       let same = answer_before f n l good in (

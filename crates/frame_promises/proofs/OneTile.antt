@@ -7,9 +7,11 @@ use Prim.Native.Nat.{ℕ}
 use Rattle.laws.specs.Choose.{pick}
 use Rattle.rules.specs.declared.settings.Frame.{Frame}
 use Rattle.rules.specs.declared.lent.FrameLengths.{FrameLengths}
-use Rattle.rules.specs.declared.refusals.Answer.{Answer}
-use Rattle.rules.specs.declared.refusals.Answer.TheVariants.{Accepted, Refused}
-use Rattle.rules.specs.declared.refusals.PlaneAnswer.{PlaneAnswer}
+use Rattle.rules.specs.Refusals.{Answer}
+use Rattle.std.specs.declared.result.Result.TheVariants.{Ok, Err}
+use Rattle.std.specs.declared.result.Result.{Result}
+use Rattle.rules.specs.declared.counts.Counts.{Counts}
+use Rattle.rules.specs.declared.refusals.Refusal.{Refusal}
 use Rattle.rules.specs.Refusals.{or_else, found, only_if, first}
 use Rattle.rules.specs.Thresholds.{steps_check}
 use Rattle.rules.specs.Plane.{keeping, bad_start, tiles_check}
@@ -19,13 +21,13 @@ use Rattle.frame_promises.proofs.Answers.{early_of}
 
 -- ---- no tile start
 
-only_accepted : (t : Bool) → only_if t Accepted ≡ Accepted
+only_accepted : (t : Bool) → only_if t (Ok tt) ≡ Ok tt
 unfolding only_if
 only_accepted true = refl
 only_accepted false = refl
 
 -- no list refuses
-no_starts : (f : Frame) → frame_tiles f [] [] ≡ Accepted
+no_starts : (f : Frame) → frame_tiles f [] [] ≡ Ok tt
 unfolding frame_tiles tiles_check bad_start first found or_else
 no_starts f = only_accepted (chroma_on f)
 
@@ -35,7 +37,7 @@ unfolding frame_early frame_given or_else
 checks_alone f k ks es n = rw (no_starts f)
 
 -- of whatever the entry may answer and leave with two empty lists: answer, lists and counts are those of one tile
-pub empty_lists : (f : Frame) (n : Given) (p : Planes) (v h w t q ks v' h' w' t' q' es ts us : List ℕ) → ts ≡ [] → us ≡ [] → {a : PlaneAnswer} {m : Lent}
+pub empty_lists : (f : Frame) (n : Given) (p : Planes) (v h w t q ks v' h' w' t' q' es ts us : List ℕ) → ts ≡ [] → us ≡ [] → {a : Result Counts Refusal} {m : Lent}
     → Stated f n (lent p (grids (keeping v h w t q ts ks) (keeping v' h' w' t' q' us es))) a m → Stated f n (lent p (grids (keeping v h w t q [] ks) (keeping v' h' w' t' q' [] es))) a m
 empty_lists f n p v h w t q ks v' h' w' t' q' es ts us e g {a} {m} done =
     subst (λ (xs : List ℕ). Stated f n (lent p (grids (keeping v h w t q [] ks) (keeping v' h' w' t' q' xs es))) a m) g
@@ -61,8 +63,8 @@ module _ (f : Frame) (n : Given) (l : Lent) (us es : List ℕ) (off : chroma_on 
 
   same_by : (a : Answer) → or_done a (relisted us es l) (built_of (relisted us es l)) ≡ done (or_done a l (built_of l)).answer (relisted us es (or_done a l (built_of l)).lists)
   unfolding or_done
-  same_by (Refused r) = refl
-  same_by Accepted = built_same
+  same_by (Err r) = refl
+  same_by (Ok tt) = built_same
 
   frame_same : frame_of f n (relisted us es l) ≡ done (frame_of f n l).answer (relisted us es (frame_of f n l).lists)
   unfolding frame_of
@@ -77,7 +79,7 @@ module _ (f : Frame) (n : Given) (l : Lent) (us es : List ℕ) (off : chroma_on 
   changed_same = rw (frame_same, off)
 
   -- what the entry may answer and leave, it may with any such lists of chroma's: the same answer and counts, and the same lists but for those two
-  pub chroma_unread : {a : PlaneAnswer} {m : Lent} → Stated f n l a m → Stated f n (relisted us es l) a (relisted us es m)
+  pub chroma_unread : {a : Result Counts Refusal} {m : Lent} → Stated f n l a m → Stated f n (relisted us es l) a (relisted us es m)
   chroma_unread x = record {
     answer = x.answer ∙ sym (ap (λ (d : Done). d.answer) frame_same);
     lists = ap (relisted us es) x.lists ∙ sym (ap (λ (d : Done). d.lists) frame_same);

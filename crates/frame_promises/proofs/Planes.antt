@@ -9,9 +9,9 @@ use Rattle.laws.specs.Choose.{pick}
 use Rattle.rules.specs.declared.settings.Frame.{Frame}
 use Rattle.rules.specs.declared.settings.Plane.{Plane}
 use Rattle.rules.specs.declared.refusals.Refusal.TheVariants.{Sample}
-use Rattle.rules.specs.declared.refusals.Answer.TheVariants.{Accepted}
+use Rattle.std.specs.declared.result.Result.TheVariants.{Ok}
 use Rattle.rules.specs.Refusals.{found, settle}
-use Rattle.rules.specs.declared.refusals.Found.TheVariants.{Nothing}
+use Rattle.std.specs.declared.option.Option.TheVariants.{None}
 use Rattle.rules.specs.Plane.{Grid, tiles_check, bad_keep, over_plane, run_plane, plane_check, plane_after}
 use Rattle.rules.specs.TuGrid.{marks}
 use Rattle.rules.specs.Frame.{Given, Lent, luma_plane, chroma_plane, chroma_on, built_grid, built_grids, frame_samples, frame_late, run_frame, frame_of}
@@ -31,8 +31,8 @@ use Rattle.frame_promises.proofs.Lengths.{tx_lengths, q_length}
 
 -- the grid that is built
 built_gridded : (f : Frame) (chroma : Bool) {ls ks : List ℕ} (sbq : List ℕ) (g : Grid) {size count : ℕ} → Sampled f chroma size → Buildable f chroma ls ks count (length g.vedge) (length g.hedge) (length g.sqw) (length g.sqh) (length g.qindex)
-    → kind_on f chroma ≡ true → tiles_check (plane_of f chroma).cols g.tiles ≡ Accepted
-    → ((plane_of f chroma).rows * (plane_of f chroma).cols ≤ length g.keep) × (bad_keep ((plane_of f chroma).rows * (plane_of f chroma).cols) g.keep ≡ Nothing) → Gridded f chroma (built_grid (tu_of f chroma) (q_of f chroma) ls ks sbq g) size
+    → kind_on f chroma ≡ true → tiles_check (plane_of f chroma).cols g.tiles ≡ Ok tt
+    → ((plane_of f chroma).rows * (plane_of f chroma).cols ≤ length g.keep) × (bad_keep ((plane_of f chroma).rows * (plane_of f chroma).cols) g.keep ≡ None) → Gridded f chroma (built_grid (tu_of f chroma) (q_of f chroma) ls ks sbq g) size
 unfolding built_grid pick
 built_gridded f chroma {ls} {ks} sbq g sampled b on starts kept =
     let m = tx_lengths (tu_of f chroma) ls ks (marks g.vedge g.hedge g.sqw g.sqh) in
@@ -40,18 +40,18 @@ built_gridded f chroma {ls} {ks} sbq g sampled b on starts kept =
 
 -- ---- an accepted frame
 
-module _ (f : Frame) (n : Given) (l : Lent) (ok : (frame_of f n l).answer ≡ Accepted) where
-  early : early_of f n l ≡ Accepted
+module _ (f : Frame) (n : Given) (l : Lent) (ok : (frame_of f n l).answer ≡ Ok tt) where
+  early : early_of f n l ≡ Ok tt
   early = (else_parts _ _ (sym (answer_is f n l) ∙ ok)).0
 
-  late : frame_late f (built_grids f n l.grids) l.planes ≡ Accepted
+  late : frame_late f (built_grids f n l.grids) l.planes ≡ Ok tt
   late = (else_parts _ _ (sym (answer_is f n l) ∙ ok)).1
 
-  samples : frame_samples f l.planes ≡ Accepted
+  samples : frame_samples f l.planes ≡ Ok tt
   unfolding frame_late
   samples = (else_parts _ _ late).1
 
-  pub luma_accepted : plane_check (luma_plane f) n.steps (built_grids f n l.grids).luma l.planes.y ≡ Accepted
+  pub luma_accepted : plane_check (luma_plane f) n.steps (built_grids f n l.grids).luma l.planes.y ≡ Ok tt
   unfolding built_grids frame_samples
   luma_accepted =
       plane_accepted f false n.steps _ l.planes.y
@@ -65,11 +65,11 @@ module _ (f : Frame) (n : Given) (l : Lent) (ok : (frame_of f n l).answer ≡ Ac
     unfolding built_grids pick
     chroma_grid = rw on
 
-    both_samples : (found (over_plane (chroma_plane f) l.planes.u) Sample ≡ Accepted) × (found (over_plane (chroma_plane f) l.planes.v) Sample ≡ Accepted)
+    both_samples : (found (over_plane (chroma_plane f) l.planes.u) Sample ≡ Ok tt) × (found (over_plane (chroma_plane f) l.planes.v) Sample ≡ Ok tt)
     unfolding frame_samples
     both_samples = else_parts _ _ (only_part _ _ (else_parts _ _ samples).1 on)
 
-    pub u_accepted : plane_check (chroma_plane f) n.steps (built_grids f n l.grids).chroma l.planes.u ≡ Accepted
+    pub u_accepted : plane_check (chroma_plane f) n.steps (built_grids f n l.grids).chroma l.planes.u ≡ Ok tt
     u_accepted =
         plane_accepted f true n.steps _ l.planes.u
         (rw chroma_grid (built_gridded f true n.sbq l.grids.chroma (u_sampled _ _ _ _ _ _ _ early on) (chroma_built _ _ _ _ _ _ _ early on) on (chroma_starts _ _ _ _ _ _ _ early on) (chroma_marks _ _ _ _ _ _ _ early on)))
@@ -77,7 +77,7 @@ module _ (f : Frame) (n : Given) (l : Lent) (ok : (frame_of f n l).answer ≡ Ac
         (chroma_room f (built_grids f n l.grids).luma _ l.planes refl late on)
         (found_nothing _ Sample both_samples.0)
 
-    pub v_accepted : plane_check (chroma_plane f) n.steps (built_grids f n l.grids).chroma l.planes.v ≡ Accepted
+    pub v_accepted : plane_check (chroma_plane f) n.steps (built_grids f n l.grids).chroma l.planes.v ≡ Ok tt
     v_accepted =
         plane_accepted f true n.steps _ l.planes.v
         (rw chroma_grid (built_gridded f true n.sbq l.grids.chroma (v_sampled _ _ _ _ _ _ _ early on) (chroma_built _ _ _ _ _ _ _ early on) on (chroma_starts _ _ _ _ _ _ _ early on) (chroma_marks _ _ _ _ _ _ _ early on)))
@@ -90,7 +90,7 @@ module _ (f : Frame) (n : Given) (l : Lent) (ok : (frame_of f n l).answer ≡ Ac
   afterwards : (frame_of f n l).lists.planes ≡ run_frame f n.steps (built_grids f n l.grids) l.planes
   afterwards = rw (ran f n l early late)
 
-  plane_after_holds : (s : Plane) (g : Grid) (p : List ℕ) → plane_check s n.steps g p ≡ Accepted → plane_after s n.steps g p ≡ run_plane s n.steps g p
+  plane_after_holds : (s : Plane) (g : Grid) (p : List ℕ) → plane_check s n.steps g p ≡ Ok tt → plane_after s n.steps g p ≡ run_plane s n.steps g p
   unfolding plane_after settle
   plane_after_holds s g p e = rw e
 

@@ -1,11 +1,11 @@
 -- "what lies beyond is kept": an entry past the plane's cells is as it was lent, in all four lists of a TU grid and in the keep marks.
 -- Assumes nothing.
-use mathlib.Core.Path.{◌≡◌, refl, sym, ap, ◌∙◌}
+use mathlib.Core.Path.{◌≡◌, refl, ◌∙◌}
 use mathlib.Core.List.{List}
 use mathlib.Core.Bool.{Bool, true, false}
 use Prim.Native.Nat.{ℕ, ◌+◌, ◌*◌, ◌/◌, ◌≤◌, ◌<◌}
 use native.Mathlib.Omega.{arith}
-use lib.ListN.{length, get_or, set}
+use lib.ListN.{length, get_or}
 use lib.Seq.{get_or-set_other}
 use lib.Dec.{ltb}
 use borrow.Author.Tests.{ltb-true}
@@ -13,10 +13,10 @@ use Rattle.laws.specs.Choose.{pick, both}
 use Rattle.laws.specs.Loops.{turns_keep}
 use Rattle.rules.specs.declared.settings.TuGrid.{TuGrid}
 use Rattle.rules.specs.declared.settings.Tile.{Tile}
-use Rattle.rules.specs.declared.refusals.Answer.{Answer}
-use Rattle.rules.specs.declared.refusals.Answer.TheVariants.{Accepted, Refused}
+use Rattle.rules.specs.Refusals.{Answer}
+use Rattle.std.specs.declared.result.Result.TheVariants.{Ok, Err}
 use Rattle.rules.specs.Refusals.{settle}
-use Rattle.rules.specs.TuGrid.{Marks, marks, mark_of, log2_of, store_cell, paint_cell, paint_row, paint_of, leaf_of, leaves_of, clear_of, blank_of, tx_grid_of, tx_grid_check, tx_grid_after, cleared_after}
+use Rattle.rules.specs.TuGrid.{Marks, mark_of, log2_of, store_cell, paint_cell, paint_row, paint_of, leaf_of, leaves_of, clear_of, tx_grid_of, tx_grid_check, tx_grid_after, cleared_after}
 use Rattle.tiles.proofs.Places.{place_below}
 
 module _ (s : TuGrid) (i : ℕ) (far : s.rows * s.cols ≤ i) (v h w t : ℕ) where
@@ -76,8 +76,8 @@ unfolding tx_grid_after settle
 entry_beyond s ls skips g keep i far = by (tx_grid_check s ls skips g keep)
   where
     by : (a : Answer) → Alike (settle a g (tx_grid_of s ls skips g)) g i
-    by Accepted = tx_beyond s ls skips g i far
-    by (Refused r) = alike g i
+    by (Ok tt) = tx_beyond s ls skips g i far
+    by (Err r) = alike g i
 
 -- and of the keep marks
 pub cleared_beyond : (s : TuGrid) (ls skips : List ℕ) (g : Marks) (keep : List ℕ) (i : ℕ) → s.rows * s.cols ≤ i → get_or (cleared_after s ls skips g keep) i 0 ≡ get_or keep i 0
@@ -85,5 +85,5 @@ unfolding cleared_after settle
 cleared_beyond s ls skips g keep i far = by (tx_grid_check s ls skips g keep)
   where
     by : (a : Answer) → get_or (settle a keep (clear_of (s.rows * s.cols) keep)) i 0 ≡ get_or keep i 0
-    by Accepted = clear_keeps _ i _ keep far refl
-    by (Refused r) = refl
+    by (Ok tt) = clear_keeps _ i _ keep far refl
+    by (Err r) = refl

@@ -1,12 +1,11 @@
 -- What a built TU grid holds: marks 0 or 1 and size indices 0..6 at every cell, so that none of its cells is bad; and its entry's keep marks, 0 at every cell.
 -- Assumes nothing.
-use mathlib.Core.Path.{◌≡◌, refl, sym, ◌∙◌}
+use mathlib.Core.Path.{◌≡◌, refl, sym}
 use mathlib.Core.List.{List, [], ◌∷◌}
 use mathlib.Core.Bool.{Bool, true, false}
 use Prim.Native.Nat.{ℕ, zero, suc, ◌+◌, ◌*◌, ◌/◌, ◌%◌, ◌≤◌, ◌<◌}
 use native.Mathlib.Omega.{arith}
-use lib.ListN.{length, get_or, set, length-set}
-use lib.Seq.{get_or-set_other, get_or-set_same}
+use lib.ListN.{length, get_or, set}
 use lib.Dec.{ltb, eqb}
 use borrow.Author.Tests.{le-leb}
 use Rattle.laws.specs.Choose.{pick, both, all}
@@ -14,14 +13,13 @@ use Rattle.laws.specs.Loops.{turns_keep}
 use Rattle.rules.specs.declared.settings.TuGrid.{TuGrid}
 use Rattle.rules.specs.declared.settings.Tile.{Tile}
 use Rattle.rules.specs.declared.settings.Plane.{Plane}
-use Rattle.rules.specs.declared.refusals.Answer.TheVariants.{Accepted}
-use Rattle.rules.specs.declared.refusals.Found.TheVariants.{Nothing}
+use Rattle.std.specs.declared.result.Result.TheVariants.{Ok}
+use Rattle.std.specs.declared.option.Option.TheVariants.{None}
 use Rattle.rules.specs.Refusals.{settle}
 use Rattle.rules.specs.Plane.{grid, cell_good, bad_cell}
 use Rattle.rules.specs.TuGrid.{Marks, mark_of, log2_of, paint_cell, paint_row, paint_of, leaf_of, leaves_of, clear_of, tx_grid_of, cleared_after}
 use Rattle.checks.proofs.First.{all_nothing, found_unless_not}
 use Rattle.tiles.proofs.Turns.{turns_hit, set_keeps}
-use Rattle.tiles.proofs.Places.{same_row, same_col}
 use Rattle.grid.specs.Stated.{Stated}
 use Rattle.grid.proofs.Covers.{Column, stored, vedge_column, hedge_column, sqw_column, sqh_column}
 
@@ -98,12 +96,12 @@ cell_good_holds s ls skips g q k h =
     )
 
 -- so a plane of these cells has no bad one
-pub no_bad_cell : (p : Plane) (s : TuGrid) (ls skips : List ℕ) (g : Marks) (q : List ℕ) → p.rows ≡ s.rows → p.cols ≡ s.cols → bad_cell p (grid (tx_grid_of s ls skips g).vedge (tx_grid_of s ls skips g).hedge (tx_grid_of s ls skips g).sqw (tx_grid_of s ls skips g).sqh q) ≡ Nothing
+pub no_bad_cell : (p : Plane) (s : TuGrid) (ls skips : List ℕ) (g : Marks) (q : List ℕ) → p.rows ≡ s.rows → p.cols ≡ s.cols → bad_cell p (grid (tx_grid_of s ls skips g).vedge (tx_grid_of s ls skips g).hedge (tx_grid_of s ls skips g).sqw (tx_grid_of s ls skips g).sqh q) ≡ None
 unfolding bad_cell
 no_bad_cell p s ls skips g q er ec =
     rw (er, ec) (all_nothing _ (s.rows * s.cols) (λ k h. sym (found_unless_not _ k (sym (cell_good_holds s ls skips g q k h)))))
 
 -- ticket 7, "The TU grid alone clears the mark": no cell of an accepted grid is kept, whatever its mark was
-pub none_kept : {s : TuGrid} {ls skips : List ℕ} {g : Marks} {k : List ℕ} {m : Marks} {n : List ℕ} → Stated s ls skips g k Accepted m n → (i : ℕ) → i < s.rows * s.cols → get_or n i 0 ≡ 0
+pub none_kept : {s : TuGrid} {ls skips : List ℕ} {g : Marks} {k : List ℕ} {m : Marks} {n : List ℕ} → Stated s ls skips g k (Ok tt) m n → (i : ℕ) → i < s.rows * s.cols → get_or n i 0 ≡ 0
 unfolding cleared_after settle
 none_kept {s} {k = k} p i h = rw (p.cleared, ← p.answer) (clear_none (s.rows * s.cols) i k h)

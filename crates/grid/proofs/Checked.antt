@@ -10,8 +10,8 @@ use mir.Val.{Fits}
 use mir.Syntax.{w64}
 use Rattle.laws.specs.Choose.{both, all, both_parts, all_parts}
 use Rattle.rules.specs.declared.settings.TuGrid.{TuGrid}
-use Rattle.rules.specs.declared.refusals.Answer.{Answer}
-use Rattle.rules.specs.declared.refusals.Answer.TheVariants.{Accepted, Refused}
+use Rattle.rules.specs.Refusals.{Answer}
+use Rattle.std.specs.declared.result.Result.TheVariants.{Ok, Err}
 use Rattle.rules.specs.declared.refusals.Refusal.{Refusal}
 use Rattle.rules.specs.declared.refusals.Refusal.TheVariants.{Leaf}
 use Rattle.rules.specs.Numbers.{subsampling_ok}
@@ -46,7 +46,7 @@ long_fit s v h w t k a b e =
 -- ---- the start's ways out, by the answer a of its checks
 
 -- what it needs for lists that start at 0
-pub start_fit : (s : TuGrid) (fours : Bool) (nine a : Answer) (v h w t k : ℕ) → a ≡ check_by s fours nine v h w t k → a ≡ Accepted → GridFits s v h w t × (s.rows * s.cols ≤ k)
+pub start_fit : (s : TuGrid) (fours : Bool) (nine a : Answer) (v h w t k : ℕ) → a ≡ check_by s fours nine v h w t k → a ≡ Ok tt → GridFits s v h w t × (s.rows * s.cols ≤ k)
 unfolding check_by
 start_fit s fours nine a v h w t k e f =
     let p1 = else_parts _ _ (sym e ∙ f) in
@@ -55,10 +55,10 @@ start_fit s fours nine a v h w t k e f =
     long_fit s v h w t k (cols_most _ _ sizes.0) (rows_most _ _ sizes.0) (unless_true _ _ p2.0)
 
 module _ {s : TuGrid} {fours : Bool} {nine a : Answer} {g : Marks} {k : List ℕ} (made : a ≡ start_check s fours nine g k) where
-  pub start_refused : {r : Refusal} → a ≡ Refused r → Started s fours nine g k (Refused r) g k
+  pub start_refused : {r : Refusal} → a ≡ Err r → Started s fours nine g k (Err r) g k
   start_refused e = record { answer = refused_by_holds _ _ made e; lists = settle_refused_by _ _ _ _ made e; cleared = settle_refused_by _ _ _ _ made e }
 
-  pub start_done : a ≡ Accepted → {g' : Marks} {k' : List ℕ} → g' ≡ blank_of (s.rows * s.cols) g → k' ≡ clear_of (s.rows * s.cols) k → Started s fours nine g k Accepted g' k'
+  pub start_done : a ≡ Ok tt → {g' : Marks} {k' : List ℕ} → g' ≡ blank_of (s.rows * s.cols) g → k' ≡ clear_of (s.rows * s.cols) k → Started s fours nine g k (Ok tt) g' k'
   start_done e f b = record { answer = accepted_by _ _ made e; lists = settle_accepted_by _ _ _ _ _ made e f; cleared = settle_accepted_by _ _ _ _ _ made e b }
 
 -- ---- the checks of leaves of four numbers
@@ -75,7 +75,7 @@ unfolding check_by tx_grid_check lists_long
 check_is s fours nine ls skips g keep e f = rw (e, f, unless_all)
 
 -- all that building asks for
-tx_accepted : (s : TuGrid) (ls skips : List ℕ) (g : Marks) (keep : List ℕ) → tx_grid_check s ls skips g keep ≡ Accepted → GridFits s (length g.vedge) (length g.hedge) (length g.sqw) (length g.sqh) × Cut s × AllGood ls × AllGood skips
+tx_accepted : (s : TuGrid) (ls skips : List ℕ) (g : Marks) (keep : List ℕ) → tx_grid_check s ls skips g keep ≡ Ok tt → GridFits s (length g.vedge) (length g.hedge) (length g.sqw) (length g.sqh) × Cut s × AllGood ls × AllGood skips
 unfolding tx_grid_check lists_long
 tx_accepted s ls skips g keep e =
     let p1 = else_parts _ _ e in
@@ -92,19 +92,19 @@ tx_accepted s ls skips g keep e =
 
 module _ {s : TuGrid} {fours : Bool} {nine a : Answer} (ls skips : List ℕ) {g g1 : Marks} {k k1 : List ℕ} (same : start_check s fours nine g k ≡ tx_grid_check s ls skips g k) (p : Started s fours nine g k a g1 k1) where
   -- refused: all lists are as they were lent
-  pub after_refused : {r : Refusal} → a ≡ Refused r → Stated s ls skips g k (Refused r) g1 k1
+  pub after_refused : {r : Refusal} → a ≡ Err r → Stated s ls skips g k (Err r) g1 k1
   unfolding tx_grid_after cleared_after settle
   after_refused f = let e = sym f ∙ p.answer ∙ same in record { answer = e; lists = rw (← e) (rw (same, ← e) at p.lists); cleared = rw (← e) (rw (same, ← e) at p.cleared) }
 
-  module _ (acc : a ≡ Accepted) where
-    all_accepted : tx_grid_check s ls skips g k ≡ Accepted
+  module _ (acc : a ≡ Ok tt) where
+    all_accepted : tx_grid_check s ls skips g k ≡ Ok tt
     all_accepted = sym (p.answer ∙ same) ∙ acc
 
     pub all_fit : GridFits s (length g.vedge) (length g.hedge) (length g.sqw) (length g.sqh) × Cut s × AllGood ls × AllGood skips
     all_fit = tx_accepted s ls skips g k all_accepted
 
     -- accepted: the lists start at 0, and hold the leaves, then the skip leaves
-    pub after_accepted : {g3 : Marks} → g3 ≡ leaves_of s true skips (leaves_of s false ls g1) → Stated s ls skips g k Accepted g3 k1
+    pub after_accepted : {g3 : Marks} → g3 ≡ leaves_of s true skips (leaves_of s false ls g1) → Stated s ls skips g k (Ok tt) g3 k1
     unfolding tx_grid_after cleared_after settle
     after_accepted c =
         let e = all_accepted in

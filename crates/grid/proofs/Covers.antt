@@ -1,6 +1,6 @@
 -- "later leaves win": a cell's entries are those of the last leaf that covers it, once for all four lists; where none does, they are as they were.
 -- Assumes nothing.
-use mathlib.Core.Path.{◌≡◌, refl, sym, ap, ◌∙◌, subst}
+use mathlib.Core.Path.{◌≡◌, refl, sym, ◌∙◌}
 use mathlib.Core.List.{List}
 use mathlib.Core.Bool.{Bool, true, false}
 use Prim.Native.Nat.{ℕ, ◌+◌, ◌-◌, ◌*◌, ◌/◌, ◌≤◌, ◌<◌}
@@ -13,7 +13,7 @@ use Rattle.laws.specs.Choose.{pick, both}
 use Rattle.laws.specs.Loops.{turns_keep}
 use Rattle.rules.specs.declared.settings.TuGrid.{TuGrid}
 use Rattle.rules.specs.declared.settings.Tile.{Tile}
-use Rattle.rules.specs.TuGrid.{Marks, marks, mark_of, log2_of, store_cell, paint_cell, paint_row, paint_of, leaf_of, leaves_of, clear_of, blank_of}
+use Rattle.rules.specs.TuGrid.{Marks, mark_of, log2_of, store_cell, paint_cell, paint_row, paint_of, leaf_of, leaves_of, clear_of, blank_of}
 use Rattle.tiles.proofs.Places.{same_row, same_col}
 use Rattle.tiles.proofs.Turns.{turns_hit}
 

@@ -1,15 +1,14 @@
 -- What painting does at each of its ways out: a cell outside the plane, a cell within, a leaf, a grid built.
 -- Assumes nothing.
-use mathlib.Core.Path.{◌≡◌, refl, sym, ap, ◌∙◌}
+use mathlib.Core.Path.{◌≡◌}
 use mathlib.Core.List.{List}
-use mathlib.Core.Bool.{Bool, true, false}
+use mathlib.Core.Bool.{true, false}
 use Prim.Native.Nat.{ℕ, ◌+◌, ◌*◌, ◌≤◌, ◌<◌}
-use lib.Dec.{ltb}
 use borrow.Author.Tests.{lt-ltb, le-ltb}
 use Rattle.laws.specs.Choose.{pick, both}
 use Rattle.rules.specs.declared.settings.TuGrid.{TuGrid}
 use Rattle.rules.specs.declared.settings.Tile.{Tile}
-use Rattle.rules.specs.TuGrid.{Marks, marks, mark_of, log2_of, store_cell, paint_cell, paint_of, leaves_of, blank_of, tx_grid_of}
+use Rattle.rules.specs.TuGrid.{Marks, mark_of, log2_of, store_cell, paint_cell, paint_of, leaves_of, blank_of, tx_grid_of}
 
 module _ (s : TuGrid) (a : Tile) (dr dc : ℕ) (g : Marks) where
   pub cell_below : s.rows ≤ a.row + dr → g ≡ paint_cell s a dr dc g

@@ -4,7 +4,7 @@ use Rattle.std.specs.Prelude.{◌≡◌, Bool, List, [], ◌∷◌, ℕ, ◌*◌
 use Rattle.laws.specs.Choose.{both, all}
 use Rattle.rules.specs.declared.settings.TuGrid.{TuGrid}
 use Rattle.rules.specs.declared.refusals.Refusal.TheVariants.{Size, Length, Setting}
-use Rattle.rules.specs.declared.refusals.Answer.{Answer}
+use Rattle.rules.specs.Refusals.{Answer}
 use Rattle.rules.specs.Numbers.{subsampling_ok}
 use Rattle.rules.specs.Refusals.{or_else, unless, settle}
 use Rattle.rules.specs.TuGrid.{Marks, cells_ok, cap_ok, clear_of, blank_of}

@@ -2,7 +2,7 @@
 -- Assumes nothing.
 use Rattle.std.specs.Prelude.{◌≡◌, List, ℕ}
 use Rattle.rules.specs.declared.settings.TuGrid.{TuGrid}
-use Rattle.rules.specs.declared.refusals.Answer.{Answer}
+use Rattle.rules.specs.Refusals.{Answer}
 use Rattle.rules.specs.TuGrid.{Marks, tx_grid_check, tx_grid_after, cleared_after}
 
 -- its answer a, the four lists m and the keep marks n afterwards, of lists g and keep marks k

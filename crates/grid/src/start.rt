@@ -6,7 +6,7 @@ ghost use Rattle.rules.specs.TuGrid.{marks, cells_ok, cap_ok};
 ghost use Rattle.grid.specs.Start.{check_by, Started};
 
 use super::paint::{blank, clear};
-use rules::refusals::{Answer, Refusal};
+use rules::refusals::Refusal;
 use rules::settings::TuGrid;
 use tiles::tests::{cap_ok, cells_ok, lists_long, subsampling_ok};
 
@@ -37,21 +37,21 @@ fn check(
     k: usize,
     s: TuGrid,
     fours: bool,
-    nine: Answer,
-) -> Answer
+    nine: Result<(), Refusal>,
+) -> Result<(), Refusal>
     ensures { result ≡ check_by s fours nine v h w t k }
 {
     if !sizes_ok(s) {
-        return Answer::Refused(Refusal::Size);
+        return Err(Refusal::Size);
     }
     if !lists_long(s.rows * s.cols, v, h, w, t, k) {
-        return Answer::Refused(Refusal::Length);
+        return Err(Refusal::Length);
     }
     if !fours {
-        return Answer::Refused(Refusal::Length);
+        return Err(Refusal::Length);
     }
     if !caps_ok(s) {
-        return Answer::Refused(Refusal::Setting);
+        return Err(Refusal::Setting);
     }
     nine
 }
@@ -65,12 +65,12 @@ pub fn start(
     keep: &mut [u8],
     s: TuGrid,
     fours: bool,
-    nine: Answer,
-) -> Answer
+    nine: Result<(), Refusal>,
+) -> Result<(), Refusal>
     ensures { Started s fours nine (marks vedge.old hedge.old sqw.old sqh.old) keep.old
         result (marks vedge.new hedge.new sqw.new sqh.new) keep.new }
 {
-    let a = check(
+    check(
         vedge.len(),
         hedge.len(),
         sqw.len(),
@@ -79,12 +79,9 @@ pub fn start(
         s,
         fours,
         nine,
-    );
-    if let Answer::Refused(r) = a {
-        return Answer::Refused(r);
-    }
+    )?;
     let cells = s.rows * s.cols;
     blank(vedge, hedge, sqw, sqh, cells);
     clear(keep, cells);
-    Answer::Accepted
+    Ok(())
 }

@@ -9,7 +9,7 @@ ghost use Rattle.grid.specs.Stated.{Stated};
 
 use super::paint::{blank, paint_lists};
 use super::start::start;
-use rules::refusals::{Answer, Found, Refusal};
+use rules::refusals::Refusal;
 use rules::settings::TuGrid;
 use tiles::leaf::bad_leaf;
 use tiles::tests::leaves_fours;
@@ -34,19 +34,22 @@ pub fn tx_grid(
     paint_lists(vedge, hedge, sqw, sqh, ls, skips, s);
 }
 
+// Refusal 9 of a list of leaves.
+fn list_ok(ls: &[u16], skip: bool) -> Result<(), Refusal>
+    ensures { result ≡ found (bad_leaf skip ls.now) Leaf }
+{
+    match bad_leaf(ls, skip) {
+        Some(k) => Err(Refusal::Leaf(k)),
+        None => Ok(()),
+    }
+}
+
 // Refusal 9 of the leaves, and then of the skip leaves.
-fn leaves_ok(ls: &[u16], skips: &[u16]) -> Answer
+fn leaves_ok(ls: &[u16], skips: &[u16]) -> Result<(), Refusal>
     ensures { result ≡ or_else (found (bad_leaf false ls.now) Leaf) (found (bad_leaf true skips.now) Leaf) }
 {
-    let f = bad_leaf(ls, false);
-    if let Found::At(k) = f {
-        return Answer::Refused(Refusal::Leaf(k));
-    }
-    let g = bad_leaf(skips, true);
-    if let Found::At(k) = g {
-        return Answer::Refused(Refusal::Leaf(k));
-    }
-    Answer::Accepted
+    list_ok(ls, false)?;
+    list_ok(skips, true)
 }
 
 // The TU grid of any settings and lists, with no cell kept, or why there is none.
@@ -59,16 +62,13 @@ pub fn build_tx_grid(
     sqh: &mut [u8],
     keep: &mut [u8],
     s: TuGrid,
-) -> Answer
+) -> Result<(), Refusal>
     ensures { Stated s ls.now skips.now (marks vedge.old hedge.old sqw.old sqh.old) keep.old
         result (marks vedge.new hedge.new sqw.new sqh.new) keep.new }
 {
     let fours = leaves_fours(ls.len(), skips.len());
     let nine = leaves_ok(ls, skips);
-    let a = start(vedge, hedge, sqw, sqh, keep, s, fours, nine);
-    if let Answer::Refused(r) = a {
-        return Answer::Refused(r);
-    }
+    start(vedge, hedge, sqw, sqh, keep, s, fours, nine)?;
     paint_lists(vedge, hedge, sqw, sqh, ls, skips, s);
-    Answer::Accepted
+    Ok(())
 }

@@ -1,39 +1,29 @@
 // Keep marks over a rectangle: what the entry is asked, and what the stream says that it answers.
-use crate::six::{Six, read_six};
+use cases::{Due, Line};
 use rectangle::keep_rectangle;
 use rules::settings::Keep;
-use tally::Tally;
-use text::{Answered, Cursor};
+use tally::Outcome;
 
-fn settings(n: Six) -> Keep {
-    Keep {
-        cols: n.a,
-        rows: n.b,
-        row: n.c,
-        col: n.d,
-        h: n.e,
-        w: n.f,
-    }
+fn settings(line: &mut Line) -> Option<Keep> {
+    Some(Keep {
+        cols: line.size()?,
+        rows: line.size()?,
+        row: line.size()?,
+        col: line.size()?,
+        h: line.size()?,
+        w: line.size()?,
+    })
 }
 
-// The entry's answer and its marks, held against the stream's.
-fn compare(text: &[u8], lent: Cursor, told: Answered, s: Keep, keep: &mut [u8]) -> bool {
+// A line after its kind: the entry's answer and its marks, held against the stream's.
+pub fn replay(mut line: Line) -> Option<Outcome> {
+    let mut room = [0u8; 16384];
+    let s = settings(&mut line)?;
+    let lent = line;
+    let keep = line.list(&mut room);
+    let told = line.answer()?;
     let answer = keep_rectangle(keep, s);
-    tally::same(answer, told.number, told.place) && cases::held_u8s(text, lent, told, keep)
-}
-
-// A line after its kind.
-pub fn replay(text: &[u8], c: Cursor, t: Tally) -> Tally {
-    let mut keep = [0u8; 16384];
-    let asked = read_six(text, c);
-    let lent = asked.rest;
-    let k = text::read_u8s(text, lent, &mut keep);
-    let told = text::read_answer(text, k.rest);
-    let rest = told.rest;
-    if !rest.good {
-        return tally::unread(t);
-    }
-    let n = k.length;
-    let same = compare(text, lent, told, settings(asked), &mut keep[..n]);
-    tally::case(t, told.number, same)
+    let due = Due::new(told, lent, line);
+    let same = tally::same(answer, told.number, told.place) && due.only(keep);
+    Some(Outcome::new(told.number, same))
 }

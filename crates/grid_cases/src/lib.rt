@@ -1,9 +1,6 @@
 // The cases of grids: TU grids, qindex grids and keep marks over rectangles, and whether answer and lists are the line's.
 #![tactic(auto)]
 
-// Six numbers of a line.
-mod six;
-
 // One TU grid.
 mod tx;
 

@@ -1,21 +1,21 @@
 -- The cells that an edge on a cell's side may store in: two before it and two after it, across the edge.
 -- Assumes nothing.
-use mathlib.Core.Path.{◌≡◌, refl, sym, ap, ◌∙◌}
+use mathlib.Core.Path.{◌≡◌, sym, ap, ◌∙◌}
 use mathlib.Core.Bool.{Bool, true, false, not}
 use mathlib.Core.List.{List}
 use Prim.Native.Nat.{ℕ, ◌+◌, ◌*◌, ◌-◌, ◌/◌, ◌%◌, ◌≤◌, ◌<◌}
 use native.Mathlib.Decide.{ℕ_discrete}
-use native.Mathlib.Nat.{add-mul, mul-le-mul_right, mul-le-mul_left, div-add-mod', div-le_self, mul_assoc}
+use native.Mathlib.Nat.{add-mul, mul-le-mul_right, mul-le-mul_left, div-add-mod', mul_assoc}
 use native.Mathlib.Omega.{arith}
 use borrow.Author.Tests.{eq-eqb, ne_eqb, not-true}
-use lib.Dec.{T, eqb}
+use lib.Dec.{eqb}
 use lib.ListN.{length, get_or, get_or-eq_default}
-use Rattle.laws.specs.Boxes.{in_box, In, in_of}
+use Rattle.laws.specs.Boxes.{In, in_of}
 use Rattle.rules.specs.declared.edge.Edge.{Edge}
 use Rattle.rules.specs.Lengths.{most_before, most_after}
 use Rattle.rules.specs.Segment.{kept_in}
 use Rattle.lengths.proofs.Lengths.{pair_facts}
-use Rattle.segment.specs.Boxes.{across, write_box}
+use Rattle.segment.specs.Boxes.{across}
 use Rattle.segment.specs.Fit.{InPlane}
 use Rattle.kept.specs.Kept.{FourOpen, Open}
 use Rattle.segment.proofs.Cells.{Along}

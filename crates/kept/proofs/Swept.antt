@@ -1,9 +1,9 @@
 -- An edge next to kept cells: what is left of its stores, sample by sample, line by line, from the samples of its window; and that an edge none of
 -- whose samples is kept stores as any edge does. Assumes nothing.
-use mathlib.Core.Path.{◌≡◌, refl, sym, ap, ap₂, ◌∙◌}
+use mathlib.Core.Path.{◌≡◌, refl, sym, ap, ◌∙◌}
 use mathlib.Core.Bool.{Bool, true, false}
 use mathlib.Core.List.{List, [], ◌∷◌, ◌++◌}
-use Prim.Native.Nat.{ℕ, ◌+◌, ◌*◌, ◌-◌, ◌/◌, ◌%◌, ◌≤◌, ◌<◌, min}
+use Prim.Native.Nat.{ℕ, ◌+◌, ◌*◌, ◌/◌, ◌%◌, ◌≤◌, ◌<◌, min}
 use native.Mathlib.Nat.{le_antisymm}
 use native.Mathlib.Numerals.{add-one}
 use native.Mathlib.Omega.{arith}
@@ -21,10 +21,10 @@ use Rattle.rules.specs.declared.counts.Counts.{Counts}
 use Rattle.rules.specs.declared.edge.Edge.{Edge}
 use Rattle.rules.specs.declared.edge.Line.{Line}
 use Rattle.rules.specs.declared.edge.Place.{Place}
-use Rattle.rules.specs.Lengths.{most_before, most_after, reach_before, reach_after}
-use Rattle.rules.specs.Taps.{weight_of, most_of, difference, before, after}
-use Rattle.rules.specs.Width.{blank, p_of, q_of}
-use Rattle.rules.specs.Segment.{p_at, q_at, edge_place, window_of, chosen_of, difference_of, line_stores, four_stores, stores_before, stores_after, stores_of, kept_in, none_kept, open_stores, segment_of}
+use Rattle.rules.specs.Lengths.{most_before, reach_before, reach_after}
+use Rattle.rules.specs.Taps.{weight_of, most_of, difference}
+use Rattle.rules.specs.Width.{blank}
+use Rattle.rules.specs.Segment.{p_at, q_at, window_of, chosen_of, line_stores, four_stores, stores_before, stores_after, stores_of, kept_in, none_kept, open_stores, segment_of}
 use Rattle.rules.specs.Counts.{stored_at, changed_at}
 use Rattle.lengths.proofs.Lengths.{PairFacts, pair_facts}
 use Rattle.taps.specs.Signed.{signed}

@@ -1,8 +1,8 @@
 -- What an edge next to kept cells stores: every sample of its window as the rules move it, less those that are kept.
 -- Assumes nothing.
-use Rattle.std.specs.Prelude.{◌≡◌, Bool, true, false, List, [], ◌∷◌, ◌++◌, ℕ, ◌+◌, ◌*◌, ◌-◌, ◌≤◌, ◌<◌, T, eqb, length, get_or, ℤ}
+use Rattle.std.specs.Prelude.{◌≡◌, Bool, false, List, [], ◌∷◌, ◌++◌, ℕ, ◌+◌, ◌*◌, ◌-◌, ◌≤◌, ◌<◌, T, eqb, length, get_or, ℤ}
 use Rattle.laws.specs.Boxes.{in_box}
-use Rattle.laws.specs.Changes.{changes, differ}
+use Rattle.laws.specs.Changes.{changes}
 use Rattle.laws.specs.Loops.{each}
 use Rattle.laws.specs.Outside.{outside}
 use Rattle.laws.specs.Stores.{Store, puts}

@@ -4,36 +4,26 @@ ghost use Rattle.std.specs.Prelude.{◌≡◌, false, [], ◌∷◌, ◌+◌, �
 ghost use Rattle.laws.specs.Changes.{differ};
 ghost use Rattle.rules.specs.Segment.{p_at, q_at, placed, edge_place, kept_in};
 ghost use Rattle.width.specs.Tests.{off_of};
-ghost use Rattle.segment.specs.Sides.{Scales, Lane, Lanes, none};
+ghost use Rattle.segment.specs.Sides.{Lane, Lanes, none};
 ghost use Rattle.segment.specs.Fit.{EdgeFits, Filtered, InPlane, EdgeFiltered};
 ghost use Rattle.kept.specs.Kept.{along_line, against_line, line_open, lines_open, Holds, HoldsLine, HoldsLines, Swept, Few, Somewhere};
 
-use super::marks::{all_open, kept_at};
+use super::marks::{Kept, all_open};
 use super::window::window;
-use laws::least;
 use lengths::pairs::most_before;
 use rules::counts::Counts;
 use rules::edge::{Edge, Line, Place};
-use segment::{Outcome, filter_edge, filter_segment, level, upright};
+use segment::{Outcome, Widths, filter_edge, filter_segment, level, upright};
 use taps::difference::limited;
-use taps::moves::{Moved, move_after, move_before};
-use taps::tables::{limit_of, weight, weighted};
+use taps::moves::{Move, Moved};
 use width::choice::off;
 
 // Stores a sample that was moved, unless its cell is kept; the counts, with those so far.
-fn put_open(
-    plane: &mut [u16],
-    keep: &[u8],
-    cols: usize,
-    stride: usize,
-    k: usize,
-    x: Moved,
-    sofar: Counts,
-) -> Counts
-    requires { (1 ≤ stride) × (cols ≤ stride) × (k < length plane.old) × (x.changed ≤ 1) × (sofar.stored ≤ 64) × (sofar.changed ≤ 64) }
-    ensures { (Swept (kept_in cols stride keep.now) ((k, x.to) ∷ []) (λ l. x.changed ≡ differ (get_or l k 0) x.to) plane.old sofar result plane.new) × Few 1 sofar result }
+fn put_open(plane: &mut [u16], kept: Kept, k: usize, x: Moved, sofar: Counts) -> Counts
+    requires { (k < length plane.old) × (x.changed ≤ 1) × (sofar.stored ≤ 64) × (sofar.changed ≤ 64) }
+    ensures { (Swept (kept_in kept.entry.cols kept.entry.stride kept.entry.keep.now) ((k, x.to) ∷ []) (λ l. x.changed ≡ differ (get_or l k 0) x.to) plane.old sofar result plane.new) × Few 1 sofar result }
 {
-    if kept_at(keep, cols, stride, k) {
+    if kept.at(k) {
         return sofar;
     }
     plane[k] = x.to;
@@ -44,149 +34,91 @@ fn put_open(
 }
 
 // The s samples p of a line before the edge, moved by D·W of this sign and size.
+// By offsets, here and below: the samples of a side stand a step apart in the plane, outwards from the edge.
 fn before_open(
     plane: &mut [u16],
-    keep: &[u8],
-    cols: usize,
-    stride: usize,
+    kept: Kept,
     p: [u16; 9],
     at: usize,
     step: usize,
     s: usize,
-    plus: bool,
-    by: u32,
-    top: u16,
+    m: Move,
     sofar: Counts,
 ) -> Counts
-    requires { (1 ≤ stride) × (cols ≤ stride) × (by ≤ 5570560) × (s ≤ 8) × (s * step ≤ at) × (at < length plane.old) × (sofar.stored ≤ 56) × (sofar.changed ≤ 56) }
-    ensures { (Swept (kept_in cols stride keep.now) (along_line top at step s plus by p s) (Holds (p_at at step) s p) plane.old sofar result plane.new) × Few s sofar result }
+    requires { (s ≤ 8) × (s * step ≤ at) × (at < length plane.old) × (sofar.stored ≤ 56) × (sofar.changed ≤ 56) }
+    ensures { (Swept (kept_in kept.entry.cols kept.entry.stride kept.entry.keep.now) (along_line m.top at step s m.plus m.by p s) (Holds (p_at at step) s p) plane.old sofar result plane.new) × Few s sofar result }
 {
     let mut done = sofar;
     for i in 0..s {
-        let x = move_before(p[i], plus, by, s - i, top);
+        let x = m.before(p[i], s - i);
         let k = at - (i + 1) * step;
-        done = put_open(plane, keep, cols, stride, k, x, done);
+        done = put_open(plane, kept, k, x, done);
     }
     done
 }
 
-// The s samples q of a line after the edge.
+// The s samples q of a line after the edge. A function for each side: with the side as an argument every clause would have two cases.
 fn after_open(
     plane: &mut [u16],
-    keep: &[u8],
-    cols: usize,
-    stride: usize,
+    kept: Kept,
     q: [u16; 9],
     at: usize,
     step: usize,
     s: usize,
-    plus: bool,
-    by: u32,
-    top: u16,
+    m: Move,
     sofar: Counts,
 ) -> Counts
-    requires { (1 ≤ stride) × (cols ≤ stride) × (by ≤ 5570560) × (s ≤ 8) × (at + (s - 1) * step < length plane.old) × (sofar.stored ≤ 56) × (sofar.changed ≤ 56) }
-    ensures { (Swept (kept_in cols stride keep.now) (against_line top at step s plus by q s) (Holds (q_at at step) s q) plane.old sofar result plane.new) × Few s sofar result }
+    requires { (s ≤ 8) × (at + (s - 1) * step < length plane.old) × (sofar.stored ≤ 56) × (sofar.changed ≤ 56) }
+    ensures { (Swept (kept_in kept.entry.cols kept.entry.stride kept.entry.keep.now) (against_line m.top at step s m.plus m.by q s) (Holds (q_at at step) s q) plane.old sofar result plane.new) × Few s sofar result }
 {
     let mut done = sofar;
     for i in 0..s {
-        let x = move_after(q[i], plus, by, s - i, top);
+        let x = m.after(q[i], s - i);
         let k = at + i * step;
-        done = put_open(plane, keep, cols, stride, k, x, done);
+        done = put_open(plane, kept, k, x, done);
     }
     done
 }
 
-// Both sides of a line: n samples before the edge and w after it, of weights wn and ww, by D limited to ±limit.
+// Both sides of a line, by its D.
 fn line_open(
     plane: &mut [u16],
-    keep: &[u8],
-    cols: usize,
-    stride: usize,
+    kept: Kept,
     l: Line,
     at: usize,
     step: usize,
-    n: usize,
-    w: usize,
-    limit: u32,
-    wn: u32,
-    ww: u32,
-    top: u16,
+    t: Widths,
     sofar: Counts,
 ) -> Counts
-    requires { (1 ≤ stride) × (cols ≤ stride) × (Scales n w limit wn ww) × (Lane at step n w (length plane.old)) × (sofar.stored ≤ 48) × (sofar.changed ≤ 48) }
-    ensures { (Swept (kept_in cols stride keep.now) (line_open top at step n w limit l) (HoldsLine at step n w l) plane.old sofar result plane.new) × Few 16 sofar result }
+    requires { (Lane at step t.n t.w (length plane.old)) × (sofar.stored ≤ 48) × (sofar.changed ≤ 48) }
+    ensures { (Swept (kept_in kept.entry.cols kept.entry.stride kept.entry.keep.now) (line_open t.top at step t.n t.w t.limit l) (HoldsLine at step t.n t.w l) plane.old sofar result plane.new) × Few 16 sofar result }
 {
     let p = l.p;
     let q = l.q;
-    let d = limited(p[1], p[0], q[0], q[1], limit);
-    let bn = weighted(d.size, wn);
-    let bw = weighted(d.size, ww);
-    let done = before_open(
-        plane, keep, cols, stride, p, at, step, n, d.plus, bn, top, sofar,
-    );
-    after_open(
-        plane, keep, cols, stride, q, at, step, w, d.plus, bw, top, done,
-    )
+    let d = limited(p[1], p[0], q[0], q[1], t.limit);
+    let done = before_open(plane, kept, p, at, step, t.n, t.moves_before(d), sofar);
+    after_open(plane, kept, q, at, step, t.w, t.moves_after(d), done)
 }
 
 // The four lines of an edge.
-fn lines_open(
-    plane: &mut [u16],
-    keep: &[u8],
-    cols: usize,
-    stride: usize,
-    lines: [Line; 4],
-    at: usize,
-    step: usize,
-    line: usize,
-    n: usize,
-    w: usize,
-    limit: u32,
-    wn: u32,
-    ww: u32,
-    top: u16,
-) -> Counts
-    requires { (1 ≤ stride) × (cols ≤ stride) × (Scales n w limit wn ww) × (Lanes at step line n w (length plane.old)) }
-    ensures { Swept (kept_in cols stride keep.now) (lines_open top at step line n w limit lines) (HoldsLines at step line n w lines) plane.old none result plane.new }
+fn lines_open(plane: &mut [u16], kept: Kept, lines: [Line; 4], e: Place, t: Widths) -> Counts
+    requires { Lanes e.at e.step e.line t.n t.w (length plane.old) }
+    ensures { Swept (kept_in kept.entry.cols kept.entry.stride kept.entry.keep.now) (lines_open t.top e.at e.step e.line t.n t.w t.limit lines) (HoldsLines e.at e.step e.line t.n t.w lines) plane.old none result plane.new }
 {
     let mut done = Counts {
         stored: 0,
         changed: 0,
     };
     for j in 0..4 {
-        let l = lines[j];
-        done = line_open(
-            plane,
-            keep,
-            cols,
-            stride,
-            l,
-            at + j * line,
-            step,
-            n,
-            w,
-            limit,
-            wn,
-            ww,
-            top,
-            done,
-        );
+        done = line_open(plane, kept, lines[j], e.at + j * e.line, e.step, t, done);
     }
     done
 }
 
 // Filters an edge that is given by offsets and has no threshold of 0, and answers what it came to.
-fn segment_open(
-    plane: &mut [u16],
-    keep: &[u8],
-    cols: usize,
-    stride: usize,
-    e: Place,
-    top: u16,
-) -> Outcome
-    requires { (1 ≤ stride) × (cols ≤ stride) × EdgeFits e (length plane.old) × (off_of e.q e.side ≡ false) }
-    ensures { Filtered top (kept_in cols stride keep.now) e plane.old result plane.new }
+fn segment_open(plane: &mut [u16], kept: Kept, e: Place, top: u16) -> Outcome
+    requires { EdgeFits e (length plane.old) × (off_of e.q e.side ≡ false) }
+    ensures { Filtered top (kept_in kept.entry.cols kept.entry.stride kept.entry.keep.now) e plane.old result plane.new }
 {
     let o = filter_segment(plane, e, top, false);
     let w = o.width;
@@ -197,22 +129,13 @@ fn segment_open(
             changed: 0,
         };
     }
-    let n = least(w, most_before(e.pair));
+    let n = w.min(most_before(e.pair));
     let t = lines_open(
         plane,
-        keep,
-        cols,
-        stride,
+        kept,
         window(plane, e),
-        e.at,
-        e.step,
-        e.line,
-        n,
-        w,
-        limit_of(e.q, w),
-        weight(n),
-        weight(w),
-        top,
+        e,
+        Widths::new(e.q, n, w, top),
     );
     Outcome {
         width: w,
@@ -256,7 +179,7 @@ fn filter_kept(
     if all_open(keep, cols, e) {
         return filter_segment(plane, p, top, true);
     }
-    segment_open(plane, keep, cols, stride, p, top)
+    segment_open(plane, Kept { keep, cols, stride }, p, top)
 }
 
 // Filters an edge of columns by rows samples that lie in rows of stride samples, cols cells in a row; a keep mark for each cell, or an empty list

@@ -6,7 +6,7 @@ ghost use Rattle.segment.specs.Fit.{Room, EdgeFits};
 use lengths::pairs::{reach_after, reach_before};
 use rules::edge::{Line, Place};
 
-// The b samples of a line before the edge, q0 at `at`.
+// The b samples of a line before the edge, q0 at `at`. By offsets: they stand a step apart in the plane, outwards from the edge.
 fn window_before(plane: &[u16], at: usize, step: usize, b: usize) -> [u16; 9]
     requires { (b ≤ 8) × (b * step ≤ at) × (at < length plane.now) }
     ensures { result ≡ before_of plane.now at step b }
@@ -19,7 +19,7 @@ fn window_before(plane: &[u16], at: usize, step: usize, b: usize) -> [u16; 9]
     p
 }
 
-// The a samples of a line after it.
+// The a samples of a line after it. A function for each side: with the side as an argument every clause would have two cases.
 fn window_after(plane: &[u16], at: usize, step: usize, a: usize) -> [u16; 9]
     requires { (a ≤ 8) × (at + (a - 1) * step < length plane.now) }
     ensures { result ≡ after_of plane.now at step a }

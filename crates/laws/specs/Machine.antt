@@ -31,7 +31,7 @@ widened w v t f = rw (to_z-of_z f) (sfits_widen t f)
 pub wide_same : (w v : Width) {z : ℤ} → T (leb (hbits w) (hbits v)) → SFits w z → to_z v (of_z v (to_z w (of_z w z))) ≡ z
 wide_same w v t f = rw (to_z-of_z f) (to_z-of_z (sfits_widen t f))
 
--- a number z that was passed to `split`, and what `split` gave
+-- a number z that was passed to `Gap::from`, and what that gave
 pub split_parts : (w : Width) {z : ℤ} {a b : ℕ} → SFits w z → (a ≡ over (to_z w (of_z w z))) × (b ≡ under (to_z w (of_z w z))) → (a ≡ over z) × (b ≡ under z)
 split_parts w f e = rw (to_z-of_z f) at e
 

@@ -27,7 +27,7 @@ same (negsuc m) (negsuc n) h k e = ap negsuc (omega arith)
 pub self : (z : ℤ) → Is z (over z) (under z)
 self z = record { eq = refl }
 
--- what `split` gives
+-- what `Gap::from` gives
 pub parted : (z : ℤ) {a b : ℕ} → (a ≡ over z) × (b ≡ under z) → Is z a b
 parted z e = record { eq = omega arith }
 

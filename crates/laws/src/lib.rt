@@ -4,8 +4,4 @@
 // Whole numbers as differences of two counts.
 mod whole;
 
-// The smaller and the larger of two.
-mod order;
-
-pub use order::{least, most};
-pub use whole::{Gap, split, split8, split16};
+pub use whole::Gap;

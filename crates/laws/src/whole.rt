@@ -3,39 +3,22 @@ ghost use Rattle.std.specs.Prelude.{◌≡◌};
 ghost use Rattle.laws.specs.Whole.{over, under};
 
 // A whole number, up - down.
-#[derive(Drop)]
+#[derive(Clone, Copy)]
 pub struct Gap {
     pub up: u32,
     pub down: u32,
 }
 
-// What any signed number has above 0 and below it. The lowest has no opposite in 32 bits, so 64 hold it.
-pub fn split(v: i32) -> Gap
-    ensures { (result.up ≡ over v) × (result.down ≡ under v) }
-{
-    let z = v as i64;
-    if z < 0 {
-        Gap {
-            up: 0,
-            down: (0 - z) as u32,
-        }
-    } else {
-        Gap {
-            up: z as u32,
-            down: 0,
+// What a signed number has above 0 and below it.
+impl From<i32> for Gap {
+    ghost from_gives = { λ v gap. (gap.up ≡ over v) × (gap.down ≡ under v) };
+
+    fn from(v: i32) -> Gap {
+        let size = v.unsigned_abs();
+        if v < 0 {
+            Gap { up: 0, down: size }
+        } else {
+            Gap { up: size, down: 0 }
         }
     }
-}
-
-// The same of narrower numbers.
-pub fn split8(v: i8) -> Gap
-    ensures { (result.up ≡ over v) × (result.down ≡ under v) }
-{
-    split(v as i32)
-}
-
-pub fn split16(v: i16) -> Gap
-    ensures { (result.up ≡ over v) × (result.down ≡ under v) }
-{
-    split(v as i32)
 }

@@ -2,7 +2,7 @@
 -- Assumes nothing.
 use mathlib.Core.Path.{◌≡◌, refl, sym}
 use mathlib.Core.Bool.{Bool, true, false}
-use mathlib.Core.List.{List, [], ◌∷◌}
+use mathlib.Core.List.{List}
 use Prim.Native.Nat.{ℕ, ◌%◌, ◌≤◌, ◌<◌}
 use native.Mathlib.Nat.{le_refl}
 use native.Mathlib.Omega.{arith}
@@ -11,10 +11,11 @@ use lib.Dec.{ltb}
 use borrow.Author.Tests.{lt-ltb, le-ltb}
 use Rattle.laws.specs.Choose.{all, is_eq, is_lt, not_lt}
 use Rattle.rules.specs.declared.settings.TuGrid.{TuGrid}
-use Rattle.rules.specs.declared.refusals.Answer.{Answer}
-use Rattle.rules.specs.declared.refusals.Answer.TheVariants.{Accepted, Refused}
-use Rattle.rules.specs.declared.refusals.Found.{Found}
-use Rattle.rules.specs.declared.refusals.Found.TheVariants.{At, Nothing}
+use Rattle.rules.specs.declared.refusals.Refusal.{Refusal}
+use Rattle.rules.specs.Refusals.{Answer}
+use Rattle.std.specs.declared.result.Result.TheVariants.{Ok, Err}
+use Rattle.std.specs.declared.option.Option.{Option}
+use Rattle.std.specs.declared.option.Option.TheVariants.{Some, None}
 use Rattle.rules.specs.Refusals.{first, found_if, found_unless}
 use Rattle.rules.specs.TuGrid.{Marks, fours_ok, leaf_good_at, bad_leaf, leaves_of, tx_grid_check}
 use Rattle.checks.proofs.First.{at_first, at_not_nothing, found_if_holds, found_if_not}
@@ -25,21 +26,21 @@ use Rattle.grid.specs.Stated.{Stated}
 use Rattle.grid.proofs.Painted.{lists_painted}
 use Rattle.grid.proofs.Checked.{check_is as grid-check, after_refused as grid-refused, after_accepted as grid-accepted, all_fit}
 use Rattle.leaves.specs.declared.records.Leaf.{Leaf}
-use Rattle.leaves.specs.Records.{flat, place_or, good_of, refused_of, bad_after, leaves_check}
+use Rattle.leaves.specs.Records.{flat, place_or, good_of, bad_after, leaves_check}
 use Rattle.leaves.proofs.Flat.{flat_length, flat_count}
 
 -- ---- refusal 9
 
 -- one of n leaves is bad, and none
-pub after_bad : (n good : ℕ) → good < n → At good ≡ bad_after n good
+pub after_bad : (n good : ℕ) → good < n → Some good ≡ bad_after n good
 unfolding bad_after
 after_bad n good h = found_if_holds _ good (is_lt good n h)
 
-pub after_good : (n good : ℕ) → n ≤ good → Nothing ≡ bad_after n good
+pub after_good : (n good : ℕ) → n ≤ good → None ≡ bad_after n good
 unfolding bad_after
 after_good n good h = found_if_not _ good (not_lt good n h)
 
-at_same : (t : Bool) (j k : ℕ) → found_unless t j ≡ At k → j ≡ k
+at_same : (t : Bool) (j k : ℕ) → found_unless t j ≡ Some k → j ≡ k
 unfolding found_unless
 at_same true j k e = at_not_nothing (sym e)
 at_same false j k e = cc
@@ -49,12 +50,12 @@ bad_after_holds : (skip : Bool) (ls : List Leaf) → bad_after (length ls) (good
 unfolding bad_after good_of bad_leaf place_or found_if
 bad_after_holds skip ls = rw (flat_count ls) (go (first (length ls) bad) refl)
   where
-    bad : ℕ → Found
+    bad : ℕ → Option ℕ
     bad k = found_unless (leaf_good_at skip (flat ls) k) k
 
-    go : (f : Found) → first (length ls) bad ≡ f → found_if (ltb (place_or f (length ls)) (length ls)) (place_or f (length ls)) ≡ f
-    go (At k) e = let p = at_first bad (length ls) k e in let q = at_same (leaf_good_at skip (flat ls) p.0) p.0 k p.2 in rw (lt-ltb k (length ls) (rw q at p.1))
-    go Nothing e = rw (le-ltb (length ls) (length ls) (le_refl (length ls)))
+    go : (f : Option ℕ) → first (length ls) bad ≡ f → found_if (ltb (place_or f (length ls)) (length ls)) (place_or f (length ls)) ≡ f
+    go (Some k) e = let p = at_first bad (length ls) k e in let q = at_same (leaf_good_at skip (flat ls) p.0) p.0 k p.2 in rw (lt-ltb k (length ls) (rw q at p.1))
+    go None e = rw (le-ltb (length ls) (length ls) (le_refl (length ls)))
 
 -- ---- refusal 3
 
@@ -73,23 +74,15 @@ check_is s ls skips g keep = grid-check s true _ (flat ls) (flat skips) g keep (
 pub started_by : (nine nine' : Answer) {s : TuGrid} {fours : Bool} {g g' : Marks} {k k' : List ℕ} {a : Answer} → nine ≡ nine' → Started s fours nine g k a g' k' → Started s fours nine' g k a g' k'
 started_by nine nine' e p = rw e at p
 
--- what an answer that is no refusal leaves
-pub accepted_is : (a : Answer) → refused_of a ≡ false → a ≡ Accepted
-unfolding refused_of
-accepted_is Accepted e = refl
-accepted_is (Refused r) e = absurd (let z : ◌≡◌ {A = ℕ} 0 1 = cc in omega arith)
-
 -- ---- the entry's ways out, where `start` left the answer a, the lists g1 and the keep marks k1
 
 module _ (s : TuGrid) (nine : Answer) (ls skips : List Leaf) (g g1 : Marks) (k k1 : List ℕ) (same : start_check s true nine g k ≡ tx_grid_check s (flat ls) (flat skips) g k) where
-  pub after_refused : (a : Answer) → refused_of a ≡ true → Started s true nine g k a g1 k1 → Stated s (flat ls) (flat skips) g k a g1 k1
-  unfolding refused_of
-  after_refused Accepted f p = absurd (let z : ◌≡◌ {A = ℕ} 0 1 = cc in omega arith)
-  after_refused (Refused r) f p = grid-refused (flat ls) (flat skips) same p refl
+  pub after_refused : {r : Refusal} → Started s true nine g k (Err r) g1 k1 → Stated s (flat ls) (flat skips) g k (Err r) g1 k1
+  after_refused p = grid-refused (flat ls) (flat skips) same p refl
 
-  module _ (a : Answer) (acc : a ≡ Accepted) (p : Started s true nine g k a g1 k1) where
+  module _ (p : Started s true nine g k (Ok tt) g1 k1) where
     pub all_accepted : GridFits s (length g.vedge) (length g.hedge) (length g.sqw) (length g.sqh) × Cut s × AllGood (flat ls) × AllGood (flat skips)
-    all_accepted = all_fit (flat ls) (flat skips) same p acc
+    all_accepted = all_fit (flat ls) (flat skips) same p refl
 
-    pub after_accepted : (g2 : Marks) {g3 : Marks} → g2 ≡ leaves_of s false (flat ls) g1 → g3 ≡ leaves_of s true (flat skips) g2 → Stated s (flat ls) (flat skips) g k a g3 k1
-    after_accepted g2 b c = rw acc (grid-accepted (flat ls) (flat skips) same p acc (lists_painted s (flat ls) (flat skips) g1 g2 b c))
+    pub after_accepted : (g2 : Marks) {g3 : Marks} → g2 ≡ leaves_of s false (flat ls) g1 → g3 ≡ leaves_of s true (flat skips) g2 → Stated s (flat ls) (flat skips) g k (Ok tt) g3 k1
+    after_accepted g2 b c = grid-accepted (flat ls) (flat skips) same p refl (lists_painted s (flat ls) (flat skips) g1 g2 b c)

@@ -4,13 +4,12 @@ use mathlib.Core.Path.{◌≡◌, refl, sym, ap, ◌∙◌}
 use mathlib.Core.Bool.{Bool, true, false}
 use mathlib.Core.List.{List, [], ◌∷◌}
 use Prim.Native.Nat.{ℕ, zero, suc, ◌+◌, ◌*◌, ◌/◌, ◌≤◌, ◌<◌}
-use native.Mathlib.Nat.{le_antisymm}
 use native.Mathlib.Omega.{arith}
 use lib.ListN.{length, get_or}
 use Rattle.laws.specs.Loops.{turns, turns_more, turns_end}
 use Rattle.rules.specs.declared.settings.TuGrid.{TuGrid}
-use Rattle.rules.specs.declared.refusals.Found.{Found}
-use Rattle.rules.specs.declared.refusals.Found.TheVariants.{At, Nothing}
+use Rattle.std.specs.declared.option.Option.{Option}
+use Rattle.std.specs.declared.option.Option.TheVariants.{None}
 use Rattle.rules.specs.Refusals.{first, found_unless}
 use Rattle.rules.specs.TuGrid.{Marks, tile_of, paint_of, leaf_of, leaves_of, leaf_good, leaf_good_at, bad_leaf}
 use Rattle.checks.proofs.First.{first_more, first_found, first_end, found_unless_holds, found_unless_not}
@@ -90,12 +89,12 @@ module _ (s : TuGrid) (skip : Bool) (ls : List Leaf) (g₀ : Marks) where
 -- ---- looking for a bad one
 
 module _ (skip : Bool) (ls : List Leaf) where
-  abbrev bad : ℕ → Found
+  abbrev bad : ℕ → Option ℕ
   bad k = found_unless (leaf_good_at skip (flat ls) k) k
 
   -- none of the first i is bad
   abbrev pub Sound : ℕ → Type 0
-  Sound i = first i bad ≡ Nothing
+  Sound i = first i bad ≡ None
 
   abbrev pub good_at : ℕ → Bool
   good_at i = leaf_good skip (get_or ls i none).row (get_or ls i none).col (get_or ls i none).w (get_or ls i none).h
@@ -107,6 +106,6 @@ module _ (skip : Bool) (ls : List Leaf) where
   unfolding good_of bad_leaf place_or
   good_stop i p e l = rw (flat_count ls, ← first_found bad i (length ls) p (found_unless_holds _ i (sym (flat_good skip ls i ∙ e))) l)
 
-  pub good_end : (i : ℕ) → Sound i → i ≤ length ls → length ls ≤ i → i ≡ good_of skip ls
+  pub good_end : (i : ℕ) → Sound i → i ≤ length ls → length ls ≤ i → length ls ≡ good_of skip ls
   unfolding good_of bad_leaf place_or
-  good_end i p a b = rw (flat_count ls, ← first_end bad i (length ls) p a b) (le_antisymm a b)
+  good_end i p a b = rw (flat_count ls, ← first_end bad i (length ls) p a b)

@@ -2,5 +2,4 @@
 pub mod Flat
 pub mod Entry
 pub mod Unique
-pub mod While
 pub mod Exactly

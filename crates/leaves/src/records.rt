@@ -23,16 +23,12 @@ pub struct Leaf {
 pub fn good_leaves(ls: &[Leaf], skip: bool) -> usize
     ensures { result ≡ good_of skip ls.now }
 {
-    let mut i: usize = 0;
-    while i < ls.len() {
-        let l = ls[i];
-        if leaf_good(skip, l.row, l.col, l.w, l.h) {
-            i += 1;
-        } else {
+    for (i, leaf) in ls.iter().enumerate() {
+        if !leaf_good(skip, leaf.row, leaf.col, leaf.w, leaf.h) {
             return i;
         }
     }
-    i
+    ls.len()
 }
 
 // The leaves of a list, later ones over earlier ones.
@@ -48,10 +44,9 @@ pub fn paint_leaves(
     requires { GridFits s (length vedge.old) (length hedge.old) (length sqw.old) (length sqh.old) × Cut s × AllGood (flat ls.now) }
     ensures { marks vedge.new hedge.new sqw.new sqh.new ≡ leaves_of s skip (flat ls.now) (marks vedge.old hedge.old sqw.old sqh.old) }
 {
-    let mut i: usize = 0;
-    while i < ls.len() {
-        let l = ls[i];
-        paint_leaf(vedge, hedge, sqw, sqh, s, skip, l.row, l.col, l.w, l.h);
-        i += 1;
+    for leaf in ls {
+        paint_leaf(
+            vedge, hedge, sqw, sqh, s, skip, leaf.row, leaf.col, leaf.w, leaf.h,
+        );
     }
 }

@@ -2,31 +2,22 @@
 ghost use Rattle.std.specs.Prelude.{◌≡◌, true};
 ghost use Rattle.rules.specs.TuGrid.{marks};
 ghost use Rattle.grid.specs.Start.{Started};
-ghost use Rattle.leaves.specs.Records.{refused_of, leaves_check};
+ghost use Rattle.leaves.specs.Records.{leaves_check};
 
-use rules::refusals::{Answer, Refusal};
+use rules::refusals::Refusal;
 use rules::settings::TuGrid;
 
-pub fn refused(a: Answer) -> bool
-    ensures { result ≡ refused_of a }
-{
-    match a {
-        Answer::Accepted => false,
-        Answer::Refused(_) => true,
-    }
-}
-
 // Refusal 9 of n leaves, and then of m skip leaves, by how many good ones each list starts with.
-fn leaves_ok(n: usize, good: usize, m: usize, sound: usize) -> Answer
+fn leaves_ok(n: usize, good: usize, m: usize, sound: usize) -> Result<(), Refusal>
     ensures { result ≡ leaves_check n good m sound }
 {
     if good < n {
-        return Answer::Refused(Refusal::Leaf(good));
+        return Err(Refusal::Leaf(good));
     }
     if sound < m {
-        return Answer::Refused(Refusal::Leaf(sound));
+        return Err(Refusal::Leaf(sound));
     }
-    Answer::Accepted
+    Ok(())
 }
 
 // The checks, of which no list of records is cut short, and where they accept four lists and keep marks that start at 0.
@@ -41,7 +32,7 @@ pub fn start(
     good: usize,
     m: usize,
     sound: usize,
-) -> Answer
+) -> Result<(), Refusal>
     ensures { Started s true (leaves_check n good m sound) (marks vedge.old hedge.old sqw.old sqh.old) keep.old
         result (marks vedge.new hedge.new sqw.new sqh.new) keep.new }
 {

@@ -4,8 +4,8 @@ ghost use Rattle.grid.specs.Stated.{Stated};
 ghost use Rattle.leaves.specs.Records.{flat};
 
 use super::records::{Leaf, good_leaves, paint_leaves};
-use super::start::{refused, start};
-use rules::refusals::Answer;
+use super::start::start;
+use rules::refusals::Refusal;
 use rules::settings::TuGrid;
 
 // The TU grid of any settings and lists, with no cell kept, or why there is none.
@@ -18,13 +18,13 @@ pub fn build_tx_grid(
     sqh: &mut [u8],
     keep: &mut [u8],
     s: TuGrid,
-) -> Answer
+) -> Result<(), Refusal>
     ensures { Stated s (flat ls.now) (flat skips.now) (marks vedge.old hedge.old sqw.old sqh.old) keep.old
         result (marks vedge.new hedge.new sqw.new sqh.new) keep.new }
 {
     let good = good_leaves(ls, false);
     let sound = good_leaves(skips, true);
-    let a = start(
+    start(
         vedge,
         hedge,
         sqw,
@@ -35,11 +35,8 @@ pub fn build_tx_grid(
         good,
         skips.len(),
         sound,
-    );
-    if refused(a) {
-        return a;
-    }
+    )?;
     paint_leaves(vedge, hedge, sqw, sqh, ls, s, false);
     paint_leaves(vedge, hedge, sqw, sqh, skips, s, true);
-    a
+    Ok(())
 }

@@ -7,29 +7,16 @@ pub fn filter_lengths(m: usize, chroma: bool, shortened: bool) -> usize
     requires { m ≤ 6 }
     ensures { result ≡ pair_of m chroma shortened }
 {
-    match m {
-        0 => 0,
-        1 => {
-            if chroma {
-                if shortened { 6 } else { 1 }
-            } else {
-                1
-            }
-        }
-        2 => {
-            if chroma {
-                if shortened { 7 } else { 5 }
-            } else {
-                2
-            }
-        }
-        3..=6 => {
-            if chroma {
-                if shortened { 7 } else { 5 }
-            } else {
-                if shortened { 4 } else { 3 }
-            }
-        }
-        _ => 0,
+    match (m, chroma, shortened) {
+        (0, _, _) => 0,
+        (1, true, true) => 6,
+        (1, _, _) => 1,
+        (2, true, true) => 7,
+        (2, true, false) => 5,
+        (2, false, _) => 2,
+        (_, true, true) => 7,
+        (_, true, false) => 5,
+        (_, false, true) => 4,
+        (_, false, false) => 3,
     }
 }

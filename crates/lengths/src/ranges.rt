@@ -7,14 +7,5 @@ use rules::edge::Edge;
 pub fn ranges_ok(e: Edge) -> bool
     ensures { result ≡ ranges_ok e }
 {
-    if 2048 < e.q {
-        return false;
-    }
-    if 839 < e.side {
-        return false;
-    }
-    if 7 < e.pair {
-        return false;
-    }
-    e.dir <= 1
+    e.q <= 2048 && e.side <= 839 && e.pair <= 7 && e.dir <= 1
 }

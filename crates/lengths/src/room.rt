@@ -10,13 +10,7 @@ fn room_along(columns: usize, rows: usize, x: usize, y: usize, b: usize, a: usiz
     requires { (x ≤ 65535) × (y ≤ 65535) × (a ≤ 8) }
     ensures { result ≡ room_along true columns rows x y b a }
 {
-    if x < b {
-        return false;
-    }
-    if columns < x + a {
-        return false;
-    }
-    y + 4 <= rows
+    b <= x && x + a <= columns && y + 4 <= rows
 }
 
 pub fn has_room(columns: usize, rows: usize, e: Edge) -> bool

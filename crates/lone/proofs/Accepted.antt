@@ -12,11 +12,10 @@ use Rattle.laws.specs.Choose.{all_parts, is_le, told_yes_not}
 use Rattle.rules.specs.declared.edge.Edge.{Edge}
 use Rattle.rules.specs.declared.settings.Lone.{Lone}
 use Rattle.rules.specs.declared.refusals.Refusal.{Refusal}
-use Rattle.rules.specs.declared.refusals.Answer.{Answer}
-use Rattle.rules.specs.declared.refusals.Answer.TheVariants.{Accepted, Refused}
-use Rattle.rules.specs.declared.refusals.Width.TheVariants.{Samples, Refused as «NoWidth»}
-use Rattle.rules.specs.declared.refusals.Found.{Found}
-use Rattle.rules.specs.declared.refusals.Found.TheVariants.{Nothing}
+use Rattle.rules.specs.Refusals.{Answer}
+use Rattle.std.specs.declared.result.Result.TheVariants.{Ok, Err}
+use Rattle.std.specs.declared.option.Option.{Option}
+use Rattle.std.specs.declared.option.Option.TheVariants.{None}
 use Rattle.rules.specs.declared.refusals.Refusal.TheVariants.{Setting, Room, Sample}
 use Rattle.rules.specs.Numbers.{depth_ok, top_of}
 use Rattle.rules.specs.Refusals.{or_else, unless, found, over_box}
@@ -99,11 +98,11 @@ module _ {stride columns rows size : ℕ} {e : Edge} (h : InPlane stride columns
       let o = mul-le-mul_right stride n in
       (omega arith, omega arith, omega (arith, add-mul (e.y - b) 1 stride), box_inner e.x (e.y - b) (omega arith) (omega arith))
 
-  pub over_upright : (top : ℕ) (l : List ℕ) {r : Found} → e.dir ≡ 0 → r ≡ over_box top l (e.y * stride + (e.x - b)) stride (b + a) 4 → r ≡ over_edge top stride e l
+  pub over_upright : (top : ℕ) (l : List ℕ) {r : Option ℕ} → e.dir ≡ 0 → r ≡ over_box top l (e.y * stride + (e.x - b)) stride (b + a) 4 → r ≡ over_edge top stride e l
   unfolding over_edge
   over_upright top l d q = rw (eq-eqb _ _ d, ← hb, ← ha) q
 
-  pub over_level : (top : ℕ) (l : List ℕ) {r : Found} → (e.dir ≡ 0 → ⊥) → r ≡ over_box top l ((e.y - b) * stride + e.x) stride 4 (b + a) → r ≡ over_edge top stride e l
+  pub over_level : (top : ℕ) (l : List ℕ) {r : Option ℕ} → (e.dir ≡ 0 → ⊥) → r ≡ over_box top l ((e.y - b) * stride + e.x) stride 4 (b + a) → r ≡ over_edge top stride e l
   unfolding over_edge
   over_level top l d q = rw (ne_eqb _ _ d, ← hb, ← ha) q
 
@@ -112,7 +111,7 @@ pub record Passed (s : Lone) (l : List ℕ) : Type 0 where
   pub depth_ok : depth_ok s.depth ≡ true
   pub dir_most : s.dir ≤ 1
   pub inside : InPlane s.stride s.columns s.rows (edge_of s) (length l)
-  pub clean : over_edge (top_of s.depth) s.stride (edge_of s) l ≡ Nothing
+  pub clean : over_edge (top_of s.depth) s.stride (edge_of s) l ≡ None
 
 ranges_of : (s : Lone) → settings_ok s ≡ true → ranges_ok (edge_of s) ≡ true
 unfolding settings_ok
@@ -122,7 +121,7 @@ dir_of : (s : Lone) → settings_ok s ≡ true → s.dir ≤ 1
 unfolding edge_of
 dir_of s h = (ranges_are (edge_of s) (ranges_of s h)).dir_most
 
-pub passed : (s : Lone) (l : List ℕ) → lone_check s l ≡ Accepted → Passed s l
+pub passed : (s : Lone) (l : List ℕ) → lone_check s l ≡ Ok tt → Passed s l
 unfolding lone_check
 passed s l h =
     let a = else_parts _ _ h in
@@ -142,14 +141,14 @@ passed s l h =
     }
 
 module _ (s : Lone) (l : List ℕ) (a : Answer) (h : a ≡ lone_check s l) where
-  pub depth_passed : a ≡ Accepted → depth_ok s.depth ≡ true
+  pub depth_passed : a ≡ Ok tt → depth_ok s.depth ≡ true
   depth_passed e = (passed s l (sym h ∙ e)).depth_ok
 
-  pub plane_passed : {e : Edge} → a ≡ Accepted → e ≡ edge_of s → InPlane s.stride s.columns s.rows e (length l)
+  pub plane_passed : {e : Edge} → a ≡ Ok tt → e ≡ edge_of s → InPlane s.stride s.columns s.rows e (length l)
   plane_passed e q = rw q (passed s l (sym h ∙ e)).inside
 
   -- "A refusal reports zero for both."
-  pub lone_refused : {r : Refusal} → a ≡ Refused r → Stated s l record { width = «NoWidth» r; stored = 0; changed = 0 } l
+  pub lone_refused : {r : Refusal} → a ≡ Err r → Stated s l (Err r) l
   unfolding lone_width answer_width lone_plane lone_stored lone_changed
   lone_refused e = record {
     width = rw (← h, e);
@@ -158,8 +157,8 @@ module _ (s : Lone) (l : List ℕ) (a : Answer) (h : a ≡ lone_check s l) where
     plane = settle_refused_by (lone_check s l) a l _ h e;
   }
 
-  pub lone_accepted : {e : Edge} {top : ℕ} {o : Outcome} {m : List ℕ} → a ≡ Accepted → e ≡ edge_of s → top ≡ top_of s.depth → EdgeFiltered top s.stride none_kept e l o m
-      → Stated s l record { width = Samples o.width; stored = o.stored; changed = o.changed } m
+  pub lone_accepted : {e : Edge} {top : ℕ} {o : Outcome} {m : List ℕ} → a ≡ Ok tt → e ≡ edge_of s → top ≡ top_of s.depth → EdgeFiltered top s.stride none_kept e l o m
+      → Stated s l (Ok (record { width = o.width; stored = o.stored; changed = o.changed })) m
   unfolding lone_width answer_width lone_plane lone_stored lone_changed
   lone_accepted {e} {top} {o} {m} q he ht f =
       let w : o.width ≡ width_at s.stride (edge_of s) l = cc f.width in
@@ -167,7 +166,7 @@ module _ (s : Lone) (l : List ℕ) (a : Answer) (h : a ≡ lone_check s l) where
       let d : o.changed ≡ changed_at (top_of s.depth) s.stride none_kept (edge_of s) l = cc f.changed in
       let k : m ≡ segment_of (top_of s.depth) s.stride none_kept (edge_of s) l = cc f.plane in
       record {
-        width = rw (← h, q) (ap Samples w);
+        width = rw (← h, q) (ap Ok w);
         stored = settle_accepted_by (lone_check s l) a 0 _ _ h q t;
         changed = settle_accepted_by (lone_check s l) a 0 _ _ h q d;
         plane = settle_accepted_by (lone_check s l) a l _ m h q k;
@@ -184,10 +183,10 @@ module _ (s : Lone) (l : List ℕ) {e : Edge} (d : true ≡ depth_ok s.depth) (z
   unfolding lone_check settings_ok
   later h = go_on _ _ _ (unless_good _ _ d) (go_on _ _ _ (unless_good _ _ z) (go_on _ _ _ (unless_good _ _ (is_le _ _ p)) (rw q at h)))
 
-  pub ranges_refused : false ≡ ranges_ok e → Refused Setting ≡ lone_check s l
+  pub ranges_refused : false ≡ ranges_ok e → Err Setting ≡ lone_check s l
   ranges_refused h = later (stop _ _ (unless_bad _ _ h))
 
-  pub room_refused : true ≡ ranges_ok e → false ≡ has_room s.columns s.rows e → Refused (Room 0) ≡ lone_check s l
+  pub room_refused : true ≡ ranges_ok e → false ≡ has_room s.columns s.rows e → Err (Room 0) ≡ lone_check s l
   room_refused t h = later (go_on _ _ _ (unless_good _ _ t) (stop _ _ (unless_bad _ _ h)))
 
   pub room_passed : {top : ℕ} {a : Answer} → true ≡ ranges_ok e → true ≡ has_room s.columns s.rows e → top ≡ top_of s.depth → a ≡ found (over_edge top s.stride e l) Sample → a ≡ lone_check s l

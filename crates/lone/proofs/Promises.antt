@@ -12,11 +12,12 @@ use Rattle.rules.specs.declared.edge.Edge.{Edge}
 use Rattle.rules.specs.declared.edge.Place.{Place}
 use Rattle.rules.specs.declared.edge.Line.{Line}
 use Rattle.rules.specs.declared.settings.Lone.{Lone}
-use Rattle.rules.specs.declared.refusals.Answer.{Answer}
-use Rattle.rules.specs.declared.refusals.Answer.TheVariants.{Accepted, Refused}
+use Rattle.rules.specs.Refusals.{Answer}
+use Rattle.std.specs.declared.result.Result.TheVariants.{Ok, Err}
 use Rattle.rules.specs.declared.refusals.Refusal.{Refusal}
-use Rattle.rules.specs.declared.refusals.Width.{Width}
-use Rattle.rules.specs.declared.refusals.LoneAnswer.{LoneAnswer}
+use Rattle.std.specs.declared.result.Result.{Result}
+use Rattle.rules.specs.declared.refusals.Refusal.{Refusal}
+use Rattle.rules.specs.declared.refusals.Filtered.{Filtered}
 use Rattle.rules.specs.Numbers.{top_of}
 use Rattle.rules.specs.Refusals.{settle}
 use Rattle.rules.specs.Lengths.{reach_before, reach_after}
@@ -30,19 +31,19 @@ use Rattle.segment.proofs.Edges.{fit_of}
 use Rattle.segment.proofs.Window.{window_agree}
 use Rattle.segment.proofs.Demand.{demand_3, edge_kept, edge_most, edge_length}
 use Rattle.segment.proofs.Counts.{stored_is, stored_most, changed_most}
-use Rattle.lone.specs.Stated.{Stated}
+use Rattle.lone.specs.Stated.{width_in, stored_in, changed_in, Stated}
 use Rattle.lone.proofs.Accepted.{passed}
 
 -- ---- the plane afterwards
-lone_new : (s : Lone) (l : List ℕ) → lone_check s l ≡ Accepted → lone_plane s l ≡ segment_of (top_of s.depth) s.stride none_kept (edge_of s) l
+lone_new : (s : Lone) (l : List ℕ) → lone_check s l ≡ Ok tt → lone_plane s l ≡ segment_of (top_of s.depth) s.stride none_kept (edge_of s) l
 unfolding lone_plane settle
 lone_new s l h = rw h
 
-lone_width_holds : (s : Lone) (l : List ℕ) → lone_check s l ≡ Accepted → lone_width s l ≡ answer_width Accepted (width_at s.stride (edge_of s) l)
+lone_width_holds : (s : Lone) (l : List ℕ) → lone_check s l ≡ Ok tt → lone_width s l ≡ answer_width (Ok tt) (width_at s.stride (edge_of s) l)
 unfolding lone_width
 lone_width_holds s l h = rw h
 
-module _ (s : Lone) (l : List ℕ) (h : lone_check s l ≡ Accepted) where
+module _ (s : Lone) (l : List ℕ) (h : lone_check s l ≡ Ok tt) where
   pub lone_demand_3 : Demand3 (top_of s.depth) s.stride none_kept (edge_of s) l (lone_plane s l)
   lone_demand_3 = rw (lone_new s l h) (demand_3 (top_of s.depth) s.stride none_kept (edge_of s) l (passed s l h).inside)
 
@@ -55,16 +56,16 @@ unfolding lone_plane settle
 lone_most s l i b = go (lone_check s l)
   where
     go : (a : Answer) → get_or (settle a l (segment_of (top_of s.depth) s.stride none_kept (edge_of s) l)) i 0 ≤ top_of s.depth
-    go Accepted = edge_most (top_of s.depth) s.stride none_kept (edge_of s) l i b
-    go (Refused r) = b
+    go (Ok tt) = edge_most (top_of s.depth) s.stride none_kept (edge_of s) l i b
+    go (Err r) = b
 
 pub lone_length : (s : Lone) (l : List ℕ) → length (lone_plane s l) ≡ length l
 unfolding lone_plane settle
 lone_length s l = go (lone_check s l)
   where
     go : (a : Answer) → length (settle a l (segment_of (top_of s.depth) s.stride none_kept (edge_of s) l)) ≡ length l
-    go Accepted = edge_length (top_of s.depth) s.stride none_kept (edge_of s) l
-    go (Refused r) = refl
+    go (Ok tt) = edge_length (top_of s.depth) s.stride none_kept (edge_of s) l
+    go (Err r) = refl
 
 -- ---- "Two accepted lone segments with the same settings, whose planes are equal within an edge's reach on its four lines, get equal new samples there.";
 -- ticket 7: "01's claim on two lone segments asks equal marks too where a segment takes any", and none takes any
@@ -87,10 +88,10 @@ module _ (g : Place) {size : ℕ} (fit : EdgeFits g size) where
   q_reached : (j k : ℕ) → j < 4 → k < reach_after g.pair → q_place g j k < size
   q_reached j k hj hk = let r = fit.room in omega (arith, after_in k (reach_after g.pair) g.step hk, line_in j g.line hj)
 
-module _ (s : Lone) (l m : List ℕ) (hl : lone_check s l ≡ Accepted) (hm : lone_check s m ≡ Accepted) (h : AlikeInReach (edge_place s.stride (edge_of s)) l m) where
+module _ (s : Lone) (l m : List ℕ) (hl : lone_check s l ≡ Ok tt) (hm : lone_check s m ≡ Ok tt) (h : AlikeInReach (edge_place s.stride (edge_of s)) l m) where
   pub lone_same_width : lone_width s l ≡ lone_width s m
   lone_same_width =
-      lone_width_holds s l hl ∙ ap (λ (w : ℕ). answer_width Accepted w) (same_width (top_of s.depth) s.stride (edge_of s) l m h) ∙ sym (lone_width_holds s m hm)
+      lone_width_holds s l hl ∙ ap (λ (w : ℕ). answer_width (Ok tt) w) (same_width (top_of s.depth) s.stride (edge_of s) l m h) ∙ sym (lone_width_holds s m hm)
 
   lone_same : (i : ℕ) → i < length l → i < length m → get_or l i 0 ≡ get_or m i 0 → get_or (lone_plane s l) i 0 ≡ get_or (lone_plane s m) i 0
   lone_same i bl bm eq = rw (lone_new s l hl, lone_new s m hm) (same_sample (top_of s.depth) s.stride (edge_of s) l m h i bl bm eq)
@@ -106,18 +107,20 @@ module _ (s : Lone) (l m : List ℕ) (hl : lone_check s l ≡ Accepted) (hm : lo
       }
 
 -- ---- two results that the entry's statement allows are equal
-pub lone_unique : (s : Lone) (l : List ℕ) {r t : LoneAnswer} {m n : List ℕ} → Stated s l r m → Stated s l t n → (r ≡ t) × (m ≡ n)
-lone_unique s l {r} {t} a b =
-    let w : r.width ≡ t.width = a.width ∙ sym b.width in
-    let st : r.stored ≡ t.stored = a.stored ∙ sym b.stored in
-    let ch : r.changed ≡ t.changed = a.changed ∙ sym b.changed in (
-      ap (λ (x : Width). record { width = x; stored = r.stored; changed = r.changed }) w
-          ∙ ap₂ (λ (x y : ℕ). record { width = t.width; stored = x; changed = y }) st ch,
-      a.plane ∙ sym b.plane,
-    )
+same_filtered : (r t : Result Filtered Refusal) → width_in r ≡ width_in t → stored_in r ≡ stored_in t → changed_in r ≡ changed_in t → r ≡ t
+same_filtered (Ok f) (Ok g) w s c =
+    let k : f.width ≡ g.width = cc in
+    ap (λ (x : ℕ). Ok (record { width = x; stored = f.stored; changed = f.changed })) k
+    ∙ ap₂ (λ (x y : ℕ). Ok (record { width = g.width; stored = x; changed = y })) s c
+same_filtered (Ok f) (Err r) w s c = absurd (let z : ◌≡◌ {A = ℕ} 0 1 = cc in omega arith)
+same_filtered (Err r) (Ok g) w s c = absurd (let z : ◌≡◌ {A = ℕ} 0 1 = cc in omega arith)
+same_filtered (Err r) (Err t) w s c = cc
+
+pub lone_unique : (s : Lone) (l : List ℕ) {r t : Result Filtered Refusal} {m n : List ℕ} → Stated s l r m → Stated s l t n → (r ≡ t) × (m ≡ n)
+lone_unique s l {r} {t} a b = (same_filtered r t (a.width ∙ sym b.width) (a.stored ∙ sym b.stored) (a.changed ∙ sym b.changed), a.plane ∙ sym b.plane)
 
 -- ---- document 02, ticket 4: stored is 4(n+w), 0 where no sample after the edge is filtered, at most 64; and changed is never more
-module _ (s : Lone) (l : List ℕ) (h : lone_check s l ≡ Accepted) where
+module _ (s : Lone) (l : List ℕ) (h : lone_check s l ≡ Ok tt) where
   lone_counts : (lone_stored s l ≡ stored_at (top_of s.depth) s.stride none_kept (edge_of s) l) × (lone_changed s l ≡ changed_at (top_of s.depth) s.stride none_kept (edge_of s) l)
   unfolding lone_stored lone_changed settle
   lone_counts = (rw h, rw h)
@@ -134,9 +137,9 @@ unfolding lone_stored lone_changed settle
 lone_changed_most s l = go (lone_check s l)
   where
     go : (a : Answer) → settle a 0 (changed_at (top_of s.depth) s.stride none_kept (edge_of s) l) ≤ settle a 0 (stored_at (top_of s.depth) s.stride none_kept (edge_of s) l)
-    go Accepted = changed_most (top_of s.depth) s.stride none_kept (edge_of s) l
-    go (Refused r) = omega arith
+    go (Ok tt) = changed_most (top_of s.depth) s.stride none_kept (edge_of s) l
+    go (Err r) = omega arith
 
-pub lone_refused_none : (s : Lone) (l : List ℕ) {r : Refusal} → lone_check s l ≡ Refused r → (lone_stored s l ≡ 0) × (lone_changed s l ≡ 0)
+pub lone_refused_none : (s : Lone) (l : List ℕ) {r : Refusal} → lone_check s l ≡ Err r → (lone_stored s l ≡ 0) × (lone_changed s l ≡ 0)
 unfolding lone_stored lone_changed settle
 lone_refused_none s l h = (rw h, rw h)

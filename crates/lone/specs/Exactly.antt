@@ -2,10 +2,6 @@
 -- Assumes nothing.
 use Rattle.std.specs.Prelude.{List, [], ◌∷◌, ℕ, ◌*◌, leb, length}
 use Rattle.rules.specs.declared.settings.Lone.{Lone}
-use Rattle.rules.specs.declared.refusals.Answer.{Answer}
-use Rattle.rules.specs.declared.refusals.Answer.TheVariants.{Accepted, Refused}
-use Rattle.rules.specs.declared.refusals.Width.{Width}
-use Rattle.rules.specs.declared.refusals.Width.TheVariants.{Samples, Refused as «NoWidth»}
 use Rattle.rules.specs.Numbers.{depth_ok, top_of}
 use Rattle.rules.specs.Segment.{has_room}
 use Rattle.rules.specs.Lone.{edge_of, sizes_ok, settings_ok, over_edge}
@@ -20,8 +16,3 @@ tests s l =
     ∷ check 7 (ask (has_room s.columns s.rows (edge_of s)))
     ∷ check 8 (seek (over_edge (top_of s.depth) s.stride (edge_of s) l))
     ∷ []
-
--- whether there is a width, and if not why
-abbrev pub answered : Width → Answer
-answered (Samples w) = Accepted
-answered («NoWidth» r) = Refused r

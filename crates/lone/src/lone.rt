@@ -12,7 +12,7 @@ use lengths::ranges::ranges_ok;
 use lengths::room::has_room;
 use rules::depth::Depth;
 use rules::edge::Edge;
-use rules::refusals::{Answer, Found, LoneAnswer, Refusal, Width};
+use rules::refusals::{Filtered, Refusal};
 use rules::settings::Lone;
 use segment::filter_edge;
 
@@ -42,7 +42,14 @@ fn edge_of(s: Lone) -> Edge
 }
 
 // The first sample over top within the reach on the four lines, row by row over the plane.
-fn over_edge(plane: &[u16], stride: usize, columns: usize, rows: usize, e: Edge, top: u16) -> Found
+fn over_edge(
+    plane: &[u16],
+    stride: usize,
+    columns: usize,
+    rows: usize,
+    e: Edge,
+    top: u16,
+) -> Option<usize>
     requires { InPlane stride columns rows e (length plane.now) }
     ensures { result ≡ over_edge top stride e plane.now }
 {
@@ -62,35 +69,35 @@ fn over_check(
     rows: usize,
     e: Edge,
     top: u16,
-) -> Answer
+) -> Result<(), Refusal>
     requires { InPlane stride columns rows e (length plane.now) }
     ensures { result ≡ found (over_edge top stride e plane.now) Sample }
 {
     let f = over_edge(plane, stride, columns, rows, e, top);
     match f {
-        Found::At(k) => Answer::Refused(Refusal::Sample(k)),
-        Found::Nothing => Answer::Accepted,
+        Some(k) => Err(Refusal::Sample(k)),
+        None => Ok(()),
     }
 }
 
-fn lone_check(plane: &[u16], s: Lone) -> Answer
+fn lone_check(plane: &[u16], s: Lone) -> Result<(), Refusal>
     ensures { result ≡ lone_check s plane.now }
 {
     if !Depth::is(s.depth) {
-        return Answer::Refused(Refusal::Depth);
+        return Err(Refusal::Depth);
     }
     if !sizes_ok(s) {
-        return Answer::Refused(Refusal::Size);
+        return Err(Refusal::Size);
     }
     if plane.len() < s.rows * s.stride {
-        return Answer::Refused(Refusal::Length);
+        return Err(Refusal::Length);
     }
     let e = edge_of(s);
     if !ranges_ok(e) {
-        return Answer::Refused(Refusal::Setting);
+        return Err(Refusal::Setting);
     }
     if !has_room(s.columns, s.rows, e) {
-        return Answer::Refused(Refusal::Room(0));
+        return Err(Refusal::Room(0));
     }
     let d = Depth { bits: s.depth };
     over_check(plane, s.stride, s.columns, s.rows, e, d.top())
@@ -98,24 +105,15 @@ fn lone_check(plane: &[u16], s: Lone) -> Answer
 
 // Filters one edge of a plane, and answers how many samples after it were filtered, or why not, and how many were stored and changed; a
 // refusal leaves the plane as it was and counts none.
-pub fn filter_lone(plane: &mut [u16], s: Lone) -> LoneAnswer
+pub fn filter_lone(plane: &mut [u16], s: Lone) -> Result<Filtered, Refusal>
     ensures { Stated s plane.old result plane.new }
 {
-    let a = lone_check(plane, s);
-    match a {
-        Answer::Refused(r) => LoneAnswer {
-            width: Width::Refused(r),
-            stored: 0,
-            changed: 0,
-        },
-        Answer::Accepted => {
-            let d = Depth { bits: s.depth };
-            let o = filter_edge(plane, s.stride, s.columns, s.rows, edge_of(s), d.top());
-            LoneAnswer {
-                width: Width::Samples(o.width),
-                stored: o.stored,
-                changed: o.changed,
-            }
-        }
-    }
+    lone_check(plane, s)?;
+    let d = Depth { bits: s.depth };
+    let o = filter_edge(plane, s.stride, s.columns, s.rows, edge_of(s), d.top());
+    Ok(Filtered {
+        width: o.width,
+        stored: o.stored,
+        changed: o.changed,
+    })
 }

@@ -4,7 +4,7 @@ use mathlib.Core.Path.{◌≡◌, sym, ap, ◌∙◌}
 use mathlib.Core.List.{List, [], ◌∷◌}
 use Prim.Native.Nat.{ℕ, ◌+◌, ◌≤◌, ◌<◌}
 use native.Mathlib.Omega.{arith}
-use lib.ListN.{length, get_or, set}
+use lib.ListN.{length, set}
 use lib.Seq.{ext_get_or}
 use Rattle.laws.specs.Loops.{each, filled, filled_length, filled_at, filled_more, filled_end, singles_length}
 use Rattle.laws.proofs.Loops.{loops, singles_at}

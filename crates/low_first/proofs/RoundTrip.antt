@@ -2,12 +2,13 @@
 -- Assumes nothing.
 use mathlib.Core.Path.{◌≡◌, refl, sym, ap, ap₂, ◌∙◌}
 use mathlib.Core.List.{List, [], ◌∷◌, ◌++◌, append_assoc, append-nil}
-use Prim.Native.Nat.{ℕ, zero, suc, ◌+◌, ◌*◌, ◌/◌, ◌%◌, ◌^◌, ◌≤◌, ◌<◌}
+use Prim.Native.Nat.{ℕ, zero, suc, ◌+◌, ◌-◌, ◌*◌, ◌/◌, ◌%◌, ◌^◌, ◌≤◌, ◌<◌}
 use native.Mathlib.Nat.{pow-succ', zero-mul, suc-mul}
 use native.Mathlib.Numerals.{add-one}
 use native.Mathlib.Omega.{arith}
 use borrow.Author.Rules.{rules}
-use lib.ListN.{length, get_or, take, drop, set, length-append, length-drop, drop_of_length-le}
+use borrow.Rule.Slice.PartMut.{put_mid}
+use lib.ListN.{length, get_or, take, drop, length-append, length-drop, drop_of_length-le}
 use lib.Seq.{sets, sets-eq, drop-cons, get_or_at, append_snoc, take_at, drop-append-add, drop-drop}
 use Rattle.laws.specs.Lists.{Each}
 use Rattle.laws.specs.Loops.{each, each_more, each_end}
@@ -96,14 +97,20 @@ read_four bytes at e f g h =
     let third : at + 2 + 1 ≡ at + 3 = omega arith in
     rw (second, third) (omega arith)
 
-pub put_two : (l : List ℕ) (at v : ℕ) {a b : ℕ} → a ≡ v % 256 → b ≡ v / 256 % 256 → set (set l at a) (at + 1) b ≡ sets l at (low_first 2 v)
+-- the bytes as the library writes them
+pub low_first_two : (v : ℕ) → v % 256 ∷ v / 256 % 256 ∷ [] ≡ low_first 2 v
 unfolding low_first
-put_two l at v e f = rw (e, f, add-one)
+low_first_two v = refl
 
-pub put_four : (l : List ℕ) (at v : ℕ) {a b c d : ℕ} → a ≡ v % 256 → b ≡ v / 256 % 256 → c ≡ v / 256 / 256 % 256 → d ≡ v / 256 / 256 / 256 % 256
-    → set (set (set (set l at a) (at + 1) b) (at + 2) c) (at + 3) d ≡ sets l at (low_first 4 v)
+pub low_first_four : (v : ℕ) → v % 256 ∷ v / 256 % 256 ∷ v / 65536 % 256 ∷ v / 16777216 % 256 ∷ [] ≡ low_first 4 v
 unfolding low_first
-put_four l at v e f g h =
-    let second : at + 2 ≡ suc (suc at) = omega arith in
-    let third : at + 3 ≡ suc (suc (suc at)) = omega arith in
-    rw (e, f, g, h, second, third, add-one)
+low_first_four v =
+    let third : v / 65536 ≡ v / 256 / 256 = omega arith in
+    let last : v / 16777216 ≡ v / 256 / 256 / 256 = omega arith in
+    rw (third, last)
+
+-- ys copied to a part of n places
+pub put_part : (n : ℕ) (l ys xs : List ℕ) (at : ℕ) → ys ≡ xs → length xs ≡ n → at + n ≤ length l → put_mid at (at + n - at) l ys ≡ sets l at xs
+put_part n l ys xs at e h b =
+    let k : at + n - at ≡ length xs = omega arith in
+    rw (k, e, drop-drop (length xs) at l) (sym (sets-eq xs l at (omega arith) ∙ append_assoc (take at l) xs (drop (at + length xs) l)))

@@ -4,7 +4,6 @@
 ghost use Rattle.std.specs.Prelude.{◌≡◌, ◌≤◌, ◌<◌, eqb, length};
 ghost use Rattle.numbers.specs.Settings.{number_at, count_of, is_count, count_at, plane_of, replay_settings, tu_grid_of, qindex_grid_of, rectangle_of, offsets_of};
 
-use laws::split;
 use rules::settings::{Ccso, Keep, Plane, QindexGrid, Replay, TuGrid};
 
 // Number k of a list.
@@ -19,8 +18,7 @@ pub fn number(list: &[i32], k: usize) -> i32
 fn from_zero(v: i32) -> u32
     ensures { result ≡ count_of v }
 {
-    let g = split(v);
-    if 0 < g.down { 4294967295 } else { g.up }
+    u32::try_from(v).unwrap_or(u32::MAX)
 }
 
 // Whether number k of a list is a count: one that is not negative.
@@ -28,8 +26,7 @@ pub fn is_count(list: &[i32], k: usize) -> bool
     requires { k < length list.now }
     ensures { result ≡ is_count (number_at list.now k) }
 {
-    let g = split(number(list, k));
-    g.down == 0
+    0 <= number(list, k)
 }
 
 // Count k of a list.
@@ -56,7 +53,7 @@ pub fn flag(list: &[i32], k: usize) -> bool
     count(list, k) == 1
 }
 
-// A plane's settings.
+// A plane's settings. A function and no TryFrom, here and below: that the list is long enough is a `requires`, which callers have tested of the list as lent.
 pub fn plane_of(list: &[i32]) -> Plane
     requires { 11 ≤ length list.now }
     ensures { result ≡ plane_of list.now }

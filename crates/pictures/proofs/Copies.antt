@@ -1,42 +1,42 @@
--- Samples copied place by place: from another list, or from further on in the same one. Assumes nothing.
+-- Samples copied: from another list to the front, or from further on in the same one. Assumes nothing.
 use mathlib.Core.Path.{◌≡◌, sym, ap, ◌∙◌}
-use mathlib.Core.List.{List}
-use Prim.Native.Nat.{ℕ, ◌+◌, ◌≤◌, ◌<◌, min}
+use mathlib.Core.List.{List, ◌++◌}
+use Prim.Native.Nat.{ℕ, ◌+◌, ◌-◌, ◌≤◌, min}
 use native.Mathlib.Decide.{dec_le}
 use native.Mathlib.Omega.{arith}
-use borrow.Author.Rules.{rules}
-use lib.ListN.{length, get_or, take, drop, set, length-take, length-drop}
-use lib.Seq.{get_or-drop}
+use lib.Seq.{paste}
+use lib.ListN.{length, take, drop, length-take, length-drop}
+use Rattle.std.specs.List.{copy_within}
 use Rattle.pictures.specs.Storing.{stored}
-use Rattle.pictures.proofs.Storing.{copy_none, copy_more, copy_end, copy_all, copy_full, stored_beyond}
+use Rattle.pictures.proofs.Parts.{part_stored}
+use Rattle.pictures.proofs.Storing.{copy_all, copy_full, stored_fits}
 
--- ---- from another list, to the front
-
-pub front_more : (l s : List ℕ) (k n : ℕ) {q : List ℕ} → k < n → n ≡ min (length s) (length l) → q ≡ stored l 0 (take k s) → set q k (get_or s k 0) ≡ stored l 0 (take (k + 1) s)
-front_more l s k n {q} h m e = ap (λ (p : ℕ). set q p (get_or s k 0)) at ∙ copy_more l 0 s 0 k (omega arith) e
-  where
-    at : k ≡ 0 + k
-    at = omega arith
-
--- as much as both hold
-pub front_end : (l s : List ℕ) (k n : ℕ) {q : List ℕ} → n ≤ k → k ≤ n → n ≡ min (length s) (length l) → q ≡ stored l 0 (take k s) → q ≡ stored l 0 s
-front_end l s k n a b m e =
-    elim (dec_le (length s) k) [
-      | yes h ↦ copy_all l s k h e
-      | no h ↦ copy_full l s k (omega arith) (omega arith) e
+-- as much of another list as both hold
+pub copied : (l s : List ℕ) (n : ℕ) {ys : List ℕ} → n ≡ min (length s) (length l) → ys ≡ take n s → ys ++ drop n l ≡ stored l 0 s
+copied l s n {ys} m e =
+    elim (dec_le (length s) n) [
+      | yes h ↦ copy_all l s n h front
+      | no h ↦ copy_full l s n (omega arith) (omega arith) front
     ]
-
--- ---- from further on
-
-pub onward_more : (l : List ℕ) (from to n k : ℕ) {q : List ℕ} → to ≤ from → from + n ≤ length l → k < n → q ≡ stored l to (take k (drop from l))
-    → set q (to + k) (get_or q (from + k) 0) ≡ stored l to (take (k + 1) (drop from l))
-onward_more l from to n k {q} a b h e =
-    ap (λ (v : ℕ). set q (to + k) v) value ∙ copy_more l to (drop from l) 0 k (omega (arith, length-drop from l)) e
   where
-    value : get_or q (from + k) 0 ≡ get_or (drop from l) k 0
-    value =
-        ap (λ (x : List ℕ). get_or x (from + k) 0) e
-        ∙ stored_beyond (take k (drop from l)) l to (from + k) 0 (omega (arith, length-take k (drop from l)))
-        ∙ sym (get_or-drop from l k 0)
+    front : ys ++ drop n l ≡ stored l 0 (take n s)
+    front =
+        ap (λ (x : List ℕ). x ++ drop n l) e
+        ∙ part_stored 0 n l (take n s) (omega arith) (omega (arith, length-take n s))
 
-pub ruleset copying = (rules, copy_none, front_more, front_end, onward_more, copy_end)
+-- n samples that stand further on
+pub moved : (l : List ℕ) (from to n : ℕ) {q : List ℕ} → from + n ≤ length l → to + n ≤ length l → q ≡ copy_within l from (from + n) to → q ≡ stored l to (take n (drop from l))
+moved l from to n a b e =
+    e
+    ∙ ap (λ (m : ℕ). copied_over m) long
+    ∙ ap (λ (m : ℕ). take to l ++ take n (drop from l) ++ drop (to + m) l) (sym (piece a))
+    ∙ sym (stored_fits l to (take n (drop from l)) (omega (arith, piece a)))
+  where
+    copied_over : ℕ → List ℕ
+    copied_over m = paste l to (drop from l) m
+
+    long : from + n - from ≡ n
+    long = omega arith
+
+    piece : from + n ≤ length l → length (take n (drop from l)) ≡ n
+    piece a = omega (arith, length-take n (drop from l), length-drop from l)

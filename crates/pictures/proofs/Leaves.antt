@@ -1,33 +1,25 @@
--- Leaves as code stores them: number by number, leaf by leaf, row by row. Assumes nothing.
+-- Leaves as code stores them: leaf by leaf, row by row. Assumes nothing.
 use mathlib.Core.Path.{◌≡◌, refl, ap, ◌∙◌}
 use mathlib.Core.List.{List, [], ◌∷◌}
-use Prim.Native.Nat.{ℕ, suc, ◌+◌, ◌*◌}
-use native.Mathlib.Numerals.{add-one}
+use Prim.Native.Nat.{ℕ, ◌+◌, ◌-◌, ◌*◌, ◌≤◌}
 use native.Mathlib.Omega.{arith}
 use borrow.Author.Rules.{rules}
-use lib.ListN.{length, set}
+use borrow.Rule.Slice.PartMut.{put_mid}
+use lib.ListN.{length}
 use Rattle.laws.specs.Loops.{each}
 use Rattle.pictures.specs.Storing.{stored}
 use Rattle.pictures.specs.Defaults.{leaf, leaf_row}
 use Rattle.pictures.proofs.Places.{row_place, first_place, last_place}
+use Rattle.pictures.proofs.Parts.{part_stored}
 use Rattle.pictures.proofs.Storing.{stored_long, pieces_none, pieces_more, pieces_end, pieces_length}
 
--- four numbers, one place after the other
-pub four : (l : List ℕ) (at a b c d : ℕ) {q₁ q₂ q₃ q₄ : List ℕ} → q₁ ≡ set l at a → q₂ ≡ set q₁ (at + 1) b → q₃ ≡ set q₂ (at + 2) c → q₄ ≡ set q₃ (at + 3) d
-    → q₄ ≡ stored l at (a ∷ b ∷ c ∷ d ∷ [])
-unfolding stored
-four l at a b c d e₁ e₂ e₃ e₄ =
-    e₄
-    ∙ ap (λ (x : List ℕ). set x (at + 3) d) (e₃ ∙ ap (λ (x : List ℕ). set x (at + 2) c) (e₂ ∙ ap (λ (x : List ℕ). set x (at + 1) b) e₁))
-    ∙ ap (λ (p : ℕ). set (set (set (set l at a) (at + 1) b) (at + 2) c) p d) three
-    ∙ ap (λ (p : ℕ). set (set (set (set l at a) (at + 1) b) p c) (suc (suc (suc at))) d) two
-    ∙ ap (λ (p : ℕ). set (set (set (set l at a) p b) (suc (suc at)) c) (suc (suc (suc at))) d) (add-one at)
+-- one leaf, over four places
+pub leaf_put : (at row column : ℕ) (l : List ℕ) {ys : List ℕ} → at + 4 ≤ length l → ys ≡ row ∷ column ∷ 16 ∷ 16 ∷ [] → put_mid at (at + 4 - at) l ys ≡ stored l at (row ∷ column ∷ 16 ∷ 16 ∷ [])
+leaf_put at row column l h e =
+    ap (λ (x : List ℕ). put_mid at (at + 4 - at) l x) e ∙ part_stored at (at + 4 - at) l (row ∷ column ∷ 16 ∷ 16 ∷ []) (omega arith) (four h)
   where
-    two : at + 2 ≡ suc (suc at)
-    two = omega arith
-
-    three : at + 3 ≡ suc (suc (suc at))
-    three = omega arith
+    four : at + 4 ≤ length l → 4 ≡ at + 4 - at
+    four h = omega arith
 
 leaf_length : (row column : ℕ) → length (leaf row column) ≡ 4
 unfolding leaf

@@ -15,6 +15,13 @@ use Rattle.pictures.specs.Storing.{stored}
 use Rattle.pictures.specs.Rows.{padded_row, row_put, row_out}
 use Rattle.pictures.proofs.Storing.{stored_fits, filled_stored}
 
+-- k places from a on
+pub part_stored : {A : Type 0} (a k : ℕ) (l ys : List A) → a + k ≤ length l → length ys ≡ k → put_mid a k l ys ≡ stored l a ys
+part_stored {A} a k l ys h n =
+    sym (append_assoc (take a l) ys (drop k (drop a l)))
+    ∙ ap (λ (x : List A). (take a l ++ ys) ++ x) (drop-drop k a l ∙ ap (λ (m : ℕ). drop (a + m) l) (sym n))
+    ∙ sym (stored_fits l a ys (omega arith))
+
 module _ {A : Type 0} (f : ℕ → A) where
   -- a list filled to its end
   pub all_filled : (l : List A) (n : ℕ) → length l ≡ n → filled l f (length l) ≡ each n (λ i. f i ∷ [])
@@ -34,9 +41,7 @@ module _ {A : Type 0} (f : ℕ → A) where
       → put_mid a k l ys ≡ stored l a (each k (λ i. f i ∷ []))
   part_filled a k l h e =
       ap (λ (x : List A). put_mid a k l x) (e ∙ all_filled (mid_of a k l) k (omega (arith, length-take k (drop a l), length-drop a l)))
-      ∙ sym (append_assoc (take a l) (each k (λ i. f i ∷ [])) (drop k (drop a l)))
-      ∙ ap (λ (x : List A). (take a l ++ each k (λ i. f i ∷ [])) ++ x) (drop-drop k a l ∙ ap (λ (m : ℕ). drop (a + m) l) (sym (singles_length f k)))
-      ∙ sym (stored_fits l a (each k (λ i. f i ∷ [])) (omega (arith, singles_length f k)))
+      ∙ part_stored a k l (each k (λ i. f i ∷ [])) h (singles_length f k)
 
   -- the first n places
   pub front_filled : (n : ℕ) (l : List A) {ys : List A} → n ≤ length l → ys ≡ filled (take n l) f (length (take n l))

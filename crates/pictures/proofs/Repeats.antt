@@ -1,39 +1,35 @@
--- A last entry repeated, as a loop does it that reads the entry before each place. Assumes nothing.
+-- A last entry repeated over the places after it. Assumes nothing.
 use mathlib.Core.Path.{◌≡◌, refl, ap, ◌∙◌}
 use mathlib.Core.List.{List}
-use Prim.Native.Nat.{ℕ, ◌+◌, ◌-◌, ◌≤◌, ◌<◌, max}
+use mathlib.Core.Logic.{◌⊎◌, inl, inr}
+use Prim.Native.Nat.{ℕ, ◌-◌, ◌≤◌, ◌<◌}
 use native.Mathlib.Omega.{arith}
-use borrow.Author.Rules.{rules}
-use lib.ListN.{length, get_or, set, replicate}
-use lib.Seq.{get_or-set_same}
+use borrow.Rule.Slice.PartMut.{mid_of, put_mid}
+use lib.ListN.{length, get_or, replicate, length-take, length-drop, length-replicate, drop}
 use Rattle.laws.specs.Choose.{pick_yes, pick_no, is_eq, not_eq}
 use Rattle.pictures.specs.Storing.{stored}
 use Rattle.pictures.specs.Defaults.{last_repeated}
-use Rattle.pictures.proofs.Storing.{again_none, again_more, again_end}
+use Rattle.pictures.proofs.Storing.{stored_none}
+use Rattle.pictures.proofs.Parts.{part_stored}
 
-pub none_repeated : (n : ℕ) (l : List ℕ) → n ≡ 0 → l ≡ last_repeated n l
+-- without an entry, or with one for every superblock, nothing is left to repeat
+pub none_repeated : (n : ℕ) (l : List ℕ) → (n ≡ 0) ⊎ ((n ≡ 0 → ⊥) × (4096 ≤ n)) → l ≡ last_repeated n l
 unfolding last_repeated
-none_repeated n l h = pick_yes _ _ _ _ (is_eq n 0 h) refl
-
-pub repeats_none : (l : List ℕ) (n : ℕ) → l ≡ stored l n (replicate (n - n) (get_or l (n - 1) 0))
-repeats_none l n = again_none l n (get_or l (n - 1) 0) n refl
-
-pub repeats_more : (l : List ℕ) (n k v : ℕ) {q : List ℕ} {x : ℕ} → n ≤ k → x ≡ v → q ≡ stored l n (replicate (k - n) v) → set q k x ≡ stored l n (replicate (k + 1 - n) v)
-repeats_more l n k v {q} h e g = ap (λ (y : ℕ). set q k y) e ∙ again_more l n v k h g
-
--- what was stored is what the next turn reads
-pub read_back : (q : List ℕ) (k x v : ℕ) → k < length q → x ≡ v → get_or (set q k x) (k + 1 - 1) 0 ≡ v
-read_back q k x v h e = ap (λ (p : ℕ). get_or (set q k x) p 0) same ∙ get_or-set_same q k x 0 h ∙ e
+none_repeated n l (inl e) = pick_yes _ _ _ _ (is_eq n 0 e) refl
+none_repeated n l (inr h) =
+    pick_no _ _ _ _ (not_eq n 0 h.0)
+    (stored_none l n ∙ ap (λ (m : ℕ). stored l n (replicate m (get_or l (n - 1) 0))) none)
   where
-    same : k + 1 - 1 ≡ k
-    same = omega arith
+    none : 0 ≡ 4096 - n
+    none = omega (arith, h.1)
 
-pub all_repeated : (l : List ℕ) (n k : ℕ) {q : List ℕ} → 1 ≤ n → n ≤ k → k ≤ max n 4096 → 4096 ≤ k → q ≡ stored l n (replicate (k - n) (get_or l (n - 1) 0)) → q ≡ last_repeated n l
+pub all_repeated : (n : ℕ) (l : List ℕ) {ys : List ℕ} → 4096 ≤ length l → (n ≡ 0 → ⊥) → n < 4096
+    → ys ≡ replicate (length (mid_of n (4096 - n) l)) (get_or l (n - 1) 0) → put_mid n (4096 - n) l ys ≡ last_repeated n l
 unfolding last_repeated
-all_repeated l n k h a b d e =
-    pick_no _ _ _ _ (not_eq n 0 (λ z. absurd (omega arith))) (again_end l n (get_or l (n - 1) 0) k 4096 e (same a b d))
+all_repeated n l h z b e =
+    pick_no _ _ _ _ (not_eq n 0 z)
+    (ap (λ (x : List ℕ). put_mid n (4096 - n) l x) (e ∙ ap (λ (m : ℕ). replicate m (get_or l (n - 1) 0)) long)
+    ∙ part_stored n (4096 - n) l _ (omega arith) (length-replicate (4096 - n) (get_or l (n - 1) 0)))
   where
-    same : n ≤ k → k ≤ max n 4096 → 4096 ≤ k → k - n ≡ 4096 - n
-    same a b d = omega arith
-
-pub ruleset repeating = (rules, none_repeated, repeats_none, repeats_more, read_back, all_repeated)
+    long : length (mid_of n (4096 - n) l) ≡ 4096 - n
+    long = omega (arith, h, b, length-take (4096 - n) (drop n l), length-drop n l)

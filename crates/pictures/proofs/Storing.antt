@@ -2,12 +2,12 @@
 -- Assumes nothing.
 use mathlib.Core.Path.{◌≡◌, refl, sym, ap, ◌∙◌}
 use mathlib.Core.List.{List, [], ◌∷◌, ◌++◌}
-use Prim.Native.Nat.{ℕ, zero, suc, ◌+◌, ◌-◌, ◌*◌, ◌≤◌, ◌<◌}
+use Prim.Native.Nat.{ℕ, zero, suc, ◌+◌, ◌*◌, ◌≤◌, ◌<◌}
 use native.Mathlib.Nat.{add-zero, le_refl, le_step, mul-suc, le_antisymm}
 use native.Mathlib.Numerals.{add-one}
 use native.Mathlib.Omega.{arith}
-use lib.ListN.{length, get_or, take, drop, set, replicate, length-set, length-take, take-append-drop, length-append, length-replicate, replicate-append-replicate}
-use lib.Seq.{take_all, take-suc, set_out, sets, length-sets, sets-eq, drop-set-lt, get_or-set_other}
+use lib.ListN.{length, take, drop, set, length-set, length-take, take-append-drop, length-append}
+use lib.Seq.{take_all, set_out, sets, length-sets, sets-eq, drop-set-lt}
 use Rattle.laws.specs.Loops.{each, filled, singles_length}
 use Rattle.pictures.specs.Storing.{stored}
 
@@ -49,35 +49,13 @@ module _ {A : Type 0} where
   stored_rest [] l i p h = refl
   stored_rest (v ∷ vs) l i p h = stored_rest vs (set l i v) (suc i) p (omega arith) ∙ drop-set-lt p l i v (omega arith)
 
-  pub stored_beyond : (vs l : List A) (i p : ℕ) (d : A) → i + length vs ≤ p → get_or (stored l i vs) p d ≡ get_or l p d
-  unfolding stored
-  stored_beyond [] l i p d h = refl
-  stored_beyond (v ∷ vs) l i p d h =
-      stored_beyond vs (set l i v) (suc i) p d (omega arith) ∙ get_or-set_other l i p v d (λ q. absurd (omega arith))
-
   -- nothing, beyond the end
   pub stored_out : (vs l : List A) (i : ℕ) → length l ≤ i → stored l i vs ≡ l
   unfolding stored
   stored_out [] l i h = refl
   stored_out (v ∷ vs) l i h = stored_out vs (set l i v) (suc i) (omega (arith, length-set l i v)) ∙ set_out l i v h
 
--- ---- the front of another list, as a loop copies it
-
-module _ {A : Type 0} (l : List A) (i : ℕ) (s : List A) (d : A) where
-  pub copy_none : l ≡ stored l i (take 0 s)
-  copy_none = stored_none l i
-
-  pub copy_more : (k : ℕ) {q : List A} → k < length s → q ≡ stored l i (take k s) → set q (i + k) (get_or s k d) ≡ stored l i (take (k + 1) s)
-  copy_more k {q} h e =
-      ap (λ (p : ℕ). set q p (get_or s k d)) (place h)
-      ∙ stored_then l i (take k s) (get_or s k d ∷ []) e (stored_one q (i + length (take k s)) (get_or s k d))
-      ∙ ap (λ (x : List A). stored l i x) (sym (take-suc s k d h) ∙ ap (λ (n : ℕ). take n s) (sym (add-one k)))
-    where
-      place : k < length s → i + k ≡ i + length (take k s)
-      place h = omega (arith, length-take k s)
-
-  pub copy_end : (k n : ℕ) {q : List A} → q ≡ stored l i (take k s) → k ≤ n → n ≤ k → q ≡ stored l i (take n s)
-  copy_end k n e a b = rw (le_antisymm a b) at e
+-- ---- the front of another list
 
 -- all of it, where nothing is left to copy, or no place
 pub copy_all : {A : Type 0} (l s : List A) (k : ℕ) {q : List A} → length s ≤ k → q ≡ stored l 0 (take k s) → q ≡ stored l 0 s
@@ -101,31 +79,6 @@ filled_stored {A} l f (suc n) =
   where
     place : length (each n (λ i. f i ∷ [])) ≡ n → n ≡ 0 + length (each n (λ i. f i ∷ []))
     place h = omega arith
-
--- ---- the same number again and again
-
-module _ {A : Type 0} (l : List A) (i : ℕ) (v : A) where
-  pub again_none : (k : ℕ) → k ≡ i → l ≡ stored l i (replicate (k - i) v)
-  again_none k e = stored_none l i ∙ ap (λ (m : ℕ). stored l i (replicate m v)) (none e)
-    where
-      none : k ≡ i → 0 ≡ k - i
-      none e = omega arith
-
-  pub again_more : (k : ℕ) {q : List A} → i ≤ k → q ≡ stored l i (replicate (k - i) v) → set q k v ≡ stored l i (replicate (k + 1 - i) v)
-  again_more k {q} h e =
-      ap (λ (p : ℕ). set q p v) (place h)
-      ∙ stored_then l i (replicate (k - i) v) (v ∷ []) e (stored_one q (i + length (replicate (k - i) v)) v)
-      ∙ ap (λ (x : List A). stored l i x) (replicate-append-replicate (k - i) 1 v)
-      ∙ ap (λ (m : ℕ). stored l i (replicate m v)) (count h)
-    where
-      place : i ≤ k → k ≡ i + length (replicate (k - i) v)
-      place h = omega (arith, length-replicate (k - i) v)
-
-      count : i ≤ k → k - i + 1 ≡ k + 1 - i
-      count h = omega arith
-
-  pub again_end : (k n : ℕ) {q : List A} → q ≡ stored l i (replicate (k - i) v) → k - i ≡ n - i → q ≡ stored l i (replicate (n - i) v)
-  again_end k n e h = e ∙ ap (λ (m : ℕ). stored l i (replicate m v)) h
 
 -- ---- pieces of one length, as a loop stores them
 

@@ -1,5 +1,5 @@
 // What the settings do not say: numbers, a qindex for every superblock, a leaf for every superblock.
-ghost use Rattle.std.specs.Prelude.{◌≡◌, ◌+◌, ◌≤◌, ◌<◌, length, set};
+ghost use Rattle.std.specs.Prelude.{◌≡◌, ◌+◌, ◌≤◌, length};
 ghost use Rattle.pictures.specs.Storing.{stored};
 ghost use Rattle.pictures.specs.Defaults.{default_numbers, last_repeated, leaf, leaf_row, tiled, tiled_end, complete_shorts, complete_places};
 
@@ -34,21 +34,11 @@ fn repeat_last(shorts: &mut [u16], n: usize)
     requires { 4096 ≤ length shorts.old }
     ensures { shorts.new ≡ last_repeated n shorts.old }
 {
-    if n == 0 {
+    if n == 0 || 4096 <= n {
         return;
     }
-    let mut k = n;
-    while k < 4096 {
-        shorts[k] = shorts[k - 1];
-        k += 1;
-    }
-}
-
-fn put(shorts: &mut [u16], at: usize, v: u16)
-    requires { at < length shorts.old }
-    ensures { shorts.new ≡ set shorts.old at v }
-{
-    shorts[at] = v;
+    let last = shorts[n - 1];
+    shorts[n..4096].fill(last);
 }
 
 // One leaf of 16 by 16 cells.
@@ -56,10 +46,7 @@ fn put_leaf(shorts: &mut [u16], at: usize, row: u16, column: u16)
     requires { at + 4 ≤ length shorts.old }
     ensures { shorts.new ≡ stored shorts.old at (leaf row column) }
 {
-    put(shorts, at, row);
-    put(shorts, at + 1, column);
-    put(shorts, at + 2, 16);
-    put(shorts, at + 3, 16);
+    shorts[at..at + 4].copy_from_slice(&[row, column, 16, 16]);
 }
 
 // A row of superblocks.
@@ -67,10 +54,8 @@ fn leaf_row(shorts: &mut [u16], at: usize, row: u16, across: usize)
     requires { (across ≤ 64) × (at + 256 ≤ length shorts.old) }
     ensures { shorts.new ≡ stored shorts.old at (leaf_row row across) }
 {
-    let mut c: usize = 0;
-    while c < across {
+    for c in 0..across {
         put_leaf(shorts, at + 4 * c, row, (16 * c) as u16);
-        c += 1;
     }
 }
 
@@ -80,11 +65,9 @@ fn tile(shorts: &mut [u16], across: usize, down: usize) -> usize
     ensures { (shorts.new ≡ tiled across down shorts.old) × (result ≡ tiled_end across down) }
 {
     let mut at: usize = 4096;
-    let mut r: usize = 0;
-    while r < down {
+    for r in 0..down {
         leaf_row(shorts, at, (16 * r) as u16, across);
         at += 4 * across;
-        r += 1;
     }
     at
 }

@@ -1,5 +1,5 @@
 // Files: by their names, and what is read from them, all of it or a line.
-ghost use Rattle.std.specs.Prelude.{◌≡◌, ◌≤◌, length};
+ghost use Rattle.std.specs.Prelude.{◌≤◌, ◌<◌, length, IfSome, IfOk, OnErr};
 ghost use Rattle.pictures.specs.Texts.{Line};
 
 use std::fs::File;
@@ -12,70 +12,48 @@ pub fn text_room() -> [u8; 33554432] {
     [0; 33554432]
 }
 
-// What was read of a file: whether it could be opened, and how many bytes.
-#[derive(Clone, Copy)]
-pub struct Whole {
-    pub opened: bool,
-    pub n: usize,
-}
-
-// A file's bytes to the front of a buffer; one that has as many as the buffer may have more.
-pub fn read_whole<R: Files<File = File>>(rt: &R, ends: Ends, name: &[u8], buf: &mut [u8]) -> Whole
-    ensures { result.n ≤ length buf.new }
+// A file's bytes to the front of a buffer, and how many; one that has as many as the buffer may have more. None where it can't be opened.
+pub fn read_whole<R: Files<File = File>>(
+    rt: &R,
+    ends: Ends,
+    name: &[u8],
+    buf: &mut [u8],
+) -> Option<usize>
+    ensures { IfSome result (λ n. n ≤ length buf.new) }
 {
-    match open_in(rt, ends, name) {
-        Some(from) => Whole {
-            opened: true,
-            n: read_full(&from, buf),
-        },
-        None => Whole {
-            opened: false,
-            n: 0,
-        },
-    }
+    let from = open_in(rt, ends, name)?;
+    Some(read_full(&from, buf))
 }
 
 // The next byte of a file, where there is one.
-#[derive(Clone, Copy)]
-enum Next {
-    Byte(u8),
-    End,
-}
-
-fn next_byte(from: &Source) -> Next {
+fn next_byte(from: &Source) -> Option<u8> {
     let mut one = [0u8; 1];
-    let n = read_full(from, &mut one);
-    if n == 0 {
-        return Next::End;
+    if read_full(from, &mut one) == 0 {
+        return None;
     }
-    Next::Byte(one[0])
+    Some(one[0])
 }
 
-// How many bytes a line has, and whether the file ended before its first one.
-#[derive(Clone, Copy)]
-pub struct Told {
-    pub n: usize,
-    pub end: bool,
+// Why there is no line: the file ended before its first byte, or it does not end within the buffer.
+#[derive(Clone, Copy, Debug, PartialEq, Eq)]
+pub enum NoLine {
+    Ended,
+    Cut,
 }
 
-// Reads a line without its newline; one that does not fit, or that the file ends, has the buffer's length.
-pub fn read_line(from: &Source, buf: &mut [u8]) -> Told
-    ensures { Line buf.old buf.new result.n }
+// Reads a line without its newline, and says how many bytes it has; a line that does not fit, or that the file ends, is none.
+pub fn read_line(from: &Source, buf: &mut [u8]) -> Result<usize, NoLine>
+    ensures ok { IfOk result (λ n. (n < length buf.new) × Line buf.old buf.new n) }
+    ensures err { OnErr result (Line buf.old buf.new (length buf.new)) }
 {
-    let mut n: usize = 0;
-    while n < buf.len() {
-        let next = next_byte(from);
-        let Next::Byte(b) = next else {
-            return Told {
-                n: buf.len(),
-                end: n == 0,
-            };
+    for n in 0..buf.len() {
+        let Some(b) = next_byte(from) else {
+            return Err(if n == 0 { NoLine::Ended } else { NoLine::Cut });
         };
         if b == 10 {
-            return Told { n, end: false };
+            return Ok(n);
         }
         buf[n] = b;
-        n += 1;
     }
-    Told { n, end: false }
+    Err(NoLine::Cut)
 }

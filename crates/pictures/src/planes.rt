@@ -1,12 +1,12 @@
 // A picture's planes: read into rows with padding, packed, and written.
-ghost use Rattle.std.specs.Prelude.{◌≡◌, true, ◌+◌, ◌*◌, ◌≤◌, min, leb, length, take, drop};
+ghost use Rattle.std.specs.Prelude.{◌≡◌, ◌+◌, ◌*◌, ◌≤◌, min, leb, length, OnOk, ◌==◌, not, filter, take, zip};
 ghost use Rattle.pictures.specs.Storing.{stored};
 ghost use Rattle.pictures.specs.Shapes.{ShapeFits, shape_of};
-ghost use Rattle.pictures.specs.Changes.{differs_of, differing_of};
+ghost use Rattle.pictures.specs.Changes.{differing_of};
 ghost use Rattle.pictures.specs.Rows.{row_bytes, NextRow, row_put, FilePlane, packed, row_out};
 
-use laws::least;
 use rounding::{halved, up_to_eight};
+use std::io;
 use system::files::{Source, Target, read_full, write_all};
 use y4m::samples::{to_bytes, to_samples};
 
@@ -53,10 +53,9 @@ pub fn large_room() -> [u16; 16777216] {
     [0; 16777216]
 }
 
-// What was read of a plane: whether it is whole, and how many bytes there were.
-#[derive(Clone, Copy)]
-pub struct Got {
-    pub whole: bool,
+// A plane that its file does not have whole: how many bytes there were.
+#[derive(Clone, Copy, Debug, PartialEq, Eq)]
+pub struct Cut {
     pub bytes: usize,
 }
 
@@ -80,7 +79,7 @@ pub fn read_row(from: &Source, bytes: &mut [u8], n: usize, more: bool) -> usize
     read_full(from, &mut bytes[..n])
 }
 
-// One row of a plane from the buffer; false where the plane has no such row.
+// One row of a plane from the buffer; false where the plane has no such row. A flag alone: nothing failed and nothing comes with it.
 pub fn put_row(bytes: &[u8], plane: &mut [u16], at: usize, s: Shape, wide: bool) -> bool
     requires { ShapeFits s × (at ≤ 16777216) }
     ensures value { result ≡ leb (at + s.stride) (length plane.old) }
@@ -94,50 +93,34 @@ pub fn put_row(bytes: &[u8], plane: &mut [u16], at: usize, s: Shape, wide: bool)
     true
 }
 
-// What was read: rows of n bytes, and some bytes of another one.
-pub fn sum_up(whole: bool, rows: usize, n: usize, bytes: usize) -> Got
+// Some rows of n bytes, and some bytes of another one.
+pub fn cut_after(rows: usize, n: usize, bytes: usize) -> Cut
     requires { (rows ≤ 4096) × (n ≤ 8192) × (bytes ≤ 8192) }
-    ensures { result.whole ≡ whole }
 {
-    Got {
-        whole,
+    Cut {
         bytes: area(n, rows) + bytes,
     }
 }
 
 // A plane from a file; rows past the last one repeat it. Promised is how bytes make the plane, not which the file has.
-pub fn read_plane(from: &Source, plane: &mut [u16], s: Shape, wide: bool) -> Got
+pub fn read_plane(from: &Source, plane: &mut [u16], s: Shape, wide: bool) -> Result<(), Cut>
     requires { ShapeFits s }
-    ensures { result.whole ≡ true → FilePlane wide s plane.old plane.new }
+    ensures { OnOk result (FilePlane wide s plane.old plane.new) }
 {
     let mut bytes = [0u8; 8192];
     let n = row_bytes(s.width, wide);
     let mut at: usize = 0;
-    let mut r: usize = 0;
-    while r < s.rows {
+    for r in 0..s.rows {
         let k = read_row(from, &mut bytes, n, r < s.height);
         if k < n {
-            return sum_up(false, r, n, k);
+            return Err(cut_after(r, n, k));
         }
         if !put_row(&bytes, plane, at, s, wide) {
-            return sum_up(false, r, n, 0);
+            return Err(cut_after(r, n, 0));
         }
         at += s.stride;
-        r += 1;
     }
-    sum_up(true, s.height, n, 0)
-}
-
-// Moves n samples towards the front.
-fn move_row(plane: &mut [u16], from: usize, to: usize, n: usize)
-    requires { (to ≤ from) × (from + n ≤ length plane.old) }
-    ensures { plane.new ≡ stored plane.old to (take n (drop from plane.old)) }
-{
-    let mut k: usize = 0;
-    while k < n {
-        plane[to + k] = plane[from + k];
-        k += 1;
-    }
+    Ok(())
 }
 
 // Takes the padding out of a plane: its rows then follow each other.
@@ -147,20 +130,18 @@ pub fn pack(plane: &mut [u16], s: Shape)
 {
     let mut from: usize = 0;
     let mut to: usize = 0;
-    let mut r: usize = 0;
-    while r < s.height {
+    for _r in 0..s.height {
         if plane.len() < from + s.width {
             return;
         }
-        move_row(plane, from, to, s.width);
+        plane.copy_within(from..from + s.width, to);
         from += s.stride;
         to += s.width;
-        r += 1;
     }
 }
 
 // One row of a packed plane to a file; promised are the bytes that are handed on.
-pub fn write_row(to: &Target, row: &[u16], bytes: &mut [u8], n: usize, wide: bool) -> bool
+pub fn write_row(to: &Target, row: &[u16], bytes: &mut [u8], n: usize, wide: bool) -> io::Result<()>
     requires { n ≤ length bytes.old }
     ensures { bytes.new ≡ row_out wide row.now n bytes.old }
 {
@@ -168,58 +149,40 @@ pub fn write_row(to: &Target, row: &[u16], bytes: &mut [u8], n: usize, wide: boo
     write_all(to, &bytes[..n])
 }
 
-// A packed plane to a file; false where a row can't be written. Promised is that a plane that was written whole was there whole.
-pub fn write_plane(to: &Target, plane: &[u16], s: Shape, wide: bool) -> bool
+// A packed plane to a file; an error where a row can't be written. Promised is that a plane that was written whole was there whole.
+pub fn write_plane(to: &Target, plane: &[u16], s: Shape, wide: bool) -> io::Result<()>
     requires { ShapeFits s }
-    ensures { result ≡ true → s.width * s.height ≤ length plane.now }
+    ensures { OnOk result (s.width * s.height ≤ length plane.now) }
 {
+    let Some(packed) = plane.get(..area(s.width, s.height)) else {
+        return Err(io::Error::from(io::ErrorKind::UnexpectedEof));
+    };
     let mut bytes = [0u8; 8192];
     let n = row_bytes(s.width, wide);
-    let mut at: usize = 0;
-    let mut r: usize = 0;
-    while r < s.height {
-        let end = at + s.width;
-        if plane.len() < end {
-            return false;
-        }
-        if !write_row(to, &plane[at..end], &mut bytes, n, wide) {
-            return false;
-        }
-        at = end;
-        r += 1;
+    for row in packed.chunks_exact(s.width) {
+        write_row(to, row, &mut bytes, n, wide)?;
     }
-    true
+    Ok(())
 }
 
 // Copies as much as both planes hold.
 pub fn copy(from: &[u16], to: &mut [u16])
     ensures { to.new ≡ stored to.old 0 from.now }
 {
-    let n = least(from.len(), to.len());
-    let mut k: usize = 0;
-    while k < n {
-        to[k] = from[k];
-        k += 1;
-    }
+    let n = from.len().min(to.len());
+    to[..n].copy_from_slice(&from[..n]);
 }
 
-// 1 where two samples differ.
-fn differs(a: u16, b: u16) -> usize
-    ensures { (result ≡ differs_of a b) × (result ≤ 1) }
+// Of the first n pairs of samples those that differ, as the chain says it.
+fn pairs_differing(a: &[u16], b: &[u16], n: usize) -> usize
+    ensures { result ≡ length (filter (λ p. not (p.0 == p.1)) (take n (zip a.now b.now))) }
 {
-    if a == b { 0 } else { 1 }
+    a.iter().zip(b).take(n).filter(|(x, y)| x != y).count()
 }
 
 // How many of the first n samples of two planes differ.
 pub fn differing(a: &[u16], b: &[u16], n: usize) -> usize
     ensures { result ≡ differing_of a.now b.now (min n (min (length a.now) (length b.now))) }
 {
-    let stop = least(n, least(a.len(), b.len()));
-    let mut count: usize = 0;
-    let mut k: usize = 0;
-    while k < stop {
-        count += differs(a[k], b[k]);
-        k += 1;
-    }
-    count
+    pairs_differing(a, b, n)
 }

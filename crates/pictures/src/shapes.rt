@@ -3,14 +3,13 @@ ghost use Rattle.std.specs.Prelude.{◌≤◌};
 ghost use Rattle.pictures.specs.Shapes.{ShapeFits};
 
 use crate::planes::{Shape, shape_of};
-use laws::{least, most};
 use y4m::header::Header;
 
 // A size from 1 to 4096.
 fn side(n: usize) -> usize
     ensures { (1 ≤ result) × (result ≤ 4096) }
 {
-    most(1, least(n, 4096))
+    n.clamp(1, 4096)
 }
 
 // Luma's shape.
@@ -28,7 +27,7 @@ pub fn chroma_of(h: Header) -> Shape
     shape_of(
         side(h.width),
         side(h.height),
-        least(layout.ssx, 1),
-        least(layout.ssy, 1),
+        layout.ssx.min(1),
+        layout.ssy.min(1),
     )
 }

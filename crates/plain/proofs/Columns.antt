@@ -9,7 +9,7 @@ use Rattle.laws.specs.Trace.{Same, and_then, suffix, same_eq}
 use Rattle.laws.proofs.Schedules.{transpose}
 use Rattle.rules.specs.declared.edge.Edge.{Edge}
 use Rattle.rules.specs.declared.settings.Plane.{Plane}
-use Rattle.rules.specs.declared.refusals.Answer.TheVariants.{Accepted}
+use Rattle.std.specs.declared.result.Result.TheVariants.{Ok}
 use Rattle.rules.specs.Numbers.{top_of}
 use Rattle.rules.specs.Segment.{run_edges}
 use Rattle.rules.specs.Counts.{stored_by, changed_by}
@@ -36,7 +36,7 @@ module _ (s : Plane) (steps : List ℕ) (g : Grid) where
       (λ a b i j l k p q. pairs_turn Free Free free_turn (vert s steps g a j) (vert s steps g b i) (rows_apart s steps g a j b i l))))
 
   -- of an accepted plane l: its plane and counts
-  module _ (l : List ℕ) (ok : plane_check s steps g l ≡ Accepted) where
+  module _ (l : List ℕ) (ok : plane_check s steps g l ≡ Ok tt) where
     edges_columns : Same Free (edges_of s steps g) columns_outer
     edges_columns = and_then (edges_plain s steps g (checked s steps g l ok).sizes_ok) columns_plain
 

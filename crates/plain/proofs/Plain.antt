@@ -7,21 +7,21 @@ use native.Mathlib.Omega.{arith}
 use lib.ListN.{length}
 use Rattle.laws.specs.Trace.{Same, and_then, same_eq}
 use Rattle.rules.specs.declared.settings.Plane.{Plane}
-use Rattle.rules.specs.declared.refusals.Answer.{Answer}
-use Rattle.rules.specs.declared.refusals.Answer.TheVariants.{Accepted}
+use Rattle.rules.specs.Refusals.{Answer}
+use Rattle.std.specs.declared.result.Result.TheVariants.{Ok}
 use Rattle.rules.specs.Plane.{Grid, edges_of, plane_check, plane_after, plane_stored, plane_changed}
 use Rattle.rules.specs.Rows.{band_of}
 use Rattle.checks.proofs.Checks.{settle_accepted}
 use Rattle.segment.specs.Boxes.{Free}
-use Rattle.plane.specs.declared.visited.Visited.{Visited}
+use Rattle.rules.specs.declared.counts.Visited.{Visited}
 use Rattle.plane.specs.Checked.{Checked, Stated}
 use Rattle.plane.proofs.Accepting.{checked}
 use Rattle.orders.proofs.Plain.{edges_plain, same_run, same_stored, same_changed}
 use Rattle.bands.specs.Ran.{RanBand}
 use Rattle.bands.proofs.Bands.{whole_band}
 
-module _ (s : Plane) (steps : List ℕ) (g : Grid) (l : List ℕ) {a : Answer} (is : a ≡ plane_check s steps g l) (e : a ≡ Accepted) where
-  ok : plane_check s steps g l ≡ Accepted
+module _ (s : Plane) (steps : List ℕ) (g : Grid) (l : List ℕ) {a : Answer} (is : a ≡ plane_check s steps g l) (e : a ≡ Ok tt) where
+  ok : plane_check s steps g l ≡ Ok tt
   ok = sym is ∙ e
 
   -- what the run of all rows asks
@@ -32,7 +32,7 @@ module _ (s : Plane) (steps : List ℕ) (g : Grid) (l : List ℕ) {a : Answer} (
   edges_whole = and_then (edges_plain s steps g whole_asks.0.sizes_ok) (same_eq (sym (whole_band s steps g)))
 
   -- an accepted plane in the plain order is as document 01's order leaves it
-  pub stated_plain : {x : Visited} {m : List ℕ} → RanBand s steps g 0 s.rows l x m → Stated s steps g l (record { answer = Accepted; stored = x.stored; changed = x.changed }) m
+  pub stated_plain : {x : Visited} {m : List ℕ} → RanBand s steps g 0 s.rows l x m → Stated s steps g l (Ok (record { stored = x.stored; changed = x.changed })) m
   unfolding plane_after plane_stored plane_changed
   stated_plain run = record {
     answer = sym e ∙ is;

@@ -4,7 +4,8 @@ ghost use Rattle.plane.specs.Checked.{Stated};
 
 use bands::run_band;
 use plane::plane_check;
-use rules::refusals::{Answer, PlaneAnswer};
+use rules::counts::Counts;
+use rules::refusals::Refusal;
 use rules::settings::Plane;
 
 // Deblocks a plane in the plain order and tells how many samples it stored and changed; or refuses it, leaves it as lent and tells of none.
@@ -19,23 +20,15 @@ pub fn deblock_plane_plain(
     keep: &[u8],
     steps: &[u32],
     s: Plane,
-) -> PlaneAnswer
+) -> Result<Counts, Refusal>
     ensures { Stated s steps.now (keeping vedge.now hedge.now sqw.now sqh.now qindex.now tiles.now keep.now) plane.old result plane.new }
 {
-    let a = plane_check(plane, vedge, hedge, sqw, sqh, qindex, tiles, keep, steps, s);
-    if let Answer::Refused(r) = a {
-        return PlaneAnswer {
-            answer: Answer::Refused(r),
-            stored: 0,
-            changed: 0,
-        };
-    }
+    plane_check(plane, vedge, hedge, sqw, sqh, qindex, tiles, keep, steps, s)?;
     let done = run_band(
         plane, vedge, hedge, sqw, sqh, qindex, tiles, keep, steps, s, 0, s.rows,
     );
-    PlaneAnswer {
-        answer: Answer::Accepted,
+    Ok(Counts {
         stored: done.stored,
         changed: done.changed,
-    }
+    })
 }

@@ -14,10 +14,10 @@ use Rattle.laws.specs.Choose.{pick, pick_yes, pick_no, is_lt, not_lt, told_yes_n
 use Rattle.rules.specs.declared.settings.Plane.{Plane}
 use Rattle.rules.specs.declared.refusals.Refusal.{Refusal}
 use Rattle.rules.specs.declared.refusals.Refusal.TheVariants.{Depth, Size, Length, Setting, Cell, Room, Sample}
-use Rattle.rules.specs.declared.refusals.Answer.{Answer}
-use Rattle.rules.specs.declared.refusals.Answer.TheVariants.{Accepted, Refused}
-use Rattle.rules.specs.declared.refusals.Found.{Found}
-use Rattle.rules.specs.declared.refusals.Found.TheVariants.{Nothing}
+use Rattle.rules.specs.Refusals.{Answer}
+use Rattle.std.specs.declared.result.Result.TheVariants.{Ok, Err}
+use Rattle.std.specs.declared.option.Option.{Option}
+use Rattle.std.specs.declared.option.Option.TheVariants.{None}
 use Rattle.rules.specs.Numbers.{depth_ok}
 use Rattle.rules.specs.Refusals.{or_else, found}
 use Rattle.rules.specs.Thresholds.{steps_check, deltas_check, quant_of, step_of, side_of, index_of}
@@ -37,7 +37,7 @@ use Rattle.plane_checks.proofs.Reach.{edge_room_is}
 use Rattle.plane.proofs.Edges.{short_is}
 use Rattle.plane.specs.Run.{table_at, IsTable, start_by, Table, Levels, Field, none, state, Ran}
 use Rattle.plane.specs.Checked.{Sized, Checked, Filtered, Noted, Stated}
-use Rattle.plane.specs.declared.visited.Visited.{Visited}
+use Rattle.rules.specs.declared.counts.Visited.{Visited}
 
 -- ---- lengths
 
@@ -71,7 +71,7 @@ sized_by {s} {n} v h w t q ts ks {a} {b} {c} d d' e e' f f' =
 
 -- ---- cells without a bad number
 
-module _ {s : Plane} (v h w t ks : List ℕ) (z : Sizes s) (l : CellsLong (s.rows * s.cols) (length v) (length h) (length w) (length t) (length ks)) (none : bad_of (s.rows * s.cols) (keeping v h w t [] [] ks) ≡ Nothing) where
+module _ {s : Plane} (v h w t ks : List ℕ) (z : Sizes s) (l : CellsLong (s.rows * s.cols) (length v) (length h) (length w) (length t) (length ks)) (none : bad_of (s.rows * s.cols) (keeping v h w t [] [] ks) ≡ None) where
   pub ready_vert : Ready s v w
   ready_vert = record {
     sizes_ok = z;
@@ -86,22 +86,22 @@ module _ {s : Plane} (v h w t ks : List ℕ) (z : Sizes s) (l : CellsLong (s.row
     indices = record { long = l.sqh; small = record { each_one = λ k b. (none_good _ (keeping v h w t [] [] ks) none k b).1 } };
   }
 
-bad_none : (s : Plane) (v h w t q ts ks : List ℕ) → bad_cell s (keeping v h w t q ts ks) ≡ Nothing → bad_of (s.rows * s.cols) (keeping v h w t [] [] ks) ≡ Nothing
+bad_none : (s : Plane) (v h w t q ts ks : List ℕ) → bad_cell s (keeping v h w t q ts ks) ≡ None → bad_of (s.rows * s.cols) (keeping v h w t [] [] ks) ≡ None
 unfolding bad_cell bad_of cell_good
 bad_none s v h w t q ts ks e = e
 
-pub readies : {s : Plane} (v h w t ks : List ℕ) {f : Found} → Sizes s → CellsLong (s.rows * s.cols) (length v) (length h) (length w) (length t) (length ks) → ((q ts : List ℕ) → f ≡ bad_cell s (keeping v h w t q ts ks)) → f ≡ Nothing → Ready s v w × Ready s h t
+pub readies : {s : Plane} (v h w t ks : List ℕ) {f : Option ℕ} → Sizes s → CellsLong (s.rows * s.cols) (length v) (length h) (length w) (length t) (length ks) → ((q ts : List ℕ) → f ≡ bad_cell s (keeping v h w t q ts ks)) → f ≡ None → Ready s v w × Ready s h t
 readies {s} v h w t ks z l e g =
     let none = bad_none s v h w t [] [] ks (sym (e [] []) ∙ g) in
     (ready_vert v h w t ks z l none, ready_horz v h w t ks z l none)
 
-pub readies_by : {s : Plane} {n : ℕ} (v h w t ks : List ℕ) {f : Found} → Sized s n (length v) (length h) (length w) (length t) (length ks) → ((q ts : List ℕ) → f ≡ bad_cell s (keeping v h w t q ts ks)) → f ≡ Nothing → Ready s v w × Ready s h t
+pub readies_by : {s : Plane} {n : ℕ} (v h w t ks : List ℕ) {f : Option ℕ} → Sized s n (length v) (length h) (length w) (length t) (length ks) → ((q ts : List ℕ) → f ≡ bad_cell s (keeping v h w t q ts ks)) → f ≡ None → Ready s v w × Ready s h t
 readies_by v h w t ks z e g = readies v h w t ks z.sizes_ok z.lists_long e g
 
 -- ---- an accepted plane
 
 -- checks 1 to 7
-pub settled : (s : Plane) (steps : List ℕ) (g : Grid) (n : ℕ) → settings_check s steps g n ≡ Accepted → Checked s steps g n
+pub settled : (s : Plane) (steps : List ℕ) (g : Grid) (n : ℕ) → settings_check s steps g n ≡ Ok tt → Checked s steps g n
 unfolding settings_check deltas_check
 settled s steps g n e =
     let p1 = else_parts _ _ e in
@@ -129,7 +129,7 @@ pub plane_parts : (s : Plane) (steps : List ℕ) (g : Grid) (l : List ℕ) → p
 unfolding plane_check settings_check
 plane_parts s steps g l = simp else_joined
 
-pub checked : (s : Plane) (steps : List ℕ) (g : Grid) (l : List ℕ) → plane_check s steps g l ≡ Accepted → Checked s steps g (length l)
+pub checked : (s : Plane) (steps : List ℕ) (g : Grid) (l : List ℕ) → plane_check s steps g l ≡ Ok tt → Checked s steps g (length l)
 checked s steps g l e = settled s steps g (length l) (else_parts _ _ (sym (plane_parts s steps g l) ∙ e)).0
 
 -- what the check of the samples asks
@@ -139,7 +139,7 @@ checked_samples {s} {steps} {g} {n} k = (k.sizes_ok, k.depth, (lengths s g n k.l
 -- ---- the run
 
 -- a table of accepted steps has small thresholds
-levels : (d : ℕ) (steps t : List ℕ) {deltaq deltaside : ℤ} → depth_ok d ≡ true → steps_check steps ≡ Accepted → ByQindex d steps deltaq deltaside t → Levels t
+levels : (d : ℕ) (steps t : List ℕ) {deltaq deltaside : ℤ} → depth_ok d ≡ true → steps_check steps ≡ Ok tt → ByQindex d steps deltaq deltaside t → Levels t
 unfolding packed_of
 levels d steps t {deltaq} {deltaside} deep good by = record { q_most = λ k h. (one k h).0; side_most = λ k h. (one k h).1 }
   where
@@ -174,7 +174,7 @@ module _ {levels ts t : List ℕ} (is : IsTable levels ts t) where
       ap (λ (n : ℕ). eqb n 1) (rw e at made) ∙ is_one_by (starts_tile ts (length ts) c)
 
 -- a marked edge has room, where none lacks it
-module _ (s : Plane) (m z ts : List ℕ) (dir r c : ℕ) (clear : lacks_dir s (one_way m z [] ts) dir ≡ Nothing) (at : Inside s r c) where
+module _ (s : Plane) (m z ts : List ℕ) (dir r c : ℕ) (clear : lacks_dir s (one_way m z [] ts) dir ≡ None) (at : Inside s r c) where
   edge_clear : is_edge s (marked m) dir r c ≡ true → edge_room s (one_way m z [] ts) dir r c ≡ true
   unfolding lacks_dir lacks_row lacks_room is_edge marks_of
   edge_clear edge =
@@ -189,7 +189,7 @@ module _ (s : Plane) (m z ts : List ℕ) (dir r c : ℕ) (clear : lacks_dir s (o
       ∙ edge_clear edge
 
 module _ {s : Plane} {steps : List ℕ} (v h w t q ts ks : List ℕ) {n : ℕ} {table low : List ℕ} (k : Checked s steps (keeping v h w t q ts ks) n) (by : ByQindex s.depth steps s.deltaq s.deltaside low) (made : IsTable low ts table) where
-  no_lack : (lacks_dir s (one_way v w [] ts) 0 ≡ Nothing) × (lacks_dir s (one_way h t [] ts) 1 ≡ Nothing)
+  no_lack : (lacks_dir s (one_way v w [] ts) 0 ≡ None) × (lacks_dir s (one_way h t [] ts) 1 ≡ None)
   unfolding no_room lacks_dir lacks_row lacks_room is_edge marks_of edge_room index_at indices_of shortened_at pick
   no_lack = sooner_nothing _ _ k.room
 
@@ -234,7 +234,7 @@ module _ {s : Plane} {steps : List ℕ} (v h w t q ts ks : List ℕ) {n : ℕ} {
 -- ---- the entry
 
 module _ (s : Plane) (steps : List ℕ) (g : Grid) (l : List ℕ) {a : Answer} (is : a ≡ plane_check s steps g l) where
-  pub stated_refused : {r : Refusal} → a ≡ Refused r → Stated s steps g l (record { answer = Refused r; stored = 0; changed = 0 }) l
+  pub stated_refused : {r : Refusal} → a ≡ Err r → Stated s steps g l (Err r) l
   unfolding plane_after plane_stored plane_changed
   stated_refused e = record {
     answer = sym e ∙ is;
@@ -243,7 +243,7 @@ module _ (s : Plane) (steps : List ℕ) (g : Grid) (l : List ℕ) {a : Answer} (
     changed = settle_refused _ _ _ (sym e ∙ is);
   }
 
-  pub stated_run : {x : Visited} {m : List ℕ} → a ≡ Accepted → Filtered s steps g l x m → Stated s steps g l (record { answer = Accepted; stored = x.stored; changed = x.changed }) m
+  pub stated_run : {x : Visited} {m : List ℕ} → a ≡ Ok tt → Filtered s steps g l x m → Stated s steps g l (Ok (record { stored = x.stored; changed = x.changed })) m
   unfolding plane_after plane_stored plane_changed
   stated_run e run = record {
     answer = sym e ∙ is;
@@ -252,7 +252,7 @@ module _ (s : Plane) (steps : List ℕ) (g : Grid) (l : List ℕ) {a : Answer} (
     changed = settle_accepted _ _ _ _ (sym e ∙ is) run.changed;
   }
 
-  pub checked_by : a ≡ Accepted → Checked s steps g (length l)
+  pub checked_by : a ≡ Ok tt → Checked s steps g (length l)
   checked_by e = checked s steps g l (sym is ∙ e)
 
 pub ruleset entry = (rules, stated_refused, stated_run, checked_by)

@@ -12,8 +12,8 @@ use Rattle.laws.specs.Loops.{each}
 use Rattle.laws.specs.Lists.{Each, each_append, each_loop}
 use Rattle.rules.specs.declared.edge.Edge.{Edge}
 use Rattle.rules.specs.declared.settings.Plane.{Plane}
-use Rattle.rules.specs.declared.refusals.Answer.TheVariants.{Accepted}
-use Rattle.rules.specs.declared.refusals.Found.TheVariants.{Nothing}
+use Rattle.std.specs.declared.result.Result.TheVariants.{Ok}
+use Rattle.std.specs.declared.option.Option.TheVariants.{None}
 use Rattle.rules.specs.Thresholds.{q_threshold, side_threshold}
 use Rattle.rules.specs.Segment.{has_room}
 use Rattle.rules.specs.Plane.{Grid, is_edge, edge_at, visit_of, start_of, count_of, sb_cols, sweep_of, column_of, turn_of, edges_of, edge_room, lacks_room, lacks_row, lacks_dir, no_room, plane_check}
@@ -33,7 +33,7 @@ module _ (s : Plane) (steps : List ℕ) (g : Grid) (size : ℕ) (k : Checked s s
   abbrev pub Inside : Edge → Type 0
   Inside e = InPlane s.stride (4 * s.cols) (4 * s.rows) e size
 
-  module _ (dir r c : ℕ) (clear : lacks_dir s g dir ≡ Nothing) (at : Cell s r c) where
+  module _ (dir r c : ℕ) (clear : lacks_dir s g dir ≡ None) (at : Cell s r c) where
     room : is_edge s g dir r c ≡ true → edge_room s g dir r c ≡ true
     unfolding lacks_dir lacks_row lacks_room
     room edge =
@@ -60,12 +60,12 @@ module _ (s : Plane) (steps : List ℕ) (g : Grid) (size : ℕ) (k : Checked s s
         go true e = (inside e, tt)
         go false e = tt
 
-  pub both_clear : (lacks_dir s g 0 ≡ Nothing) × (lacks_dir s g 1 ≡ Nothing)
+  pub both_clear : (lacks_dir s g 0 ≡ None) × (lacks_dir s g 1 ≡ None)
   unfolding no_room
   both_clear = sooner_nothing _ _ k.room
 
   -- the edges of a part of the cells
-  pub sweep_inside : (dir row rows col cols : ℕ) → lacks_dir s g dir ≡ Nothing → row + rows ≤ s.rows → col + cols ≤ s.cols → Each Inside (sweep_of s steps g dir row rows col cols)
+  pub sweep_inside : (dir row rows col cols : ℕ) → lacks_dir s g dir ≡ None → row + rows ≤ s.rows → col + cols ≤ s.cols → Each Inside (sweep_of s steps g dir row rows col cols)
   unfolding sweep_of pick
   sweep_inside dir row rows col cols clear h m = go (eqb dir 0)
     where
@@ -80,7 +80,7 @@ module _ (s : Plane) (steps : List ℕ) (g : Grid) (size : ℕ) (k : Checked s s
           each_loop Inside cols (λ j. each rows (λ i. visit_of s steps g dir (row + i) (col + j))) (λ j b.
           each_loop Inside rows (λ i. visit_of s steps g dir (row + i) (col + j)) (λ i a. one i j a b))
 
-  column_inside : (dir sb : ℕ) → sb < sb_cols s → lacks_dir s g dir ≡ Nothing → Each Inside (column_of s steps g dir sb)
+  column_inside : (dir sb : ℕ) → sb < sb_cols s → lacks_dir s g dir ≡ None → Each Inside (column_of s steps g dir sb)
   unfolding column_of
   column_inside dir sb h clear = sweep_inside dir 0 s.rows (start_of s sb) (count_of s sb) clear (omega arith) (sb_end k.sizes_ok sb h)
 
@@ -100,5 +100,5 @@ module _ (s : Plane) (steps : List ℕ) (g : Grid) (size : ℕ) (k : Checked s s
       (column_inside 1 (sb_cols s - 1) (sb_last k.sizes_ok) both_clear.1)
 
 -- the same of an accepted plane
-pub every_edge : (s : Plane) (steps : List ℕ) (g : Grid) (l : List ℕ) → plane_check s steps g l ≡ Accepted → Each (λ e. InPlane s.stride (4 * s.cols) (4 * s.rows) e (length l)) (edges_of s steps g)
+pub every_edge : (s : Plane) (steps : List ℕ) (g : Grid) (l : List ℕ) → plane_check s steps g l ≡ Ok tt → Each (λ e. InPlane s.stride (4 * s.cols) (4 * s.rows) e (length l)) (edges_of s steps g)
 every_edge s steps g l e = edges_inside s steps g (length l) (checked s steps g l e)

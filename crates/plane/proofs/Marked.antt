@@ -8,7 +8,7 @@ use lib.ListN.{length, get_or, take}
 use Rattle.laws.specs.Lists.{Each}
 use Rattle.rules.specs.declared.edge.Edge.{Edge}
 use Rattle.rules.specs.declared.settings.Plane.{Plane}
-use Rattle.rules.specs.declared.refusals.Found.TheVariants.{Nothing}
+use Rattle.std.specs.declared.option.Option.TheVariants.{None}
 use Rattle.rules.specs.Numbers.{top_of}
 use Rattle.rules.specs.Segment.{kept_in, run_edges}
 use Rattle.rules.specs.Counts.{stored_by, changed_by}
@@ -19,7 +19,7 @@ use Rattle.plane_checks.specs.Fit.{bad_of}
 use Rattle.plane_checks.proofs.Marks.{none_bad}
 use Rattle.kept.proofs.Same.{marks_agree, run_same, stored_same, changed_same, run_holds}
 use Rattle.plane.specs.Checked.{Checked, Noted}
-use Rattle.plane.specs.declared.visited.Visited.{Visited}
+use Rattle.rules.specs.declared.counts.Visited.{Visited}
 use Rattle.plane.proofs.Everywhere.{edges_inside}
 
 -- ---- the run of a checked plane
@@ -57,7 +57,7 @@ module _ {s : Plane} {steps : List ℕ} (v h w t q ts ks : List ℕ) {n : ℕ} w
       }
 
 -- every mark of a checked plane is 0 or 1
-pub marks_good : {s : Plane} {steps : List ℕ} {g : Grid} {n : ℕ} → Checked s steps g n → bad_keep (s.rows * s.cols) g.keep ≡ Nothing
+pub marks_good : {s : Plane} {steps : List ℕ} {g : Grid} {n : ℕ} → Checked s steps g n → bad_keep (s.rows * s.cols) g.keep ≡ None
 unfolding bad_cell bad_of
 marks_good {s} {g = g} k = none_bad (s.rows * s.cols) g k.cells
 

@@ -9,7 +9,7 @@ use lib.ListN.{length, get_or}
 use Rattle.rules.specs.declared.edge.Edge.{Edge}
 use Rattle.rules.specs.declared.settings.Plane.{Plane}
 use Rattle.rules.specs.declared.refusals.Refusal.TheVariants.{Sample}
-use Rattle.rules.specs.declared.refusals.Answer.TheVariants.{Accepted}
+use Rattle.std.specs.declared.result.Result.TheVariants.{Ok}
 use Rattle.rules.specs.Numbers.{top_of}
 use Rattle.rules.specs.Refusals.{over_top, over_row, over_box}
 use Rattle.rules.specs.Plane.{Grid, kept_by, edges_of, run_plane, over_plane, plane_check}
@@ -29,7 +29,7 @@ run_length top stride kept [] l = refl
 run_length top stride kept (e ∷ es) l = run_length top stride kept es (segment_of top stride kept e l) ∙ edge_length top stride kept e l
 
 -- every sample of an accepted plane is within 0..top afterwards
-pub samples_stay : (s : Plane) (steps : List ℕ) (g : Grid) (l : List ℕ) → plane_check s steps g l ≡ Accepted → (x y : ℕ) → x < 4 * s.cols → y < 4 * s.rows → get_or (run_plane s steps g l) (y * s.stride + x) 0 ≤ top_of s.depth
+pub samples_stay : (s : Plane) (steps : List ℕ) (g : Grid) (l : List ℕ) → plane_check s steps g l ≡ Ok tt → (x y : ℕ) → x < 4 * s.cols → y < 4 * s.rows → get_or (run_plane s steps g l) (y * s.stride + x) 0 ≤ top_of s.depth
 unfolding run_plane plane_check over_plane over_box over_row
 samples_stay s steps g l e x y hx hy =
     let last = (else_parts _ _ (else_parts _ _ (else_parts _ _ (else_parts _ _ (else_parts _ _ (else_parts _ _ (else_parts _ _ (else_parts _ _ e).1).1).1).1).1).1).1).1 in

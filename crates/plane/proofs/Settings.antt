@@ -10,8 +10,8 @@ use mir.Val.{SFits, to_z, of_z}
 use mir.Facts.{to_z-of_z}
 use Rattle.laws.specs.Choose.{told_yes_not}
 use Rattle.rules.specs.declared.settings.Plane.{Plane}
-use Rattle.rules.specs.declared.refusals.Answer.{Answer}
-use Rattle.rules.specs.declared.refusals.Answer.TheVariants.{Accepted}
+use Rattle.rules.specs.Refusals.{Answer}
+use Rattle.std.specs.declared.result.Result.TheVariants.{Ok}
 use Rattle.rules.specs.Numbers.{depth_ok}
 use Rattle.rules.specs.Refusals.{or_else}
 use Rattle.rules.specs.Thresholds.{steps_check, deltas_check}
@@ -31,5 +31,5 @@ module _ (s : Plane) (steps : List ℕ) (g : Grid) (n : ℕ) {a b c : Bool} (d :
   past_lengths rest = go_on _ _ _ (unless_good _ _ (told_yes_not _ _ d d')) (go_on _ _ _ (unless_good _ _ (told_yes_not _ _ e e')) (go_on _ _ _ (unless_good _ _ (told_yes_not _ _ f f')) rest))
 
   -- and the steps and the deltas
-  pub past_deltas : {x y z : Answer} → y ≡ steps_check steps → y ≡ Accepted → z ≡ deltas_check s.deltaq s.deltaside → z ≡ Accepted → x ≡ or_else (tiles_check s.cols g.tiles) (grid_check s g) → x ≡ settings_check s steps g n
+  pub past_deltas : {x y z : Answer} → y ≡ steps_check steps → y ≡ Ok tt → z ≡ deltas_check s.deltaq s.deltaside → z ≡ Ok tt → x ≡ or_else (tiles_check s.cols g.tiles) (grid_check s g) → x ≡ settings_check s steps g n
   past_deltas {x} {y} {z} i i' j j' rest = past_lengths (go_on _ _ _ (accepted_by _ y i i') (go_on _ _ _ (accepted_by _ z j j') rest))

@@ -3,10 +3,13 @@
 use Rattle.std.specs.Prelude.{◌≡◌, true, List, length, ℕ, ◌+◌, ◌*◌, ◌≤◌}
 use Rattle.rules.specs.declared.settings.Plane.{Plane}
 use Rattle.rules.specs.declared.refusals.Refusal.TheVariants.{Cell, Room}
-use Rattle.rules.specs.declared.refusals.Answer.{Answer}
-use Rattle.rules.specs.declared.refusals.Answer.TheVariants.{Accepted}
-use Rattle.rules.specs.declared.refusals.PlaneAnswer.{PlaneAnswer}
-use Rattle.rules.specs.declared.refusals.Found.TheVariants.{Nothing}
+use Rattle.rules.specs.Refusals.{Answer}
+use Rattle.std.specs.declared.result.Result.TheVariants.{Ok}
+use Rattle.std.specs.declared.result.Result.{Result}
+use Rattle.rules.specs.declared.counts.Counts.{Counts}
+use Rattle.rules.specs.declared.refusals.Refusal.{Refusal}
+use Rattle.rules.specs.Refusals.{answered, changed_in, stored_in}
+use Rattle.std.specs.declared.option.Option.TheVariants.{None}
 use Rattle.rules.specs.Numbers.{depth_ok, delta_ok}
 use Rattle.rules.specs.Refusals.{or_else, found}
 use Rattle.rules.specs.Thresholds.{steps_check}
@@ -14,7 +17,7 @@ use Rattle.rules.specs.Plane.{Grid, tiles_check, bad_cell, no_room, plane_length
 use Rattle.cell_edges.specs.Cells.{Sizes}
 use Rattle.plane_checks.specs.Fit.{CellsLong}
 use Rattle.records.specs.Noted.{noted}
-use Rattle.plane.specs.declared.visited.Visited.{Visited}
+use Rattle.rules.specs.declared.counts.Visited.{Visited}
 
 -- depth, sizes and lengths are good
 pub record Sized (s : Plane) (n v h w t k : ℕ) : Type 0 where
@@ -32,12 +35,12 @@ pub record Checked (s : Plane) (steps : List ℕ) (g : Grid) (size : ℕ) : Type
   pub depth : depth_ok s.depth ≡ true
   pub sizes_ok : Sizes s
   pub lengths : plane_lengths_ok s g size ≡ true
-  pub steps_ok : steps_check steps ≡ Accepted
+  pub steps_ok : steps_check steps ≡ Ok tt
   pub deltaq_ok : delta_ok s.deltaq ≡ true
   pub deltaside_ok : delta_ok s.deltaside ≡ true
-  pub tiles_ok : tiles_check s.cols g.tiles ≡ Accepted
-  pub cells : bad_cell s g ≡ Nothing
-  pub room : no_room s g ≡ Nothing
+  pub tiles_ok : tiles_check s.cols g.tiles ≡ Ok tt
+  pub cells : bad_cell s g ≡ None
+  pub room : no_room s g ≡ None
 
 -- what a checked plane's run tells and leaves of the plane l: a and the plane m
 pub record Filtered (s : Plane) (steps : List ℕ) (g : Grid) (l : List ℕ) (a : Visited) (m : List ℕ) : Type 0 where
@@ -55,8 +58,8 @@ pub record Noted (s : Plane) (steps : List ℕ) (g : Grid) (l b : List ℕ) (a :
   pub changed : a.changed ≡ run_changed s steps g l
 
 -- all that the entry states: its answer a with the counts, and the plane afterwards m, of a plane l
-pub record Stated (s : Plane) (steps : List ℕ) (g : Grid) (l : List ℕ) (a : PlaneAnswer) (m : List ℕ) : Type 0 where
-  pub answer : a.answer ≡ plane_check s steps g l
+pub record Stated (s : Plane) (steps : List ℕ) (g : Grid) (l : List ℕ) (a : Result Counts Refusal) (m : List ℕ) : Type 0 where
+  pub answer : answered a ≡ plane_check s steps g l
   pub plane : m ≡ plane_after s steps g l
-  pub stored : a.stored ≡ plane_stored s steps g l
-  pub changed : a.changed ≡ plane_changed s steps g l
+  pub stored : stored_in a ≡ plane_stored s steps g l
+  pub changed : changed_in a ≡ plane_changed s steps g l

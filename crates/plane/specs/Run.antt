@@ -7,7 +7,7 @@ use Rattle.rules.specs.declared.edge.Edge.{Edge}
 use Rattle.rules.specs.declared.settings.Plane.{Plane}
 use Rattle.rules.specs.Numbers.{depth_ok, top_of}
 use Rattle.rules.specs.Lengths.{pair_of}
-use Rattle.rules.specs.declared.refusals.Answer.TheVariants.{Accepted}
+use Rattle.std.specs.declared.result.Result.TheVariants.{Ok}
 use Rattle.rules.specs.Thresholds.{steps_check}
 use Rattle.thresholds.specs.ByQindex.{ByQindex}
 use Rattle.rules.specs.Segment.{kept_in, run_edges}
@@ -17,7 +17,7 @@ use Rattle.cell_edges.specs.Cells.{Ready, Cell, one_way, sized, marked, short_by
 use Rattle.plane_checks.specs.Fit.{room_of}
 use Rattle.records.specs.Noted.{noted}
 use Rattle.plane.specs.declared.part.Part.{Part}
-use Rattle.plane.specs.declared.visited.Visited.{Visited}
+use Rattle.rules.specs.declared.counts.Visited.{Visited}
 
 -- ---- a table that is made once a plane
 
@@ -35,7 +35,7 @@ start_by t c = eqb (get_or t (1416 + c) 0) 1
 -- a table for a plane's depth and deltas, an accepted step table, and a list of tile starts
 pub record Table (s : Plane) (steps ts t : List ℕ) : Type 0 where
   pub entries : ByQindex s.depth steps s.deltaq s.deltaside t
-  pub accepted : steps_check steps ≡ Accepted
+  pub accepted : steps_check steps ≡ Ok tt
   pub starts : (c : ℕ) → c < s.cols → start_by t c ≡ starts_tile ts (length ts) c
 
 -- no threshold of it is too large

@@ -12,7 +12,7 @@ use plane_checks::samples::over_plane;
 use plane_checks::sizes::{lengths_ok, sizes_ok};
 use plane_checks::starts::tiles_check;
 use rules::depth::Depth;
-use rules::refusals::{Answer, Found, Refusal};
+use rules::refusals::Refusal;
 use rules::settings::Plane;
 use thresholds::tests::{deltas_check, steps_check};
 
@@ -25,19 +25,19 @@ fn grid_check(
     tiles: &[u16],
     keep: &[u8],
     s: Plane,
-) -> Answer
+) -> Result<(), Refusal>
     requires { Sizes s × CellsLong (s.rows * s.cols) (length vedge.now) (length hedge.now) (length sqw.now) (length sqh.now) (length keep.now) }
     ensures { (q : List ℕ) → result ≡ grid_check s (keeping vedge.now hedge.now sqw.now sqh.now q tiles.now keep.now) }
 {
     let bad = bad_cell(vedge, hedge, sqw, sqh, keep, s);
-    if let Found::At(k) = bad {
-        return Answer::Refused(Refusal::Cell(k));
+    if let Some(k) = bad {
+        return Err(Refusal::Cell(k));
     }
     let narrow = no_room(vedge, hedge, sqw, sqh, tiles, s);
-    if let Found::At(k) = narrow {
-        return Answer::Refused(Refusal::Room(k));
+    if let Some(k) = narrow {
+        return Err(Refusal::Room(k));
     }
-    Answer::Accepted
+    Ok(())
 }
 
 // The first refusal of a plane by 1 to 7, which look at none of its samples, or none.
@@ -52,30 +52,21 @@ pub fn settings_check(
     keep: &[u8],
     steps: &[u32],
     s: Plane,
-) -> Answer
+) -> Result<(), Refusal>
     ensures { result ≡ settings_check s steps.now (keeping vedge.now hedge.now sqw.now sqh.now qindex.now tiles.now keep.now) (length plane.now) }
 {
     if !Depth::is(s.depth) {
-        return Answer::Refused(Refusal::Depth);
+        return Err(Refusal::Depth);
     }
     if !sizes_ok(s) {
-        return Answer::Refused(Refusal::Size);
+        return Err(Refusal::Size);
     }
     if !lengths_ok(plane, vedge, hedge, sqw, sqh, qindex, keep, s) {
-        return Answer::Refused(Refusal::Length);
+        return Err(Refusal::Length);
     }
-    let table = steps_check(steps);
-    if let Answer::Refused(r) = table {
-        return Answer::Refused(r);
-    }
-    let deltas = deltas_check(s.deltaq, s.deltaside);
-    if let Answer::Refused(r) = deltas {
-        return Answer::Refused(r);
-    }
-    let starts = tiles_check(tiles, s.cols);
-    if let Answer::Refused(r) = starts {
-        return Answer::Refused(r);
-    }
+    steps_check(steps)?;
+    deltas_check(s.deltaq, s.deltaside)?;
+    tiles_check(tiles, s.cols)?;
     grid_check(vedge, hedge, sqw, sqh, tiles, keep, s)
 }
 
@@ -91,16 +82,13 @@ pub fn plane_check(
     keep: &[u8],
     steps: &[u32],
     s: Plane,
-) -> Answer
+) -> Result<(), Refusal>
     ensures { result ≡ plane_check s steps.now (keeping vedge.now hedge.now sqw.now sqh.now qindex.now tiles.now keep.now) plane.now }
 {
-    let given = settings_check(plane, vedge, hedge, sqw, sqh, qindex, tiles, keep, steps, s);
-    if let Answer::Refused(r) = given {
-        return Answer::Refused(r);
-    }
+    settings_check(plane, vedge, hedge, sqw, sqh, qindex, tiles, keep, steps, s)?;
     let over = over_plane(plane, s);
-    if let Found::At(k) = over {
-        return Answer::Refused(Refusal::Sample(k));
+    if let Some(k) = over {
+        return Err(Refusal::Sample(k));
     }
-    Answer::Accepted
+    Ok(())
 }

@@ -7,9 +7,6 @@ mod table;
 // The edge of a cell, with its thresholds.
 mod edge;
 
-// What a run tells.
-mod visited;
-
 // Parts of the cells.
 mod part;
 
@@ -27,4 +24,3 @@ pub use order::sweep;
 pub use part::Part;
 pub use run::{deblock_plane, run_noted, run_plane};
 pub use table::table_of;
-pub use visited::Visited;

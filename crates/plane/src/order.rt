@@ -9,10 +9,10 @@ ghost use Rattle.plane.specs.Run.{start_by, Field, PartOf, InPart, in_line, line
 
 use crate::edge::edge_at;
 use crate::part::{Part, superblock};
-use crate::visited::Visited;
 use cell_edges::pair::{by_dir, is_edge, shortened_by};
 use kept::filter_marked;
 use records::note;
+use rules::counts::Visited;
 use rules::depth::Depth;
 use rules::settings::Plane;
 

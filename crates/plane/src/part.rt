@@ -4,7 +4,6 @@ ghost use Rattle.rules.specs.Plane.{sb_cols};
 ghost use Rattle.cell_edges.specs.Cells.{Sizes};
 ghost use Rattle.plane.specs.Run.{superblock_of};
 
-use laws::least;
 use rules::settings::Plane;
 
 // So many rows from a row, and so many columns from a column.
@@ -26,6 +25,6 @@ pub fn superblock(s: Plane, sb: usize) -> Part
         row: 0,
         rows: s.rows,
         col: start,
-        cols: least(s.sbw, s.cols - start),
+        cols: s.sbw.min(s.cols - start),
     }
 }

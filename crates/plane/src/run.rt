@@ -6,10 +6,10 @@ ghost use Rattle.plane.specs.Checked.{Checked, Noted, Filtered, Stated};
 use crate::check::plane_check;
 use crate::order::run;
 use crate::table::table_of;
-use crate::visited::Visited;
 use checks::asked;
+use rules::counts::{Counts, Visited};
 use rules::depth::Depth;
-use rules::refusals::{Answer, PlaneAnswer};
+use rules::refusals::Refusal;
 use rules::settings::Plane;
 use thresholds::by_qindex::thresholds_by_qindex;
 
@@ -92,21 +92,13 @@ pub fn deblock_plane(
     keep: &[u8],
     steps: &[u32],
     s: Plane,
-) -> PlaneAnswer
+) -> Result<Counts, Refusal>
     ensures { Stated s steps.now (keeping vedge.now hedge.now sqw.now sqh.now qindex.now tiles.now keep.now) plane.old result plane.new }
 {
-    let a = plane_check(plane, vedge, hedge, sqw, sqh, qindex, tiles, keep, steps, s);
-    if let Answer::Refused(r) = a {
-        return PlaneAnswer {
-            answer: Answer::Refused(r),
-            stored: 0,
-            changed: 0,
-        };
-    }
+    plane_check(plane, vedge, hedge, sqw, sqh, qindex, tiles, keep, steps, s)?;
     let done = run_plane(plane, vedge, hedge, sqw, sqh, qindex, tiles, keep, steps, s);
-    PlaneAnswer {
-        answer: Answer::Accepted,
+    Ok(Counts {
         stored: done.stored,
         changed: done.changed,
-    }
+    })
 }

@@ -14,8 +14,8 @@ use lib.ListN.{get_or}
 use Rattle.laws.specs.Choose.{all_bad, all_ok, all_none, all_later, all_parts, is_le, not_le, not_lt, told_yes_not, told_no_not}
 use Rattle.laws.specs.Largest.{largest, largest_none}
 use Rattle.rules.specs.declared.settings.Plane.{Plane}
-use Rattle.rules.specs.declared.refusals.Found.{Found}
-use Rattle.rules.specs.declared.refusals.Found.TheVariants.{Nothing}
+use Rattle.std.specs.declared.option.Option.{Option}
+use Rattle.std.specs.declared.option.Option.TheVariants.{None}
 use Rattle.rules.specs.Refusals.{found_if, found_unless, over_top}
 use Rattle.rules.specs.Plane.{Grid, keeping, cell_good, bad_cell, bad_keep}
 use Rattle.checks.proofs.Bytes.{most_more, under_most as under_all}
@@ -87,7 +87,7 @@ pub every_small : (l : List ℕ) (n m k : ℕ) → leb (largest l 0 n) m ≡ tru
 every_small l n m k e h =
     let u = under_all l n k h in let t = leb-true (largest l 0 n) m e in is_le (get_or l k 0) m (omega arith)
 
-pub small_none : (n : ℕ) (g : Grid) (b : Bool) → b ≡ small n g → b ≡ true → Nothing ≡ bad_of n g
+pub small_none : (n : ℕ) (g : Grid) (b : Bool) → b ≡ small n g → b ≡ true → None ≡ bad_of n g
 unfolding bad_of cell_good small
 small_none n g b e t =
     let p = all_parts _ _ (sym e ∙ t) in
@@ -106,7 +106,7 @@ small_none n g b e t =
 -- ---- good cells
 
 -- what a grid without a bad cell gives
-pub none_good : (n : ℕ) (g : Grid) → bad_of n g ≡ Nothing → (k : ℕ) → k < n → (get_or g.sqw k 0 ≤ 6) × (get_or g.sqh k 0 ≤ 6)
+pub none_good : (n : ℕ) (g : Grid) → bad_of n g ≡ None → (k : ℕ) → k < n → (get_or g.sqw k 0 ≤ 6) × (get_or g.sqh k 0 ≤ 6)
 unfolding bad_of cell_good
 none_good n g e k h =
     let t = unless_nothing _ k (nothing_all (λ i. found_unless (cell_good g i) i) n e k h) in
@@ -115,7 +115,7 @@ none_good n g e k h =
     (leb-true _ _ q.0, leb-true _ _ (all_parts _ _ q.1).0)
 
 -- its keep marks are good too
-pub none_bad : (n : ℕ) (g : Grid) → bad_of n g ≡ Nothing → bad_keep n g.keep ≡ Nothing
+pub none_bad : (n : ℕ) (g : Grid) → bad_of n g ≡ None → bad_keep n g.keep ≡ None
 unfolding bad_of bad_keep cell_good over_top
 none_bad n g e =
     all_nothing (λ i. found_if (ltb 1 (get_or g.keep i 0)) i) n (λ i h.
@@ -124,7 +124,7 @@ none_bad n g e =
     sym (found_if_not _ i (not_lt 1 (get_or g.keep i 0) (leb-true _ _ (all_parts _ _ p.1).0))))
 
 -- no qindex and no tile is looked at
-pub bad_is : (s : Plane) (v h w t ks : List ℕ) (r : Found) → r ≡ bad_of (s.rows * s.cols) (keeping v h w t [] [] ks) → (q ts : List ℕ) → r ≡ bad_cell s (keeping v h w t q ts ks)
+pub bad_is : (s : Plane) (v h w t ks : List ℕ) (r : Option ℕ) → r ≡ bad_of (s.rows * s.cols) (keeping v h w t [] [] ks) → (q ts : List ℕ) → r ≡ bad_cell s (keeping v h w t q ts ks)
 unfolding bad_cell bad_of cell_good
 bad_is s v h w t ks r e q ts = e
 

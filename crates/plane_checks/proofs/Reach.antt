@@ -12,8 +12,8 @@ use lib.Dec.{eqb, leb, ltb}
 use lib.ListN.{get_or}
 use Rattle.laws.specs.Choose.{pick, both, all, both_parts, pick_yes, pick_no, all_ok, all_none, is_le, is_lt, not_lt, both_bad, both_ok, both_later, told_yes_not, told_no_not, told_yes, told_no}
 use Rattle.rules.specs.declared.settings.Plane.{Plane}
-use Rattle.rules.specs.declared.refusals.Found.{Found}
-use Rattle.rules.specs.declared.refusals.Found.TheVariants.{At, Nothing}
+use Rattle.std.specs.declared.option.Option.{Option}
+use Rattle.std.specs.declared.option.Option.TheVariants.{Some, None}
 use Rattle.rules.specs.Lengths.{length_before, length_after, reach_of, pair_of, reach_before, reach_after}
 use Rattle.rules.specs.Refusals.{first, sooner}
 use Rattle.rules.specs.Segment.{has_room, room_along}
@@ -51,7 +51,7 @@ edge_room_is s m z q ts dir r c = refl
 
 -- a cell's answer, from its mark and its room
 module _ (s : Plane) (m z ts : List ℕ) (dir r c : ℕ) {t : Bool} (edge : t ≡ is_edge s (marked m) dir r c) where
-  pub lacks_none : not t ≡ true → Nothing ≡ lacks_room s (one_way m z [] ts) dir r c
+  pub lacks_none : not t ≡ true → None ≡ lacks_room s (one_way m z [] ts) dir r c
   unfolding lacks_room is_edge marks_of
   lacks_none f = found_unless_not _ _ (pick_no _ _ _ _ (told_no_not _ t edge f) refl)
 
@@ -59,11 +59,11 @@ module _ (s : Plane) (m z ts : List ℕ) (dir r c : ℕ) {t : Bool} (edge : t �
     has : u ≡ edge_room s (one_way m z [] ts) dir r c
     has = room ∙ ap (λ (b : Bool). room_of s z b dir r c) short ∙ edge_room_is s m z [] ts dir r c
 
-    pub lacks_not : u ≡ true → Nothing ≡ lacks_room s (one_way m z [] ts) dir r c
+    pub lacks_not : u ≡ true → None ≡ lacks_room s (one_way m z [] ts) dir r c
     unfolding lacks_room is_edge marks_of
     lacks_not e = found_unless_not _ _ (pick_yes _ _ _ _ (told_yes_not _ t edge f) (told_yes _ u has e))
 
-    pub lacks_it : {i : ℕ} → u ≡ false → i ≡ cell_of s r c → At i ≡ lacks_room s (one_way m z [] ts) dir r c
+    pub lacks_it : {i : ℕ} → u ≡ false → i ≡ cell_of s r c → Some i ≡ lacks_room s (one_way m z [] ts) dir r c
     unfolding lacks_room is_edge marks_of
     lacks_it e q = rw q (found_unless_holds _ _ (pick_yes _ _ _ _ (told_yes_not _ t edge f) (told_no _ u has e)))
 
@@ -93,11 +93,11 @@ module _ (s : Plane) (g : Grid) (dir r c : ℕ) (k : Cell s r c) where
       go false some' mid' hb ha = middle_along s r c s.rows s.cols _ _ some' k.in_rows k.in_cols hb ha mid'.0 mid'.1
 
   -- the first column or row has no edges
-  pub first_line : pick (eqb dir 0) c r ≡ 0 → lacks_room s g dir r c ≡ Nothing
+  pub first_line : pick (eqb dir 0) c r ≡ 0 → lacks_room s g dir r c ≡ None
   unfolding lacks_room is_edge
   first_line e = sym (found_unless_not _ _ (pick_no _ _ _ _ (both_bad _ _ (not_lt 0 (pick (eqb dir 0) c r) (omega arith))) refl))
 
-  pub middle : Middle s dir r c → lacks_room s g dir r c ≡ Nothing
+  pub middle : Middle s dir r c → lacks_room s g dir r c ≡ None
   unfolding lacks_room is_edge pick
   middle mid = sym (found_unless_not _ _ (go (is_edge s g dir r c) refl))
     where
@@ -147,7 +147,7 @@ module _ (s : Plane) (g : Grid) (dir r c : ℕ) (k : Cell s r c) (low : get_or (
       go true some' hb ha = short_along c r s.cols s.rows _ _ some' k.in_cols k.in_rows hb ha
       go false some' hb ha = short_along r c s.rows s.cols _ _ some' k.in_rows k.in_cols hb ha
 
-  short_has : Nothing ≡ lacks_room s g dir r c
+  short_has : None ≡ lacks_room s g dir r c
   unfolding lacks_room is_edge pick
   short_has = found_unless_not _ _ (go (is_edge s g dir r c) refl)
     where
@@ -166,45 +166,45 @@ module _ (s : Plane) (m z : List ℕ) (r c : ℕ) {i : ℕ} (at : i ≡ cell_of 
   may_marked h = both_ok _ _ _ (rw (← at) (is_lt 1 (get_or z i 0) h)) (rw (← at))
 
 -- a cell that is not marked, and so any that fails the test, lacks no room
-unmarked : (s : Plane) (m z ts : List ℕ) (dir r c : ℕ) → false ≡ eqb (get_or m (cell_of s r c) 0) 1 → Nothing ≡ lacks_room s (one_way m z [] ts) dir r c
+unmarked : (s : Plane) (m z ts : List ℕ) (dir r c : ℕ) → false ≡ eqb (get_or m (cell_of s r c) 0) 1 → None ≡ lacks_room s (one_way m z [] ts) dir r c
 unfolding lacks_room is_edge
 unmarked s m z ts dir r c q = found_unless_not _ _ (pick_no _ _ _ _ (both_later _ _ (rw (marks_one dir m z [] ts) q)) refl)
 
-pub may_none : (s : Plane) (m z ts : List ℕ) (dir r c : ℕ) {t : Bool} → Cell s r c → t ≡ may_lack s m z r c → not t ≡ true → Nothing ≡ lacks_room s (one_way m z [] ts) dir r c
+pub may_none : (s : Plane) (m z ts : List ℕ) (dir r c : ℕ) {t : Bool} → Cell s r c → t ≡ may_lack s m z r c → not t ≡ true → None ≡ lacks_room s (one_way m z [] ts) dir r c
 unfolding may_lack both
 may_none s m z ts dir r c {t} k e f = go (ltb 1 (get_or z (cell_of s r c) 0)) refl
   where
-    go : (u : Bool) → ltb 1 (get_or z (cell_of s r c) 0) ≡ u → Nothing ≡ lacks_room s (one_way m z [] ts) dir r c
+    go : (u : Bool) → ltb 1 (get_or z (cell_of s r c) 0) ≡ u → None ≡ lacks_room s (one_way m z [] ts) dir r c
     go false l = short_has s (one_way m z [] ts) dir r c k (rw (indices_one dir m z [] ts) (ltb-false 1 _ l))
     go true l = unmarked s m z ts dir r c (told_no_not _ t (e ∙ ap (λ (u : Bool). both u (eqb (get_or m (cell_of s r c) 0) 1)) l) f)
 
 -- a search that can find something at 1 and at n - 1 alone
-pub record Ends (n : ℕ) (f : ℕ → Found) : Type 0 where
-  pub others : (k : ℕ) → k < n → (k ≡ 1 → ⊥) → (k + 1 ≡ n → ⊥) → f k ≡ Nothing
-  pub start : 1 ≤ n → f 0 ≡ Nothing
+pub record Ends (n : ℕ) (f : ℕ → Option ℕ) : Type 0 where
+  pub others : (k : ℕ) → k < n → (k ≡ 1 → ⊥) → (k + 1 ≡ n → ⊥) → f k ≡ None
+  pub start : 1 ≤ n → f 0 ≡ None
 
-module _ (n : ℕ) (f : ℕ → Found) (e : Ends n f) where
-  up_to : (m : ℕ) → m + 1 ≤ n → f 1 ≡ Nothing → first m f ≡ Nothing
+module _ (n : ℕ) (f : ℕ → Option ℕ) (e : Ends n f) where
+  up_to : (m : ℕ) → m + 1 ≤ n → f 1 ≡ None → first m f ≡ None
   up_to m h one = all_nothing f m (λ k lt. elim (ℕ_discrete k 1) [
     | yes q ↦ rw q one
     | no a ↦ e.others k (omega arith) a (omega arith)
   ])
 
-  pub ends_none : n < 2 → Nothing ≡ first n f
+  pub ends_none : n < 2 → None ≡ first n f
   ends_none h = sym (all_nothing f n (λ k lt. let z : k ≡ 0 = omega arith in rw z (e.start (omega arith))))
 
-  pub ends_first : {r : Found} {k : ℕ} → 2 ≤ n → r ≡ f 1 → r ≡ At k → At k ≡ first n f
+  pub ends_first : {r : Option ℕ} {k : ℕ} → 2 ≤ n → r ≡ f 1 → r ≡ Some k → Some k ≡ first n f
   ends_first h a b = first_found f 1 n (all_nothing f 1 (λ i lt. let z : i ≡ 0 = omega arith in rw z (e.start (omega arith)))) (sym b ∙ a) h
 
-  pub ends_second : {r x : Found} → 2 ≤ n → r ≡ f 1 → r ≡ Nothing → x ≡ f (n - 1) → x ≡ first n f
+  pub ends_second : {r x : Option ℕ} → 2 ≤ n → r ≡ f 1 → r ≡ None → x ≡ f (n - 1) → x ≡ first n f
   ends_second {r} {x} h a b q = go x q
     where
-      before : first (n - 1) f ≡ Nothing
+      before : first (n - 1) f ≡ None
       before = up_to (n - 1) (omega arith) (sym a ∙ b)
 
-      go : (y : Found) → y ≡ f (n - 1) → y ≡ first n f
-      go (At k) q' = first_found f (n - 1) n before q' (omega arith)
-      go Nothing q' = sym (all_nothing f n (λ k lt. elim (ℕ_discrete (k + 1) n) [
+      go : (y : Option ℕ) → y ≡ f (n - 1) → y ≡ first n f
+      go (Some k) q' = first_found f (n - 1) n before q' (omega arith)
+      go None q' = sym (all_nothing f n (λ k lt. elim (ℕ_discrete (k + 1) n) [
         | yes l ↦ let z : k ≡ n - 1 = omega arith in rw z (sym q')
         | no l ↦ elim (ℕ_discrete k 1) [
           | yes o ↦ rw o (sym a ∙ b)
@@ -221,7 +221,7 @@ module _ (s : Plane) (g : Grid) where
     start = λ lt. first_line s g 0 r 0 (record { in_rows = h; in_cols = lt }) refl;
   }
 
-  row_none : (r : ℕ) → ((c : ℕ) → c < s.cols → lacks_room s g 1 r c ≡ Nothing) → lacks_row s g 1 r ≡ Nothing
+  row_none : (r : ℕ) → ((c : ℕ) → c < s.cols → lacks_room s g 1 r c ≡ None) → lacks_row s g 1 r ≡ None
   unfolding lacks_row
   row_none r f = all_nothing (λ c. lacks_room s g 1 r c) s.cols f
 
@@ -234,34 +234,34 @@ module _ (s : Plane) (g : Grid) where
 
   -- the same, as a row's and a direction's answer
   module _ (r : ℕ) (h : r < s.rows) where
-    pub columns_none : s.cols < 2 → Nothing ≡ lacks_row s g 0 r
+    pub columns_none : s.cols < 2 → None ≡ lacks_row s g 0 r
     unfolding lacks_row
     columns_none few = ends_none _ _ (ends_columns r h) few
 
-    module _ {f : Found} (some : 2 ≤ s.cols) (one : f ≡ lacks_room s g 0 r 1) where
-      pub columns_first : {k : ℕ} → f ≡ At k → At k ≡ lacks_row s g 0 r
+    module _ {f : Option ℕ} (some : 2 ≤ s.cols) (one : f ≡ lacks_room s g 0 r 1) where
+      pub columns_first : {k : ℕ} → f ≡ Some k → Some k ≡ lacks_row s g 0 r
       unfolding lacks_row
       columns_first e = ends_first _ _ (ends_columns r h) some one e
 
-      pub columns_last : {x : Found} → f ≡ Nothing → x ≡ lacks_room s g 0 r (s.cols - 1) → x ≡ lacks_row s g 0 r
+      pub columns_last : {x : Option ℕ} → f ≡ None → x ≡ lacks_room s g 0 r (s.cols - 1) → x ≡ lacks_row s g 0 r
       unfolding lacks_row
       columns_last e q = ends_second _ _ (ends_columns r h) some one e q
 
-  pub rows_none : s.rows < 2 → Nothing ≡ lacks_dir s g 1
+  pub rows_none : s.rows < 2 → None ≡ lacks_dir s g 1
   unfolding lacks_dir
   rows_none few = ends_none _ _ ends_rows few
 
-  module _ {f : Found} (some : 2 ≤ s.rows) (one : f ≡ lacks_row s g 1 1) where
-    pub rows_first : {k : ℕ} → f ≡ At k → At k ≡ lacks_dir s g 1
+  module _ {f : Option ℕ} (some : 2 ≤ s.rows) (one : f ≡ lacks_row s g 1 1) where
+    pub rows_first : {k : ℕ} → f ≡ Some k → Some k ≡ lacks_dir s g 1
     unfolding lacks_dir
     rows_first e = ends_first _ _ ends_rows some one e
 
-    pub rows_last : {x : Found} → f ≡ Nothing → x ≡ lacks_row s g 1 (s.rows - 1) → x ≡ lacks_dir s g 1
+    pub rows_last : {x : Option ℕ} → f ≡ None → x ≡ lacks_row s g 1 (s.rows - 1) → x ≡ lacks_dir s g 1
     unfolding lacks_dir
     rows_last e q = ends_second _ _ ends_rows some one e q
 
 -- both directions, of any qindex and keep marks; no tile is looked at in direction 1
-pub room_is : (s : Plane) (v h w t ts : List ℕ) (r : Found) → r ≡ sooner (lacks_dir s (one_way v w [] ts) 0) (lacks_dir s (one_way h t [] []) 1) → (q ks : List ℕ) → r ≡ no_room s (keeping v h w t q ts ks)
+pub room_is : (s : Plane) (v h w t ts : List ℕ) (r : Option ℕ) → r ≡ sooner (lacks_dir s (one_way v w [] ts) 0) (lacks_dir s (one_way h t [] []) 1) → (q ks : List ℕ) → r ≡ no_room s (keeping v h w t q ts ks)
 unfolding no_room lacks_dir lacks_row lacks_room is_edge marks_of edge_room index_at indices_of shortened_at pick
 room_is s v h w t ts r e q ks = e
 

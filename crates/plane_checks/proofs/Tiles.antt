@@ -11,9 +11,9 @@ use lib.Dec.{eqb, ltb}
 use lib.ListN.{length, get_or}
 use Rattle.laws.specs.Choose.{pick, is_lt, not_lt, both_bad, both_ok, both_parts}
 use Rattle.rules.specs.declared.refusals.Refusal.TheVariants.{Setting}
-use Rattle.rules.specs.declared.refusals.Answer.TheVariants.{Accepted, Refused}
-use Rattle.rules.specs.declared.refusals.Found.{Found}
-use Rattle.rules.specs.declared.refusals.Found.TheVariants.{At}
+use Rattle.std.specs.declared.result.Result.TheVariants.{Ok, Err}
+use Rattle.std.specs.declared.option.Option.{Option}
+use Rattle.std.specs.declared.option.Option.TheVariants.{Some}
 use Rattle.rules.specs.Refusals.{found_unless}
 use Rattle.rules.specs.Plane.{start_good, bad_start, tiles_check}
 use Rattle.checks.proofs.First.{nothing_all, unless_nothing}
@@ -32,14 +32,14 @@ module _ (cols : ℕ) (ts : List ℕ) (k : ℕ) {a b : ℕ} (read : a ≡ get_or
 pub ruleset good = (rules, start_low, start_last)
 
 -- refusal 5, by the start found
-pub start_bad : (cols : ℕ) (ts : List ℕ) (f : Found) {k : ℕ} → f ≡ bad_start cols ts → f ≡ At k → Refused Setting ≡ tiles_check cols ts
+pub start_bad : (cols : ℕ) (ts : List ℕ) (f : Option ℕ) {k : ℕ} → f ≡ bad_start cols ts → f ≡ Some k → Err Setting ≡ tiles_check cols ts
 unfolding tiles_check
 start_bad cols ts f e h = found_bad_by (bad_start cols ts) f (λ k. Setting) Setting e h refl
 
 pub ruleset checking = (rules, start_bad)
 
 -- an accepted list's starts are columns
-pub starts_below : (cols : ℕ) (ts : List ℕ) → tiles_check cols ts ≡ Accepted → (k : ℕ) → k < length ts → get_or ts k 0 < cols
+pub starts_below : (cols : ℕ) (ts : List ℕ) → tiles_check cols ts ≡ Ok tt → (k : ℕ) → k < length ts → get_or ts k 0 < cols
 unfolding tiles_check bad_start start_good
 starts_below cols ts e k h =
     let none = found_nothing (bad_start cols ts) (λ i. Setting) e in

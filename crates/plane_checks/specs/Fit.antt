@@ -7,7 +7,7 @@ use Rattle.rules.specs.declared.settings.Plane.{Plane}
 use Rattle.rules.specs.Lengths.{pair_of}
 use Rattle.rules.specs.Segment.{has_room}
 use Rattle.rules.specs.Plane.{Grid, cell_of, cell_good, index_at}
-use Rattle.rules.specs.declared.refusals.Found.{Found}
+use Rattle.std.specs.declared.option.Option.{Option}
 use Rattle.rules.specs.Refusals.{first, found_unless}
 use Rattle.cell_edges.specs.Cells.{sized}
 
@@ -31,7 +31,7 @@ small count g =
     ∷ [])
 
 -- the first of count cells that is not good
-unfoldable pub bad_of : ℕ → Grid → Found
+unfoldable pub bad_of : ℕ → Grid → Option ℕ
 bad_of count g = first count (λ k. found_unless (cell_good g k) k)
 
 -- whether it has room

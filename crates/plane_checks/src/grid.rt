@@ -4,8 +4,6 @@ ghost use Rattle.rules.specs.Plane.{keeping, cell_good, bad_cell};
 ghost use Rattle.cell_edges.specs.Cells.{Sizes};
 ghost use Rattle.plane_checks.specs.Fit.{CellsLong, small, bad_of};
 
-use checks::larger;
-use rules::refusals::Found;
 use rules::settings::Plane;
 
 // Whether no number of the grid is too large, by the largest mark and the largest size index: all lists in one loop, which is shorter than one for each.
@@ -16,8 +14,8 @@ fn all_good(vedge: &[u8], hedge: &[u8], sqw: &[u8], sqh: &[u8], keep: &[u8], cou
     let mut mark: u8 = 0;
     let mut size: u8 = 0;
     for k in 0..count {
-        mark = larger(mark, larger(vedge[k], larger(hedge[k], keep[k])));
-        size = larger(size, larger(sqw[k], sqh[k]));
+        mark = mark.max(vedge[k].max(hedge[k].max(keep[k])));
+        size = size.max(sqw[k].max(sqh[k]));
     }
     if 1 < mark {
         return false;
@@ -46,26 +44,40 @@ fn cell_good(vedge: &[u8], hedge: &[u8], sqw: &[u8], sqh: &[u8], keep: &[u8], k:
 }
 
 // The first of count cells that is not good.
-fn first_bad(vedge: &[u8], hedge: &[u8], sqw: &[u8], sqh: &[u8], keep: &[u8], count: usize) -> Found
+fn first_bad(
+    vedge: &[u8],
+    hedge: &[u8],
+    sqw: &[u8],
+    sqh: &[u8],
+    keep: &[u8],
+    count: usize,
+) -> Option<usize>
     requires { CellsLong count (length vedge.now) (length hedge.now) (length sqw.now) (length sqh.now) (length keep.now) }
     ensures { result ≡ bad_of count (keeping vedge.now hedge.now sqw.now sqh.now [] [] keep.now) }
 {
     for k in 0..count {
         if !cell_good(vedge, hedge, sqw, sqh, keep, k) {
-            return Found::At(k);
+            return Some(k);
         }
     }
-    Found::Nothing
+    None
 }
 
 // The first bad cell of a plane's grid, whatever its qindex and tiles: the largest numbers first, since a cell is seldom bad, and the place only where one is.
-pub fn bad_cell(vedge: &[u8], hedge: &[u8], sqw: &[u8], sqh: &[u8], keep: &[u8], s: Plane) -> Found
+pub fn bad_cell(
+    vedge: &[u8],
+    hedge: &[u8],
+    sqw: &[u8],
+    sqh: &[u8],
+    keep: &[u8],
+    s: Plane,
+) -> Option<usize>
     requires { Sizes s × CellsLong (s.rows * s.cols) (length vedge.now) (length hedge.now) (length sqw.now) (length sqh.now) (length keep.now) }
     ensures { (q ts : List ℕ) → result ≡ bad_cell s (keeping vedge.now hedge.now sqw.now sqh.now q ts keep.now) }
 {
     let count = s.rows * s.cols;
     if all_good(vedge, hedge, sqw, sqh, keep, count) {
-        return Found::Nothing;
+        return None;
     }
     first_bad(vedge, hedge, sqw, sqh, keep, count)
 }

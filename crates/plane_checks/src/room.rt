@@ -9,7 +9,6 @@ ghost use Rattle.plane_checks.specs.Fit.{room_of, may_lack};
 
 use cell_edges::pair::{cell_of, is_edge, pair_at, shortened_at};
 use lengths::pairs::{reach_after, reach_before};
-use rules::refusals::Found;
 use rules::settings::Plane;
 
 // Whether both reaches lie in the plane along an edge's lines, and the four lines beside each other.
@@ -49,18 +48,18 @@ fn lacks_room(
     dir: usize,
     r: usize,
     c: usize,
-) -> Found
+) -> Option<usize>
     requires { Ready s marks.now sizes.now × Cell s r c }
     ensures { result ≡ lacks_room s (one_way marks.now sizes.now [] tiles.now) dir r c }
 {
     if !is_edge(marks, s, dir, r, c) {
-        return Found::Nothing;
+        return None;
     }
     let shortened = shortened_at(tiles, s, dir, r, c);
     if edge_room(sizes, s, shortened, dir, r, c) {
-        return Found::Nothing;
+        return None;
     }
-    Found::At(cell_of(s, r, c))
+    Some(cell_of(s, r, c))
 }
 
 // Whether a cell is marked and of a size index over 1: other cells have no edge that lacks room.
@@ -76,97 +75,111 @@ fn may_lack(marks: &[u8], sizes: &[u8], s: Plane, r: usize, c: usize) -> bool
 }
 
 // The cell, where it has a vertical edge that lacks room.
-fn lacks_left(vedge: &[u8], sqw: &[u8], tiles: &[u16], s: Plane, r: usize, c: usize) -> Found
+fn lacks_left(
+    vedge: &[u8],
+    sqw: &[u8],
+    tiles: &[u16],
+    s: Plane,
+    r: usize,
+    c: usize,
+) -> Option<usize>
     requires { Ready s vedge.now sqw.now × Cell s r c }
     ensures { result ≡ lacks_room s (one_way vedge.now sqw.now [] tiles.now) 0 r c }
 {
     if !may_lack(vedge, sqw, s, r, c) {
-        return Found::Nothing;
+        return None;
     }
     lacks_room(vedge, sqw, tiles, s, 0, r, c)
 }
 
 // The first vertical edge of a row that lacks room: in its first or last column of edges.
-fn lacks_ends(vedge: &[u8], sqw: &[u8], tiles: &[u16], s: Plane, r: usize) -> Found
+fn lacks_ends(vedge: &[u8], sqw: &[u8], tiles: &[u16], s: Plane, r: usize) -> Option<usize>
     requires { Ready s vedge.now sqw.now × (r < s.rows) }
     ensures { result ≡ lacks_row s (one_way vedge.now sqw.now [] tiles.now) 0 r }
 {
     let cols = s.cols;
     if cols < 2 {
-        return Found::Nothing;
+        return None;
     }
     let f = lacks_left(vedge, sqw, tiles, s, r, 1);
-    if let Found::At(k) = f {
-        return Found::At(k);
+    if let Some(k) = f {
+        return Some(k);
     }
     lacks_left(vedge, sqw, tiles, s, r, cols - 1)
 }
 
 // The first vertical edge that lacks room.
-fn lacks_vert(vedge: &[u8], sqw: &[u8], tiles: &[u16], s: Plane) -> Found
+fn lacks_vert(vedge: &[u8], sqw: &[u8], tiles: &[u16], s: Plane) -> Option<usize>
     requires { Ready s vedge.now sqw.now }
     ensures { result ≡ lacks_dir s (one_way vedge.now sqw.now [] tiles.now) 0 }
 {
     let rows = s.rows;
     for r in 0..rows {
         let f = lacks_ends(vedge, sqw, tiles, s, r);
-        if let Found::At(k) = f {
-            return Found::At(k);
+        if let Some(k) = f {
+            return Some(k);
         }
     }
-    Found::Nothing
+    None
 }
 
 // The cell, where it has a horizontal edge that lacks room: no tile shortens one.
-fn lacks_above(hedge: &[u8], sqh: &[u8], s: Plane, r: usize, c: usize) -> Found
+fn lacks_above(hedge: &[u8], sqh: &[u8], s: Plane, r: usize, c: usize) -> Option<usize>
     requires { Ready s hedge.now sqh.now × Cell s r c }
     ensures { result ≡ lacks_room s (one_way hedge.now sqh.now [] []) 1 r c }
 {
     if !may_lack(hedge, sqh, s, r, c) {
-        return Found::Nothing;
+        return None;
     }
     lacks_room(hedge, sqh, &[], s, 1, r, c)
 }
 
 // The first horizontal edge of a row that lacks room.
-fn lacks_row(hedge: &[u8], sqh: &[u8], s: Plane, r: usize) -> Found
+fn lacks_row(hedge: &[u8], sqh: &[u8], s: Plane, r: usize) -> Option<usize>
     requires { Ready s hedge.now sqh.now × (r < s.rows) }
     ensures { result ≡ lacks_row s (one_way hedge.now sqh.now [] []) 1 r }
 {
     let cols = s.cols;
     for c in 0..cols {
         let f = lacks_above(hedge, sqh, s, r, c);
-        if let Found::At(k) = f {
-            return Found::At(k);
+        if let Some(k) = f {
+            return Some(k);
         }
     }
-    Found::Nothing
+    None
 }
 
 // The first horizontal edge that lacks room: in the first or last row of edges.
-fn lacks_horz(hedge: &[u8], sqh: &[u8], s: Plane) -> Found
+fn lacks_horz(hedge: &[u8], sqh: &[u8], s: Plane) -> Option<usize>
     requires { Ready s hedge.now sqh.now }
     ensures { result ≡ lacks_dir s (one_way hedge.now sqh.now [] []) 1 }
 {
     let rows = s.rows;
     if rows < 2 {
-        return Found::Nothing;
+        return None;
     }
     let f = lacks_row(hedge, sqh, s, 1);
-    if let Found::At(k) = f {
-        return Found::At(k);
+    if let Some(k) = f {
+        return Some(k);
     }
     lacks_row(hedge, sqh, s, rows - 1)
 }
 
 // The first edge of a plane that lacks room, whatever the qindex and the keep marks.
-pub fn no_room(vedge: &[u8], hedge: &[u8], sqw: &[u8], sqh: &[u8], tiles: &[u16], s: Plane) -> Found
+pub fn no_room(
+    vedge: &[u8],
+    hedge: &[u8],
+    sqw: &[u8],
+    sqh: &[u8],
+    tiles: &[u16],
+    s: Plane,
+) -> Option<usize>
     requires { Ready s vedge.now sqw.now × Ready s hedge.now sqh.now }
     ensures { (q ks : List ℕ) → result ≡ no_room s (keeping vedge.now hedge.now sqw.now sqh.now q tiles.now ks) }
 {
     let f = lacks_vert(vedge, sqw, tiles, s);
-    if let Found::At(k) = f {
-        return Found::At(k);
+    if let Some(k) = f {
+        return Some(k);
     }
     lacks_horz(hedge, sqh, s)
 }

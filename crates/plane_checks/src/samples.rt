@@ -6,11 +6,10 @@ ghost use Rattle.cell_edges.specs.Cells.{Sizes};
 
 use checks::samples;
 use rules::depth::Depth;
-use rules::refusals::Found;
 use rules::settings::Plane;
 
 // The first sample of a plane that is over the depth's top.
-pub fn over_plane(plane: &[u16], s: Plane) -> Found
+pub fn over_plane(plane: &[u16], s: Plane) -> Option<usize>
     requires { Sizes s × (depth_ok s.depth ≡ true) × (4 * s.rows * s.stride ≤ length plane.now) }
     ensures { result ≡ over_plane s plane.now }
 {

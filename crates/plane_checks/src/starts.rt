@@ -4,7 +4,7 @@ ghost use Rattle.laws.specs.Choose.{pick};
 ghost use Rattle.rules.specs.Plane.{start_good, bad_start, tiles_check};
 
 use cell_edges::starts::wide;
-use rules::refusals::{Answer, Found, Refusal};
+use rules::refusals::Refusal;
 
 // The number that a start is to be above: the start before it, and 0 for the first.
 fn floor(tiles: &[u16], k: usize) -> usize
@@ -30,25 +30,25 @@ fn start_good(tiles: &[u16], cols: usize, k: usize) -> bool
 }
 
 // The first start that is not good.
-fn bad_start(tiles: &[u16], cols: usize) -> Found
+fn bad_start(tiles: &[u16], cols: usize) -> Option<usize>
     ensures { result ≡ bad_start cols tiles.now }
 {
     let n = tiles.len();
     for k in 0..n {
         if !start_good(tiles, cols, k) {
-            return Found::At(k);
+            return Some(k);
         }
     }
-    Found::Nothing
+    None
 }
 
 // Refusal 5 of a list of tile starts.
-pub fn tiles_check(tiles: &[u16], cols: usize) -> Answer
+pub fn tiles_check(tiles: &[u16], cols: usize) -> Result<(), Refusal>
     ensures { result ≡ tiles_check cols tiles.now }
 {
     let bad = bad_start(tiles, cols);
-    if let Found::At(_) = bad {
-        return Answer::Refused(Refusal::Setting);
+    if let Some(_) = bad {
+        return Err(Refusal::Setting);
     }
-    Answer::Accepted
+    Ok(())
 }

@@ -15,9 +15,11 @@ use Rattle.laws.specs.Sums.{one_fewer}
 use Rattle.rules.specs.declared.edge.Edge.{Edge}
 use Rattle.rules.specs.declared.settings.Plane.{Plane}
 use Rattle.rules.specs.declared.refusals.Refusal.{Refusal}
-use Rattle.rules.specs.declared.refusals.Answer.{Answer}
-use Rattle.rules.specs.declared.refusals.Answer.TheVariants.{Accepted, Refused}
-use Rattle.rules.specs.declared.refusals.PlaneAnswer.{PlaneAnswer}
+use Rattle.rules.specs.Refusals.{Answer}
+use Rattle.std.specs.declared.result.Result.TheVariants.{Ok, Err}
+use Rattle.std.specs.declared.result.Result.{Result}
+use Rattle.rules.specs.declared.counts.Counts.{Counts}
+use Rattle.rules.specs.Refusals.{answered, changed_in, stored_in}
 use Rattle.rules.specs.Numbers.{top_of}
 use Rattle.rules.specs.Refusals.{settle}
 use Rattle.rules.specs.Segment.{none_kept, width_at, segment_of}
@@ -80,7 +82,7 @@ module _ (s : Plane) (steps : List ℕ) (g : Grid) (l : List ℕ) where
   unfolding run_stored run_changed
   plane_changed_holds = run_changed_holds (top_of s.depth) s.stride (kept_by s g) (edges_of s steps g) l
 
-  module _ (ok : plane_check s steps g l ≡ Accepted) where
+  module _ (ok : plane_check s steps g l ≡ Ok tt) where
     pub plane_edges : length (edges_of s steps g) ≤ most_edges s
     plane_edges = edges_most s steps g (checked s steps g l ok).sizes_ok
 
@@ -92,21 +94,21 @@ module _ (s : Plane) (steps : List ℕ) (g : Grid) (l : List ℕ) where
 
   -- ---- whatever the entry may answer
 
-  module _ {a : PlaneAnswer} {m : List ℕ} (done : Stated s steps g l a m) where
-    pub counts_sum : a.answer ≡ Accepted → a.stored ≤ sum_by_widths s (kept_by s g) (edges_of s steps g) l
+  module _ {a : Result Counts Refusal} {m : List ℕ} (done : Stated s steps g l a m) where
+    pub counts_sum : answered a ≡ Ok tt → stored_in a ≤ sum_by_widths s (kept_by s g) (edges_of s steps g) l
     unfolding plane_stored settle
     counts_sum e = omega (arith, done.stored ∙ ap (λ (x : Answer). settle x 0 (run_stored s steps g l)) (sym done.answer ∙ e), plane_sum)
 
-    pub counts_most : (a.stored ≤ most_edges s * 64) × (a.changed ≤ a.stored) × (a.stored ≤ 134086656)
+    pub counts_most : (stored_in a ≤ most_edges s * 64) × (changed_in a ≤ stored_in a) × (stored_in a ≤ 134086656)
     unfolding plane_stored plane_changed settle
     counts_most = go (plane_check s steps g l) refl done.stored done.changed
       where
         go : (x : Answer) → plane_check s steps g l ≡ x → {u v : ℕ} → u ≡ settle x 0 (run_stored s steps g l) → v ≡ settle x 0 (run_changed s steps g l) → (u ≤ most_edges s * 64) × (v ≤ u) × (u ≤ 134086656)
-        go Accepted ok p q = (omega (arith, p, plane_stored_holds ok), omega (arith, p, q, plane_changed_holds), omega (arith, p, plane_fits ok))
-        go (Refused r) ok p q = (omega (arith, p), omega (arith, p, q), omega (arith, p))
+        go (Ok tt) ok p q = (omega (arith, p, plane_stored_holds ok), omega (arith, p, q, plane_changed_holds), omega (arith, p, plane_fits ok))
+        go (Err r) ok p q = (omega (arith, p), omega (arith, p, q), omega (arith, p))
 
     -- "A refusal reports zero for both."
-    pub counts_refused : {r : Refusal} → a.answer ≡ Refused r → (a.stored ≡ 0) × (a.changed ≡ 0)
+    pub counts_refused : {r : Refusal} → answered a ≡ Err r → (stored_in a ≡ 0) × (changed_in a ≡ 0)
     unfolding plane_stored plane_changed settle
     counts_refused e =
         let no = sym done.answer ∙ e in (

@@ -9,9 +9,12 @@ use Rattle.laws.specs.Lists.{Each, each_right, each_both}
 use Rattle.laws.specs.Trace.{run_append}
 use Rattle.rules.specs.declared.edge.Edge.{Edge}
 use Rattle.rules.specs.declared.settings.Plane.{Plane}
-use Rattle.rules.specs.declared.refusals.Answer.{Answer}
-use Rattle.rules.specs.declared.refusals.Answer.TheVariants.{Accepted, Refused}
-use Rattle.rules.specs.declared.refusals.PlaneAnswer.{PlaneAnswer}
+use Rattle.rules.specs.Refusals.{Answer}
+use Rattle.std.specs.declared.result.Result.TheVariants.{Ok, Err}
+use Rattle.std.specs.declared.result.Result.{Result}
+use Rattle.rules.specs.declared.counts.Counts.{Counts}
+use Rattle.rules.specs.declared.refusals.Refusal.{Refusal}
+use Rattle.rules.specs.Refusals.{answered}
 use Rattle.rules.specs.Numbers.{top_of}
 use Rattle.rules.specs.Refusals.{settle}
 use Rattle.rules.specs.Segment.{segment_of, run_edges}
@@ -64,7 +67,7 @@ module _ (top stride : ℕ) (kept : ℕ → Bool) where
 
 module _ (s : Plane) (steps : List ℕ) (g : Grid) (l : List ℕ) where
   -- every edge of an accepted plane
-  pub plane_demand_3 : plane_check s steps g l ≡ Accepted → EachPromised s g (edges_of s steps g) l
+  pub plane_demand_3 : plane_check s steps g l ≡ Ok tt → EachPromised s g (edges_of s steps g) l
   plane_demand_3 ok = edges_promised (top_of s.depth) s.stride (kept_by s g) (4 * s.cols) (4 * s.rows) (edges_of s steps g) l (every_edge s steps g l ok)
 
   -- the plane afterwards, accepted or refused
@@ -73,8 +76,8 @@ module _ (s : Plane) (steps : List ℕ) (g : Grid) (l : List ℕ) where
   plane_kept i h = go (plane_check s steps g l)
     where
       go : (a : Answer) → get_or (settle a l (run_plane s steps g l)) i 0 ≡ get_or l i 0
-      go Accepted = spared_kept (top_of s.depth) s.stride (kept_by s g) (edges_of s steps g) l i h
-      go (Refused r) = refl
+      go (Ok tt) = spared_kept (top_of s.depth) s.stride (kept_by s g) (edges_of s steps g) l i h
+      go (Err r) = refl
 
   -- ticket 7: "samples in a kept cell are .. never stored"
   pub plane_held : (i : ℕ) → kept_by s g i ≡ true → get_or (plane_after s steps g l) i 0 ≡ get_or l i 0
@@ -82,11 +85,11 @@ module _ (s : Plane) (steps : List ℕ) (g : Grid) (l : List ℕ) where
   plane_held i h = go (plane_check s steps g l)
     where
       go : (a : Answer) → get_or (settle a l (run_plane s steps g l)) i 0 ≡ get_or l i 0
-      go Accepted = plane_holds s steps g l i h
-      go (Refused r) = refl
+      go (Ok tt) = plane_holds s steps g l i h
+      go (Err r) = refl
 
   -- by the boxes alone: N samples before and P after each marked edge, whatever its samples
-  pub plane_frame : plane_check s steps g l ≡ Accepted → (i : ℕ) → Each (Untouched s.stride i) (edges_of s steps g) → get_or (run_plane s steps g l) i 0 ≡ get_or l i 0
+  pub plane_frame : plane_check s steps g l ≡ Ok tt → (i : ℕ) → Each (Untouched s.stride i) (edges_of s steps g) → get_or (run_plane s steps g l) i 0 ≡ get_or l i 0
   unfolding run_plane
   plane_frame ok i h =
       run_frame_holds (top_of s.depth) s.stride (kept_by s g) (4 * s.cols) (4 * s.rows) (length l) i (edges_of s steps g)
@@ -95,11 +98,11 @@ module _ (s : Plane) (steps : List ℕ) (g : Grid) (l : List ℕ) where
 
   -- ---- the same of whatever `deblock_plane`, or the plain engine by the same statement, may answer and leave
 
-  module _ {a : PlaneAnswer} {m : List ℕ} (done : Stated s steps g l a m) where
-    pub stated_demand_3 : a.answer ≡ Accepted → EachPromised s g (edges_of s steps g) l × (m ≡ left_by s g (edges_of s steps g) l)
+  module _ {a : Result Counts Refusal} {m : List ℕ} (done : Stated s steps g l a m) where
+    pub stated_demand_3 : answered a ≡ Ok tt → EachPromised s g (edges_of s steps g) l × (m ≡ left_by s g (edges_of s steps g) l)
     unfolding plane_after run_plane settle
     stated_demand_3 e =
-        let ok : plane_check s steps g l ≡ Accepted = sym done.answer ∙ e in
+        let ok : plane_check s steps g l ≡ (Ok tt) = sym done.answer ∙ e in
         (plane_demand_3 ok, done.plane ∙ ap (λ (x : Answer). settle x l (run_plane s steps g l)) ok)
 
     pub stated_kept : (i : ℕ) → Spared s g (edges_of s steps g) l i → get_or m i 0 ≡ get_or l i 0

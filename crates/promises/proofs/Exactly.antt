@@ -4,8 +4,11 @@ use mathlib.Core.Path.{◌≡◌, refl, sym, ap, ◌∙◌}
 use mathlib.Core.List.{List}
 use Prim.Native.Nat.{ℕ}
 use Rattle.rules.specs.declared.settings.Plane.{Plane}
-use Rattle.rules.specs.declared.refusals.Answer.{Answer}
-use Rattle.rules.specs.declared.refusals.PlaneAnswer.{PlaneAnswer}
+use Rattle.rules.specs.Refusals.{Answer}
+use Rattle.std.specs.declared.result.Result.{Result}
+use Rattle.rules.specs.declared.counts.Counts.{Counts}
+use Rattle.rules.specs.declared.refusals.Refusal.{Refusal}
+use Rattle.rules.specs.Refusals.{answered}
 use Rattle.rules.specs.Refusals.{or_else}
 use Rattle.rules.specs.Thresholds.{steps_check, deltas_check}
 use Rattle.rules.specs.Plane.{Grid, tiles_check, plane_check}
@@ -27,5 +30,5 @@ pub plane_exactly : (s : Plane) (steps : List ℕ) (g : Grid) (l : List ℕ) {a 
 plane_exactly s steps g l e = exactly (plane_tests s steps g l) refl (e ∙ plane_chain s steps g l)
 
 -- of whatever the entry may answer
-pub stated_exactly : (s : Plane) (steps : List ℕ) (g : Grid) (l : List ℕ) {a : PlaneAnswer} {m : List ℕ} → Stated s steps g l a m → Exactly a.answer (plane_tests s steps g l)
+pub stated_exactly : (s : Plane) (steps : List ℕ) (g : Grid) (l : List ℕ) {a : Result Counts Refusal} {m : List ℕ} → Stated s steps g l a m → Exactly (answered a) (plane_tests s steps g l)
 stated_exactly s steps g l done = plane_exactly s steps g l done.answer

@@ -16,10 +16,13 @@ use Rattle.laws.specs.Trace.{run, total}
 use Rattle.rules.specs.declared.edge.Edge.{Edge}
 use Rattle.rules.specs.declared.settings.Plane.{Plane}
 use Rattle.rules.specs.declared.refusals.Refusal.TheVariants.{Depth, Size, Length, Cell, Room, Sample}
-use Rattle.rules.specs.declared.refusals.Answer.{Answer}
-use Rattle.rules.specs.declared.refusals.Answer.TheVariants.{Accepted}
-use Rattle.rules.specs.declared.refusals.PlaneAnswer.{PlaneAnswer}
-use Rattle.rules.specs.declared.refusals.Found.{Found}
+use Rattle.rules.specs.Refusals.{Answer}
+use Rattle.std.specs.declared.result.Result.TheVariants.{Ok}
+use Rattle.std.specs.declared.result.Result.{Result}
+use Rattle.rules.specs.declared.counts.Counts.{Counts}
+use Rattle.rules.specs.declared.refusals.Refusal.{Refusal}
+use Rattle.rules.specs.Refusals.{answered, changed_in, stored_in}
+use Rattle.std.specs.declared.option.Option.{Option}
 use Rattle.rules.specs.Numbers.{depth_ok, top_of}
 use Rattle.rules.specs.Refusals.{or_else, unless, found, settle, first, sooner, found_unless}
 use Rattle.rules.specs.Thresholds.{steps_check, deltas_check}
@@ -42,7 +45,7 @@ all_but [] = refl
 all_but (true ∷ bs) = all_but bs
 all_but (false ∷ bs) = refl
 
-first_same : (f g : ℕ → Found) (n : ℕ) → ((k : ℕ) → k < n → f k ≡ g k) → first n f ≡ first n g
+first_same : (f g : ℕ → Option ℕ) (n : ℕ) → ((k : ℕ) → k < n → f k ≡ g k) → first n f ≡ first n g
 unfolding first
 first_same f g zero h = refl
 first_same f g (suc n) h = ap₂ sooner (first_same f g n (λ k l. h k (le_step l))) (h n (le_refl (suc n)))
@@ -109,7 +112,7 @@ module _ (top stride : ℕ) where
 -- ---- marks of 0
 
 module _ (s : Plane) (steps : List ℕ) (g : Grid) (l : List ℕ) (none : (k : ℕ) → k < s.rows * s.cols → get_or g.keep k 0 ≡ 0) where
-  module _ (ok : plane_check s steps g l ≡ Accepted) where
+  module _ (ok : plane_check s steps g l ≡ Ok tt) where
     pub plane_unkept : run_plane s steps g l ≡ run_before (top_of s.depth) s.stride (edges_of s steps (unmarked g)) l
     plane_unkept =
         sym (plane_run s steps g l (checked s steps g l ok) none_kept (λ i x y. sym (marks_none s.cols s.rows s.stride g.keep none i x y)))
@@ -131,12 +134,12 @@ module _ (s : Plane) (steps : List ℕ) (g : Grid) (l : List ℕ) (none : (k : �
     sum_unkept = stored_noted ∙ sum_widths s (edges_of s steps g) l
 
   -- of whatever the entry may answer and leave
-  pub stated_unkept : {a : PlaneAnswer} {m : List ℕ} → Stated s steps g l a m → a.answer ≡ Accepted
-      → (m ≡ run_before (top_of s.depth) s.stride (edges_of s steps (unmarked g)) l) × (a.stored ≡ stored_before (top_of s.depth) s.stride (edges_of s steps (unmarked g)) l)
-      × (a.changed ≡ changed_before (top_of s.depth) s.stride (edges_of s steps (unmarked g)) l)
+  pub stated_unkept : {a : Result Counts Refusal} {m : List ℕ} → Stated s steps g l a m → answered a ≡ Ok tt
+      → (m ≡ run_before (top_of s.depth) s.stride (edges_of s steps (unmarked g)) l) × (stored_in a ≡ stored_before (top_of s.depth) s.stride (edges_of s steps (unmarked g)) l)
+      × (changed_in a ≡ changed_before (top_of s.depth) s.stride (edges_of s steps (unmarked g)) l)
   unfolding plane_after plane_stored plane_changed settle
   stated_unkept done e =
-      let ok : plane_check s steps g l ≡ Accepted = sym done.answer ∙ e in (
+      let ok : plane_check s steps g l ≡ (Ok tt) = sym done.answer ∙ e in (
         done.plane ∙ ap (λ (x : Answer). settle x l (run_plane s steps g l)) ok ∙ plane_unkept ok,
         done.stored ∙ ap (λ (x : Answer). settle x 0 (run_stored s steps g l)) ok ∙ stored_unkept ok,
         done.changed ∙ ap (λ (x : Answer). settle x 0 (run_changed s steps g l)) ok ∙ changed_unkept ok,

@@ -9,7 +9,9 @@ use lib.ListN.{length, get_or}
 use Rattle.laws.specs.Choose.{pick}
 use Rattle.rules.specs.declared.settings.Plane.{Plane}
 use Rattle.rules.specs.declared.refusals.Refusal.TheVariants.{Depth, Size, Length, Cell, Room, Sample}
-use Rattle.rules.specs.declared.refusals.PlaneAnswer.{PlaneAnswer}
+use Rattle.std.specs.declared.result.Result.{Result}
+use Rattle.rules.specs.declared.counts.Counts.{Counts}
+use Rattle.rules.specs.declared.refusals.Refusal.{Refusal}
 use Rattle.rules.specs.Numbers.{depth_ok}
 use Rattle.rules.specs.Refusals.{or_else, unless, found, first}
 use Rattle.rules.specs.Lengths.{pair_of}
@@ -50,5 +52,5 @@ module _ (s : Plane) (steps v h w t q ks l : List ℕ) where
   checks_alone = refl
 
   -- of whatever the entry may answer and leave with an empty list: answer, plane and counts are those of one tile
-  pub empty_list : (ts : List ℕ) → ts ≡ [] → {a : PlaneAnswer} {m : List ℕ} → Stated s steps (keeping v h w t q ts ks) l a m → Stated s steps (keeping v h w t q [] ks) l a m
+  pub empty_list : (ts : List ℕ) → ts ≡ [] → {a : Result Counts Refusal} {m : List ℕ} → Stated s steps (keeping v h w t q ts ks) l a m → Stated s steps (keeping v h w t q [] ks) l a m
   empty_list ts e {a} {m} done = subst (λ (us : List ℕ). Stated s steps (keeping v h w t q us ks) l a m) e done

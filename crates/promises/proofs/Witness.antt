@@ -11,8 +11,8 @@ use Rattle.laws.specs.Stores.{puts}
 use Rattle.laws.specs.Outside.{outside}
 use Rattle.laws.specs.Changes.{differ, changes}
 use Rattle.rules.specs.declared.settings.Plane.{Plane}
-use Rattle.rules.specs.declared.refusals.Answer.{Answer}
-use Rattle.rules.specs.declared.refusals.Answer.TheVariants.{Accepted}
+use Rattle.rules.specs.Refusals.{Answer}
+use Rattle.std.specs.declared.result.Result.TheVariants.{Ok}
 use Rattle.plane.specs.Checked.{Stated}
 use Rattle.rules.specs.Numbers.{depth_ok, top_of, highest_of, offset_of, shift_of, in_range, in_range_z, delta_ok}
 use Rattle.rules.specs.Refusals.{or_else, unless, found, settle, first, sooner, found_if, found_unless, over_top, over_row, over_box}
@@ -42,7 +42,7 @@ four l = l ++ (l ++ (l ++ l))
 abbrev pub samples : List ℕ
 samples = four (100 ∷ 100 ∷ 100 ∷ 100 ∷ 108 ∷ 108 ∷ 108 ∷ 108 ∷ [])
 
-pub accepted : (plane_check settings steps (cells 0) samples ≡ Accepted) × (plane_check settings steps (cells 1) samples ≡ Accepted)
+pub accepted : (plane_check settings steps (cells 0) samples ≡ Ok tt) × (plane_check settings steps (cells 1) samples ≡ Ok tt)
 unfolding each pick either both all depth_ok top_of in_range in_range_z delta_ok or_else unless found first sooner found_if found_unless over_top over_row over_box step_good bad_step steps_check deltas_check length_before length_after reach_of reach_before reach_after pair_of has_room cell_of cell_before marks_of indices_of
     capped_of index_at shortened_at is_edge plane_sizes_ok plane_lengths_ok bad_start tiles_check cell_good bad_cell edge_room lacks_room lacks_row lacks_dir no_room over_plane plane_check
 accepted = (refl, refl)
@@ -62,9 +62,9 @@ unfolding each filled puts outside pick either both top_of highest_of offset_of 
 filtered_kept = (refl, refl, refl)
 
 -- the statement of an accepted plane, from what its run leaves and counts
-told : (kept : ℕ) {m : List ℕ} {stored changed : ℕ} → plane_check settings steps (cells kept) samples ≡ Accepted → run_plane settings steps (cells kept) samples ≡ m
+told : (kept : ℕ) {m : List ℕ} {stored changed : ℕ} → plane_check settings steps (cells kept) samples ≡ Ok tt → run_plane settings steps (cells kept) samples ≡ m
     → run_stored settings steps (cells kept) samples ≡ stored → run_changed settings steps (cells kept) samples ≡ changed
-    → Stated settings steps (cells kept) samples (record { answer = Accepted; stored = stored; changed = changed }) m
+    → Stated settings steps (cells kept) samples (Ok (record { stored = stored; changed = changed })) m
 unfolding plane_after plane_stored plane_changed settle
 told kept ok p n k = record {
   answer = sym ok;
@@ -74,8 +74,8 @@ told kept ok p n k = record {
 }
 
 -- what `deblock_plane` must answer and leave
-pub witness : Stated settings steps (cells 0) samples (record { answer = Accepted; stored = 24; changed = 24 }) (four (100 ∷ 101 ∷ 102 ∷ 103 ∷ 105 ∷ 106 ∷ 107 ∷ 108 ∷ []))
+pub witness : Stated settings steps (cells 0) samples (Ok (record { stored = 24; changed = 24 })) (four (100 ∷ 101 ∷ 102 ∷ 103 ∷ 105 ∷ 106 ∷ 107 ∷ 108 ∷ []))
 witness = told 0 accepted.0 filtered.0 filtered.1 filtered.2
 
-pub witness_kept : Stated settings steps (cells 1) samples (record { answer = Accepted; stored = 12; changed = 12 }) (four (100 ∷ 100 ∷ 100 ∷ 100 ∷ 105 ∷ 106 ∷ 107 ∷ 108 ∷ []))
+pub witness_kept : Stated settings steps (cells 1) samples (Ok (record { stored = 12; changed = 12 })) (four (100 ∷ 100 ∷ 100 ∷ 100 ∷ 105 ∷ 106 ∷ 107 ∷ 108 ∷ []))
 witness_kept = told 1 accepted.1 filtered_kept.0 filtered_kept.1 filtered_kept.2

@@ -10,7 +10,7 @@ use mir.Val.{Fits}
 use mir.Syntax.{w64}
 use Rattle.laws.specs.Choose.{all, all_parts}
 use Rattle.rules.specs.declared.settings.QindexGrid.{QindexGrid}
-use Rattle.rules.specs.declared.refusals.Answer.TheVariants.{Accepted}
+use Rattle.std.specs.declared.result.Result.TheVariants.{Ok}
 use Rattle.rules.specs.Numbers.{in_range, subsampling_ok}
 use Rattle.rules.specs.TuGrid.{cells_ok}
 use Rattle.rules.specs.QindexGrid.{q_grid_check}
@@ -25,7 +25,7 @@ pub q_cells : (s : QindexGrid) → true ≡ all (cells_ok s.cols s.rows ∷ subs
 q_cells s e = let p = (all_parts _ _ (sym e)).0 in cells_fit s.rows s.cols (rows_most _ _ p) (cols_most _ _ p)
 
 -- all that building asks for
-pub q_accepted : (s : QindexGrid) (sbq q : List ℕ) → q_grid_check s sbq q ≡ Accepted → QFit s (length sbq) (length q)
+pub q_accepted : (s : QindexGrid) (sbq q : List ℕ) → q_grid_check s sbq q ≡ Ok tt → QFit s (length sbq) (length q)
 unfolding q_grid_check
 q_accepted s sbq q e =
     let p = else_parts _ _ e in

@@ -1,13 +1,12 @@
 -- The qindex grid gives each number exactly when document 01's test for it fails and those before it hold; and it accepts something.
 -- Assumes nothing.
 use mathlib.Core.Path.{◌≡◌, refl}
-use mathlib.Core.Bool.{true, false}
 use mathlib.Core.List.{List, [], ◌∷◌}
 use Prim.Native.Nat.{ℕ}
 use Rattle.laws.specs.Choose.{both, all}
 use Rattle.rules.specs.declared.settings.QindexGrid.{QindexGrid}
-use Rattle.rules.specs.declared.refusals.Answer.{Answer}
-use Rattle.rules.specs.declared.refusals.Answer.TheVariants.{Accepted}
+use Rattle.rules.specs.Refusals.{Answer}
+use Rattle.std.specs.declared.result.Result.TheVariants.{Ok}
 use Rattle.rules.specs.Numbers.{in_range, subsampling_ok}
 use Rattle.rules.specs.Refusals.{or_else, unless}
 use Rattle.rules.specs.TuGrid.{cells_ok}
@@ -21,6 +20,6 @@ unfolding q_grid_check
 q_exactly s sbq q e = exactly (q_tests s sbq q) refl e
 
 -- two cells of one superblock
-pub q_accepts : q_grid_check record { cols = 2; rows = 1; ssx = 0; ssy = 0; sbcols = 1 } (100 ∷ []) (0 ∷ 0 ∷ []) ≡ Accepted
+pub q_accepts : q_grid_check record { cols = 2; rows = 1; ssx = 0; ssy = 0; sbcols = 1 } (100 ∷ []) (0 ∷ 0 ∷ []) ≡ Ok tt
 unfolding both all in_range subsampling_ok or_else unless cells_ok q_grid_check
 q_accepts = refl

@@ -1,7 +1,7 @@
 -- Shifts to the left by a subsampling of 0 or 1, and the entry of a cell's superblock.
 -- Assumes nothing.
-use mathlib.Core.Path.{◌≡◌, refl}
-use Prim.Native.Nat.{ℕ, zero, suc, ◌+◌, ◌-◌, ◌*◌, ◌/◌, ◌^◌, ◌≤◌, ◌<◌, min}
+use mathlib.Core.Path.{◌≡◌}
+use Prim.Native.Nat.{ℕ, zero, suc, ◌+◌, ◌-◌, ◌*◌, ◌/◌, ◌≤◌, ◌<◌, min}
 use mir.Val.{Fits}
 use mir.Syntax.{w64}
 use native.Mathlib.Nat.{mul-le-mul}

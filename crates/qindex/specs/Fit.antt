@@ -3,7 +3,7 @@
 use Rattle.std.specs.Prelude.{◌≡◌, List, ℕ, ◌*◌, ◌≤◌, length}
 use Rattle.rules.specs.declared.settings.QindexGrid.{QindexGrid}
 use Rattle.rules.specs.QindexGrid.{q_grid_check}
-use Rattle.rules.specs.declared.refusals.Answer.{Answer}
+use Rattle.rules.specs.Refusals.{Answer}
 
 -- the cells, subsampling and superblocks of a qindex grid are in range, and both lists are long enough
 pub record QFit (s : QindexGrid) (count n : ℕ) : Type 0 where

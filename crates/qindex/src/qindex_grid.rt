@@ -7,8 +7,7 @@ ghost use Rattle.rules.specs.TuGrid.{cells_ok};
 ghost use Rattle.rules.specs.QindexGrid.{superblock_of, q_cell, q_row, q_grid_of, q_grid_check, q_grid_after};
 ghost use Rattle.qindex.specs.Fit.{QFit, QChecked};
 
-use laws::least;
-use rules::refusals::{Answer, Refusal};
+use rules::refusals::Refusal;
 use rules::settings::QindexGrid;
 use tiles::tests::{cells_ok, subsampling_ok, superblocks_ok};
 
@@ -29,7 +28,7 @@ fn superblock(s: QindexGrid, count: usize, r: usize, c: usize) -> usize
     let x = luma(s.ssx, c) / 16;
     let i = y * s.sbcols + x;
     let last = count - 1;
-    least(i, last)
+    i.min(last)
 }
 
 fn q_cell(sbq: &[u16], qindex: &mut [u16], s: QindexGrid, r: usize, c: usize)
@@ -67,45 +66,33 @@ pub fn qindex_grid(sbq: &[u16], qindex: &mut [u16], s: QindexGrid)
 fn sizes_ok(s: QindexGrid) -> bool
     ensures { result ≡ all (cells_ok s.cols s.rows ∷ subsampling_ok s.ssx s.ssy ∷ in_range 1 128 s.sbcols ∷ []) }
 {
-    if !cells_ok(s.cols, s.rows) {
-        return false;
-    }
-    if !subsampling_ok(s.ssx, s.ssy) {
-        return false;
-    }
-    superblocks_ok(s.sbcols)
+    cells_ok(s.cols, s.rows) && subsampling_ok(s.ssx, s.ssy) && superblocks_ok(s.sbcols)
 }
 
 fn lists_ok(cells: usize, count: usize, n: usize) -> bool
     ensures { result ≡ all (leb 1 count ∷ leb cells n ∷ []) }
 {
-    if count < 1 {
-        return false;
-    }
-    cells <= n
+    1 <= count && cells <= n
 }
 
 // The checks, for lists of these lengths.
-fn q_check(count: usize, n: usize, s: QindexGrid) -> Answer
+fn q_check(count: usize, n: usize, s: QindexGrid) -> Result<(), Refusal>
     ensures { QChecked s count n result }
 {
     if !sizes_ok(s) {
-        return Answer::Refused(Refusal::Size);
+        return Err(Refusal::Size);
     }
     if !lists_ok(s.rows * s.cols, count, n) {
-        return Answer::Refused(Refusal::Length);
+        return Err(Refusal::Length);
     }
-    Answer::Accepted
+    Ok(())
 }
 
 // The qindex grid of any settings and lists, or why there is none.
-pub fn build_qindex_grid(sbq: &[u16], qindex: &mut [u16], s: QindexGrid) -> Answer
+pub fn build_qindex_grid(sbq: &[u16], qindex: &mut [u16], s: QindexGrid) -> Result<(), Refusal>
     ensures { (result ≡ q_grid_check s sbq.now qindex.old) × (qindex.new ≡ q_grid_after s sbq.now qindex.old) }
 {
-    let a = q_check(sbq.len(), qindex.len(), s);
-    if let Answer::Refused(r) = a {
-        return Answer::Refused(r);
-    }
+    q_check(sbq.len(), qindex.len(), s)?;
     qindex_grid(sbq, qindex, s);
-    Answer::Accepted
+    Ok(())
 }

@@ -13,11 +13,13 @@ use Rattle.laws.specs.Reorder.{count}
 use Rattle.rules.specs.declared.edge.Edge.{Edge}
 use Rattle.rules.specs.declared.settings.Plane.{Plane}
 use Rattle.rules.specs.declared.refusals.Refusal.{Refusal}
-use Rattle.rules.specs.declared.refusals.Answer.{Answer}
-use Rattle.rules.specs.declared.refusals.Answer.TheVariants.{Accepted, Refused}
-use Rattle.rules.specs.declared.refusals.PlaneAnswer.{PlaneAnswer}
-use Rattle.rules.specs.declared.refusals.RecordAnswer.{RecordAnswer}
-use Rattle.rules.specs.declared.refusals.Recorded.TheVariants.{Bytes, Refused as «NoRecord»}
+use Rattle.rules.specs.Refusals.{Answer}
+use Rattle.std.specs.declared.result.Result.TheVariants.{Ok, Err}
+use Rattle.std.specs.declared.result.Result.{Result}
+use Rattle.rules.specs.declared.counts.Counts.{Counts}
+use Rattle.rules.specs.Refusals.{answered, changed_in, stored_in}
+use Rattle.rules.specs.declared.counts.Visited.{Visited}
+use Rattle.rules.specs.Refusals.{counted, length_told}
 use Rattle.rules.specs.Refusals.{settle}
 use Rattle.rules.specs.Plane.{Grid, keeping, kept_by, is_edge, index_at, shortened_at, marks_of, indices_of, visit_of, sweep_of, column_of, turn_of, edge_at, edges_of, run_plane, run_stored, run_changed, plane_check, plane_after, plane_stored, plane_changed}
 use Rattle.rules.specs.Record.{record_of, buffer_after, edges_in, edge_count, recorded_check, answer_bytes, recorded_answer, recorded_plane, recorded_buffer, recorded_stored, recorded_changed}
@@ -35,19 +37,19 @@ use Rattle.recorded.proofs.Recording.{Passed, passed}
 
 -- ---- what an answer says of the checks
 
-bytes_accepted : (a : Answer) (k : ℕ) {n : ℕ} → Bytes n ≡ answer_bytes a k → (a ≡ Accepted) × (n ≡ k)
+bytes_accepted : (a : Answer) (k : ℕ) {n : ℕ} → Ok n ≡ answer_bytes a k → (a ≡ Ok tt) × (n ≡ k)
 unfolding answer_bytes
-bytes_accepted Accepted k e = (refl, (cc))
-bytes_accepted (Refused r) k e = absurd (let z : ◌≡◌ {A = ℕ} 0 1 = cc in omega arith)
+bytes_accepted (Ok tt) k e = (refl, (cc))
+bytes_accepted (Err r) k e = absurd (let z : ◌≡◌ {A = ℕ} 0 1 = cc in omega arith)
 
-refused_refused : (a : Answer) (k : ℕ) {r : Refusal} → «NoRecord» r ≡ answer_bytes a k → a ≡ Refused r
+refused_refused : (a : Answer) (k : ℕ) {r : Refusal} → Err r ≡ answer_bytes a k → a ≡ Err r
 unfolding answer_bytes
-refused_refused Accepted k e = absurd (let z : ◌≡◌ {A = ℕ} 0 1 = cc in omega arith)
-refused_refused (Refused q) k e = cc
+refused_refused (Ok tt) k e = absurd (let z : ◌≡◌ {A = ℕ} 0 1 = cc in omega arith)
+refused_refused (Err q) k e = cc
 
 -- ---- the numbers of every edge fit an entry's bytes
 
-module _ (s : Plane) (steps : List ℕ) (g : Grid) (l : List ℕ) (ok : plane_check s steps g l ≡ Accepted) where
+module _ (s : Plane) (steps : List ℕ) (g : Grid) (l : List ℕ) (ok : plane_check s steps g l ≡ Ok tt) where
   abbrev Inside : Edge → Type 0
   Inside e = InPlane s.stride (4 * s.cols) (4 * s.rows) e (length l)
 
@@ -71,8 +73,8 @@ module _ (s : Plane) (steps : List ℕ) (g : Grid) (l : List ℕ) (ok : plane_ch
 
 -- ---- where the answer is a number of bytes
 
-module _ (s : Plane) (steps : List ℕ) (g : Grid) (l b : List ℕ) {a : RecordAnswer} {n : ℕ} {m c : List ℕ} (done : Stated s steps g l b a m c) (told : a.«record» ≡ Bytes n) where
-  accepted : (recorded_check s steps g l (length b) ≡ Accepted) × (n ≡ length (record_of (edges_of s steps g)))
+module _ (s : Plane) (steps : List ℕ) (g : Grid) (l b : List ℕ) {a : Result Visited Refusal} {n : ℕ} {m c : List ℕ} (done : Stated s steps g l b a m c) (told : length_told a ≡ Ok n) where
+  accepted : (recorded_check s steps g l (length b) ≡ Ok tt) × (n ≡ length (record_of (edges_of s steps g)))
   unfolding recorded_answer
   accepted = bytes_accepted (recorded_check s steps g l (length b)) _ (sym told ∙ done.answer)
 
@@ -83,14 +85,14 @@ module _ (s : Plane) (steps : List ℕ) (g : Grid) (l b : List ℕ) {a : RecordA
   pub record_long : n ≡ 5 + 10 * edge_count s g
   record_long = omega (arith, accepted.1, record_length_holds (edges_of s steps g), edges_length s steps g ok.checks.sizes_ok)
 
-  pub plane_passed : plane_check s steps g l ≡ Accepted
+  pub plane_passed : plane_check s steps g l ≡ Ok tt
   plane_passed = ok.plane
 
   pub plane_ran : m ≡ run_plane s steps g l
   unfolding recorded_plane settle
   plane_ran = done.plane ∙ ap (λ (a : Answer). settle a l (run_plane s steps g l)) accepted.0
 
-  pub counts_ran : (a.stored ≡ run_stored s steps g l) × (a.changed ≡ run_changed s steps g l)
+  pub counts_ran : (stored_in (counted a) ≡ run_stored s steps g l) × (changed_in (counted a) ≡ run_changed s steps g l)
   unfolding recorded_stored recorded_changed settle
   counts_ran = (
     done.stored ∙ ap (λ (x : Answer). settle x 0 (run_stored s steps g l)) accepted.0,
@@ -98,14 +100,14 @@ module _ (s : Plane) (steps : List ℕ) (g : Grid) (l b : List ℕ) {a : RecordA
   )
 
   -- "the plane ends as without it": the run without a record is accepted too, leaves the same plane and tells the same counts
-  module _ {x : PlaneAnswer} {p : List ℕ} (alone : «PlaneStated» s steps g l x p) where
-    pub plane_as_without : (x.answer ≡ Accepted) × (m ≡ p)
+  module _ {x : Result Counts Refusal} {p : List ℕ} (alone : «PlaneStated» s steps g l x p) where
+    pub plane_as_without : (answered x ≡ Ok tt) × (m ≡ p)
     unfolding plane_after settle
     plane_as_without =
         let same : p ≡ run_plane s steps g l = alone.plane ∙ ap (λ (y : Answer). settle y l (run_plane s steps g l)) ok.plane in
         (alone.answer ∙ ok.plane, plane_ran ∙ sym same)
 
-    pub counts_as_without : (a.stored ≡ x.stored) × (a.changed ≡ x.changed)
+    pub counts_as_without : (stored_in (counted a) ≡ stored_in x) × (changed_in (counted a) ≡ changed_in x)
     unfolding plane_stored plane_changed settle
     counts_as_without = (
       counts_ran.0 ∙ sym (alone.stored ∙ ap (λ (y : Answer). settle y 0 (run_stored s steps g l)) ok.plane),
@@ -138,30 +140,30 @@ module _ (s : Plane) (steps : List ℕ) (g : Grid) (l b : List ℕ) {a : RecordA
   others_not_listed e k = ap (count same_edge e) record_edges ∙ other_never s steps g ok.checks.sizes_ok e k
 
 -- what a record says does not depend on a sample
-pub record_by_grid : (s : Plane) (steps : List ℕ) (g : Grid) (l k b d : List ℕ) {x y : RecordAnswer} {n i : ℕ} {m o c e : List ℕ}
-    → Stated s steps g l b x m c → x.«record» ≡ Bytes n → Stated s steps g k d y o e → y.«record» ≡ Bytes i → take n c ≡ take i e
+pub record_by_grid : (s : Plane) (steps : List ℕ) (g : Grid) (l k b d : List ℕ) {x y : Result Visited Refusal} {n i : ℕ} {m o c e : List ℕ}
+    → Stated s steps g l b x m c → length_told x ≡ Ok n → Stated s steps g k d y o e → length_told y ≡ Ok i → take n c ≡ take i e
 record_by_grid s steps g l k b d x told y also = record_is s steps g l b x told ∙ sym (record_is s steps g k d y also)
 
 -- nor on the keep marks
-pub record_by_marks : (s : Plane) (steps v h w t q ts ks us l k b d : List ℕ) {x y : RecordAnswer} {n i : ℕ} {m o c e : List ℕ} → Stated s steps (keeping v h w t q ts ks) l b x m c → x.«record» ≡ Bytes n
-    → Stated s steps (keeping v h w t q ts us) k d y o e → y.«record» ≡ Bytes i → take n c ≡ take i e
+pub record_by_marks : (s : Plane) (steps v h w t q ts ks us l k b d : List ℕ) {x y : Result Visited Refusal} {n i : ℕ} {m o c e : List ℕ} → Stated s steps (keeping v h w t q ts ks) l b x m c → length_told x ≡ Ok n
+    → Stated s steps (keeping v h w t q ts us) k d y o e → length_told y ≡ Ok i → take n c ≡ take i e
 unfolding edges_of turn_of column_of sweep_of visit_of is_edge edge_at index_at shortened_at marks_of indices_of
 record_by_marks s steps v h w t q ts ks us l k b d x told y also =
     record_is s steps (keeping v h w t q ts ks) l b x told ∙ sym (record_is s steps (keeping v h w t q ts us) k d y also)
 
 -- ticket 7: a sample in a kept cell is as lent, accepted or refused
-pub recorded_held : (s : Plane) (steps : List ℕ) (g : Grid) (l b : List ℕ) {a : RecordAnswer} {m c : List ℕ} → Stated s steps g l b a m c → (i : ℕ) → kept_by s g i ≡ true → get_or m i 0 ≡ get_or l i 0
+pub recorded_held : (s : Plane) (steps : List ℕ) (g : Grid) (l b : List ℕ) {a : Result Visited Refusal} {m c : List ℕ} → Stated s steps g l b a m c → (i : ℕ) → kept_by s g i ≡ true → get_or m i 0 ≡ get_or l i 0
 unfolding recorded_plane settle
 recorded_held s steps g l b done i h = ap (λ (x : List ℕ). get_or x i 0) done.plane ∙ go (recorded_check s steps g l (length b))
   where
     go : (x : Answer) → get_or (settle x l (run_plane s steps g l)) i 0 ≡ get_or l i 0
-    go Accepted = plane_holds s steps g l i h
-    go (Refused r) = refl
+    go (Ok tt) = plane_holds s steps g l i h
+    go (Err r) = refl
 
 -- ---- "the plane and buffer stay unchanged", and ticket 4: "A refusal reports zero for both."
 
-module _ (s : Plane) (steps : List ℕ) (g : Grid) (l b : List ℕ) {a : RecordAnswer} {r : Refusal} {m c : List ℕ} (done : Stated s steps g l b a m c) (told : a.«record» ≡ «NoRecord» r) where
-  not_accepted : recorded_check s steps g l (length b) ≡ Refused r
+module _ (s : Plane) (steps : List ℕ) (g : Grid) (l b : List ℕ) {a : Result Visited Refusal} {r : Refusal} {m c : List ℕ} (done : Stated s steps g l b a m c) (told : length_told a ≡ Err r) where
+  not_accepted : recorded_check s steps g l (length b) ≡ Err r
   unfolding recorded_answer
   not_accepted = refused_refused (recorded_check s steps g l (length b)) _ (sym told ∙ done.answer)
 
@@ -172,7 +174,7 @@ module _ (s : Plane) (steps : List ℕ) (g : Grid) (l b : List ℕ) {a : RecordA
     done.buffer ∙ ap (λ (x : Answer). settle x b (buffer_after (edges_of s steps g) b)) not_accepted,
   )
 
-  pub refused_none : (a.stored ≡ 0) × (a.changed ≡ 0)
+  pub refused_none : (stored_in (counted a) ≡ 0) × (changed_in (counted a) ≡ 0)
   unfolding recorded_stored recorded_changed settle
   refused_none = (
     done.stored ∙ ap (λ (x : Answer). settle x 0 (run_stored s steps g l)) not_accepted,
@@ -181,9 +183,9 @@ module _ (s : Plane) (steps : List ℕ) (g : Grid) (l b : List ℕ) {a : RecordA
 
 -- ---- the statement leaves one result
 
-module _ {s : Plane} {steps : List ℕ} {g : Grid} {l b : List ℕ} {a a' : RecordAnswer} {m m' c c' : List ℕ} (x : Stated s steps g l b a m c) (y : Stated s steps g l b a' m' c') where
-  pub one_result : (a.«record» ≡ a'.«record») × (m ≡ m') × (c ≡ c')
+module _ {s : Plane} {steps : List ℕ} {g : Grid} {l b : List ℕ} {a a' : Result Visited Refusal} {m m' c c' : List ℕ} (x : Stated s steps g l b a m c) (y : Stated s steps g l b a' m' c') where
+  pub one_result : (length_told a ≡ length_told a') × (m ≡ m') × (c ≡ c')
   one_result = (x.answer ∙ sym y.answer, x.plane ∙ sym y.plane, x.buffer ∙ sym y.buffer)
 
-  pub one_count : (a.stored ≡ a'.stored) × (a.changed ≡ a'.changed)
+  pub one_count : (stored_in (counted a) ≡ stored_in (counted a')) × (changed_in (counted a) ≡ changed_in (counted a'))
   one_count = (x.stored ∙ sym y.stored, x.changed ∙ sym y.changed)

@@ -8,9 +8,8 @@ use Rattle.laws.specs.Loops.{each}
 use Rattle.laws.specs.Sums.{sum}
 use Rattle.low_first.specs.Bytes.{low_first}
 use Rattle.rules.specs.declared.refusals.Refusal.TheVariants.{Buffer}
-use Rattle.rules.specs.declared.refusals.Answer.{Answer}
-use Rattle.rules.specs.declared.refusals.Answer.TheVariants.{Accepted, Refused}
-use Rattle.rules.specs.declared.refusals.Recorded.TheVariants.{Bytes, Refused as «NoRecord»}
+use Rattle.rules.specs.Refusals.{Answer}
+use Rattle.std.specs.declared.result.Result.TheVariants.{Ok, Err}
 use Rattle.rules.specs.Numbers.{highest_of, offset_of, shift_of}
 use Rattle.rules.specs.Refusals.{or_else, unless, settle}
 use Rattle.rules.specs.Thresholds.{index_of, step_of, quant_of, lowered, side_of, both_of, q_threshold, side_threshold}
@@ -47,16 +46,16 @@ counted = (
   witness.changed ∙ ap (λ (a : Answer). settle a 0 (run_changed settings steps (cells 0) samples)) accepted.0,
 )
 
-given_room : recorded_check settings steps (cells 0) samples 17 ≡ Accepted
+given_room : recorded_check settings steps (cells 0) samples 17 ≡ Ok tt
 unfolding recorded_check or_else unless
 given_room = rw (accepted.0, marked)
 
-lacks_room_holds : recorded_check settings steps (cells 0) samples 14 ≡ Refused Buffer
+lacks_room_holds : recorded_check settings steps (cells 0) samples 14 ≡ Err Buffer
 unfolding recorded_check or_else unless
 lacks_room_holds = rw (accepted.0, marked)
 
 -- what `record_plane` must answer and leave: EDG, 1, and the edge at 4,0 of direction 0 with pair 1, q 16 and side 23
-pub recorded : Stated settings steps (cells 0) samples roomy (record { «record» = Bytes 15; stored = 24; changed = 24 }) (four (100 ∷ 101 ∷ 102 ∷ 103 ∷ 105 ∷ 106 ∷ 107 ∷ 108 ∷ []))
+pub recorded : Stated settings steps (cells 0) samples roomy (Ok (record { bytes = 15; stored = 24; changed = 24 })) (four (100 ∷ 101 ∷ 102 ∷ 103 ∷ 105 ∷ 106 ∷ 107 ∷ 108 ∷ []))
     (69 ∷ 68 ∷ 71 ∷ 1 ∷ 0 ∷ 4 ∷ 0 ∷ 0 ∷ 0 ∷ 0 ∷ 1 ∷ 16 ∷ 0 ∷ 23 ∷ 0 ∷ 7 ∷ 7 ∷ [])
 unfolding recorded_answer answer_bytes recorded_plane recorded_buffer recorded_stored recorded_changed settle buffer_after record_of entries_of entry_of low_first
 recorded = record {
@@ -68,6 +67,6 @@ recorded = record {
 }
 
 -- a byte too few: 10, both lists as lent, and nothing counted
-pub refused : Stated settings steps (cells 0) samples short (record { «record» = «NoRecord» Buffer; stored = 0; changed = 0 }) samples short
+pub refused : Stated settings steps (cells 0) samples short (Err Buffer) samples short
 unfolding recorded_answer answer_bytes recorded_plane recorded_buffer recorded_stored recorded_changed settle
 refused = record { answer = rw lacks_room_holds; plane = rw lacks_room_holds; buffer = rw lacks_room_holds; stored = rw lacks_room_holds; changed = rw lacks_room_holds }

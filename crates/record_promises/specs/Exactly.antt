@@ -2,10 +2,6 @@
 -- Assumes nothing.
 use Rattle.std.specs.Prelude.{List, [], ◌∷◌, ◌++◌, ℕ, ◌+◌, ◌*◌, leb}
 use Rattle.rules.specs.declared.settings.Plane.{Plane}
-use Rattle.rules.specs.declared.refusals.Answer.{Answer}
-use Rattle.rules.specs.declared.refusals.Answer.TheVariants.{Accepted, Refused}
-use Rattle.rules.specs.declared.refusals.Recorded.{Recorded}
-use Rattle.rules.specs.declared.refusals.Recorded.TheVariants.{Bytes, Refused as «NoRecord»}
 use Rattle.rules.specs.Plane.{Grid}
 use Rattle.rules.specs.Record.{edge_count}
 use Rattle.checks.specs.Exactly.{ask, Check, check}
@@ -17,8 +13,3 @@ room_test s g n = check 10 (ask (leb (5 + 10 * edge_count s g) n))
 
 abbrev pub recorded_tests : Plane → List ℕ → Grid → List ℕ → ℕ → List Check
 recorded_tests s steps g l n = plane_tests s steps g l ++ (room_test s g n ∷ [])
-
--- whether there is a record, and if not why
-abbrev pub answered : Recorded → Answer
-answered (Bytes n) = Accepted
-answered («NoRecord» r) = Refused r

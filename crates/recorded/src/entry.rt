@@ -7,7 +7,8 @@ ghost use Rattle.recorded.specs.Stated.{Stated};
 use crate::count::edge_count;
 use plane::{plane_check, run_noted};
 use records::put_header;
-use rules::refusals::{Answer, RecordAnswer, Recorded, Refusal};
+use rules::counts::Visited;
+use rules::refusals::Refusal;
 use rules::settings::Plane;
 
 // The first refusal of a plane whose record has a buffer of so many bytes, or none.
@@ -23,17 +24,14 @@ fn record_check(
     keep: &[u8],
     steps: &[u32],
     s: Plane,
-) -> Answer
+) -> Result<(), Refusal>
     ensures { result ≡ recorded_check s steps.now (keeping vedge.now hedge.now sqw.now sqh.now qindex.now tiles.now keep.now) plane.now room }
 {
-    let a = plane_check(plane, vedge, hedge, sqw, sqh, qindex, tiles, keep, steps, s);
-    if let Answer::Refused(r) = a {
-        return Answer::Refused(r);
-    }
+    plane_check(plane, vedge, hedge, sqw, sqh, qindex, tiles, keep, steps, s)?;
     if room < 5 + 10 * edge_count(vedge, hedge, s) {
-        return Answer::Refused(Refusal::Buffer);
+        return Err(Refusal::Buffer);
     }
-    Answer::Accepted
+    Ok(())
 }
 
 // Deblocks a plane, writes the record of its edges, answers the record's length and tells how many samples were stored and changed; or refuses,
@@ -50,27 +48,15 @@ pub fn record_plane(
     keep: &[u8],
     steps: &[u32],
     s: Plane,
-) -> RecordAnswer
+) -> Result<Visited, Refusal>
     ensures { Stated s steps.now (keeping vedge.now hedge.now sqw.now sqh.now qindex.now tiles.now keep.now) plane.old buffer.old result plane.new buffer.new }
 {
     let room = buffer.len();
-    let a = record_check(
+    record_check(
         plane, room, vedge, hedge, sqw, sqh, qindex, tiles, keep, steps, s,
-    );
-    if let Answer::Refused(r) = a {
-        return RecordAnswer {
-            record: Recorded::Refused(r),
-            stored: 0,
-            changed: 0,
-        };
-    }
+    )?;
     put_header(buffer);
-    let done = run_noted(
+    Ok(run_noted(
         plane, buffer, vedge, hedge, sqw, sqh, qindex, tiles, keep, steps, s,
-    );
-    RecordAnswer {
-        record: Recorded::Bytes(done.bytes),
-        stored: done.stored,
-        changed: done.changed,
-    }
+    ))
 }

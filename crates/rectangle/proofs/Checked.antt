@@ -10,8 +10,8 @@ use mir.Val.{Fits}
 use mir.Syntax.{w64}
 use Rattle.laws.specs.Choose.{both_parts}
 use Rattle.rules.specs.declared.settings.Keep.{Keep}
-use Rattle.rules.specs.declared.refusals.Answer.{Answer}
-use Rattle.rules.specs.declared.refusals.Answer.TheVariants.{Accepted, Refused}
+use Rattle.rules.specs.Refusals.{Answer}
+use Rattle.std.specs.declared.result.Result.TheVariants.{Ok, Err}
 use Rattle.rules.specs.declared.refusals.Refusal.{Refusal}
 use Rattle.rules.specs.TuGrid.{cells_ok}
 use Rattle.rules.specs.Keep.{kept_of, keep_check, keep_after}
@@ -27,7 +27,7 @@ pub keep_cells : (s : Keep) → true ≡ cells_ok s.cols s.rows → Fits w64 (s.
 keep_cells s e = cells_fit s.rows s.cols (rows_most _ _ (sym e)) (cols_most _ _ (sym e))
 
 -- all that setting the marks asks for
-pub keep_accepted : (s : Keep) (k : List ℕ) → keep_check s k ≡ Accepted → RectangleFits s (length k)
+pub keep_accepted : (s : Keep) (k : List ℕ) → keep_check s k ≡ Ok tt → RectangleFits s (length k)
 unfolding keep_check cells_ok
 keep_accepted s k e =
     let p = else_parts _ _ e in
@@ -37,13 +37,13 @@ keep_accepted s k e =
 
 -- ---- the entry's ways out, by the answer a of its checks
 
-pub keep_refused : {s : Keep} {k : List ℕ} {a : Answer} {r : Refusal} → a ≡ keep_check s k → a ≡ Refused r → Stated s k (Refused r) k
+pub keep_refused : {s : Keep} {k : List ℕ} {a : Answer} {r : Refusal} → a ≡ keep_check s k → a ≡ Err r → Stated s k (Err r) k
 unfolding keep_after
 keep_refused e f = record { answer = refused_by_holds _ _ e f; marks = settle_refused_by _ _ _ _ e f }
 
-pub keep_fit : (s : Keep) (k : List ℕ) {a : Answer} → a ≡ keep_check s k → a ≡ Accepted → RectangleFits s (length k)
+pub keep_fit : (s : Keep) (k : List ℕ) {a : Answer} → a ≡ keep_check s k → a ≡ Ok tt → RectangleFits s (length k)
 keep_fit s k e f = keep_accepted s k (sym e ∙ f)
 
-pub keep_stated : {s : Keep} {k n : List ℕ} {a : Answer} → a ≡ keep_check s k → a ≡ Accepted → n ≡ kept_of s k → Stated s k Accepted n
+pub keep_stated : {s : Keep} {k n : List ℕ} {a : Answer} → a ≡ keep_check s k → a ≡ Ok tt → n ≡ kept_of s k → Stated s k (Ok tt) n
 unfolding keep_after
 keep_stated e f g = record { answer = accepted_by _ _ e f; marks = settle_accepted_by _ _ _ _ _ e f g }

@@ -6,8 +6,8 @@ use Prim.Native.Nat.{ℕ}
 use Rattle.laws.specs.Choose.{pick, both, all}
 use Rattle.laws.specs.Loops.{filled}
 use Rattle.rules.specs.declared.settings.Keep.{Keep}
-use Rattle.rules.specs.declared.refusals.Answer.{Answer}
-use Rattle.rules.specs.declared.refusals.Answer.TheVariants.{Accepted}
+use Rattle.rules.specs.Refusals.{Answer}
+use Rattle.std.specs.declared.result.Result.TheVariants.{Ok}
 use Rattle.rules.specs.Numbers.{in_range}
 use Rattle.rules.specs.Refusals.{or_else, unless, found, settle, sooner, first, found_if, over_top}
 use Rattle.rules.specs.TuGrid.{cells_ok}
@@ -29,7 +29,7 @@ lent = 1 ∷ 0 ∷ 0 ∷ 0 ∷ 0 ∷ 0 ∷ 7 ∷ []
 abbrev last : ℕ → Keep
 last h = record { cols = 3; rows = 2; row = 0; col = 2; h = h; w = 9 }
 
-pub keep_accepts : keep_check (last 1) lent ≡ Accepted
+pub keep_accepts : keep_check (last 1) lent ≡ Ok tt
 unfolding both in_range or_else unless found sooner first found_if over_top cells_ok bad_keep keep_check
 keep_accepts = refl
 

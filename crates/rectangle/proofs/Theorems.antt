@@ -12,11 +12,11 @@ use lib.Seq.{ext_get_or}
 use Rattle.laws.specs.Choose.{pick}
 use Rattle.laws.specs.Loops.{filled_length, filled_at, filled_beyond}
 use Rattle.rules.specs.declared.settings.Keep.{Keep}
-use Rattle.rules.specs.declared.refusals.Answer.{Answer}
-use Rattle.rules.specs.declared.refusals.Answer.TheVariants.{Accepted, Refused}
+use Rattle.rules.specs.Refusals.{Answer}
+use Rattle.std.specs.declared.result.Result.TheVariants.{Ok, Err}
 use Rattle.rules.specs.declared.refusals.Refusal.{Refusal}
 use Rattle.rules.specs.declared.refusals.Refusal.TheVariants.{Cell}
-use Rattle.rules.specs.declared.refusals.Found.TheVariants.{Nothing}
+use Rattle.std.specs.declared.option.Option.TheVariants.{None}
 use Rattle.rules.specs.Refusals.{settle, over_top}
 use Rattle.rules.specs.Plane.{bad_keep}
 use Rattle.rules.specs.Keep.{in_rectangle, kept_at, kept_of, keep_check, keep_after}
@@ -32,12 +32,12 @@ pub one_result : {s : Keep} {k m n : List ℕ} {a b : Answer} → Stated s k a m
 one_result p q = (p.answer ∙ sym q.answer, p.marks ∙ sym q.marks)
 
 -- a refusal leaves the marks as lent
-pub refused_as_lent : {s : Keep} {k n : List ℕ} {r : Refusal} → Stated s k (Refused r) n → n ≡ k
+pub refused_as_lent : {s : Keep} {k n : List ℕ} {r : Refusal} → Stated s k (Err r) n → n ≡ k
 unfolding keep_after settle
 refused_as_lent {s} {k} p = p.marks ∙ rw (← p.answer)
 
 -- an accepted call
-module _ {s : Keep} {k n : List ℕ} (p : Stated s k Accepted n) where
+module _ {s : Keep} {k n : List ℕ} (p : Stated s k (Ok tt) n) where
   done : n ≡ kept_of s k
   unfolding keep_after settle
   done = p.marks ∙ rw (← p.answer)
@@ -94,11 +94,11 @@ module _ {s : Keep} {k n : List ℕ} (p : Stated s k Accepted n) where
       as_it_was false i f = rw f
 
   -- the marks are 0 or 1 as before, so that a plane or another rectangle takes them
-  pub still_good : bad_keep (s.rows * s.cols) n ≡ Nothing
+  pub still_good : bad_keep (s.rows * s.cols) n ≡ None
   unfolding bad_keep keep_check kept_at pick
   still_good = all_nothing _ (s.rows * s.cols) (λ i h. sym (over_good 1 n i (low i h)))
     where
-      was : bad_keep (s.rows * s.cols) k ≡ Nothing
+      was : bad_keep (s.rows * s.cols) k ≡ None
       was = found_nothing _ Cell (else_parts _ _ (else_parts _ _ (sym p.answer)).1).1
 
       most : (b : Bool) (x : ℕ) → x ≤ 1 → pick b 1 x ≤ 1

@@ -3,7 +3,6 @@ ghost use Rattle.std.specs.Prelude.{◌≡◌, ◌+◌, ◌≤◌, length};
 ghost use Rattle.rules.specs.Keep.{kept_of};
 ghost use Rattle.rectangle.specs.Cut.{RectangleFits, part_of, row_set};
 
-use laws::least;
 use rules::settings::Keep;
 
 // How many of count rows or columns from first on lie in a plane of n: no sum, since first and count may be any numbers.
@@ -13,7 +12,7 @@ fn part(first: usize, count: usize, n: usize) -> usize
     if n <= first {
         return 0;
     }
-    least(count, n - first)
+    count.min(n - first)
 }
 
 // 1 at n places from a place on.

@@ -5,36 +5,32 @@ ghost use Rattle.rectangle.specs.Stated.{Stated};
 
 use crate::cut::set_rectangle;
 use checks::bad_keep;
-use rules::refusals::{Answer, Found, Refusal};
+use rules::refusals::Refusal;
 use rules::settings::Keep;
 use tiles::tests::cells_ok;
 
 // The first refusal, or none.
-fn keep_check(keep: &[u8], s: Keep) -> Answer
+fn keep_check(keep: &[u8], s: Keep) -> Result<(), Refusal>
     ensures { result ≡ keep_check s keep.now }
 {
     if !cells_ok(s.cols, s.rows) {
-        return Answer::Refused(Refusal::Size);
+        return Err(Refusal::Size);
     }
     let n = s.rows * s.cols;
     if keep.len() < n {
-        return Answer::Refused(Refusal::Length);
+        return Err(Refusal::Length);
     }
-    let f = bad_keep(keep, n);
-    if let Found::At(k) = f {
-        return Answer::Refused(Refusal::Cell(k));
+    if let Some(k) = bad_keep(keep, n) {
+        return Err(Refusal::Cell(k));
     }
-    Answer::Accepted
+    Ok(())
 }
 
 // Marks every cell of the plane that lies in the rectangle as kept and leaves the others as they were; or refuses, and leaves all marks as lent.
-pub fn keep_rectangle(keep: &mut [u8], s: Keep) -> Answer
+pub fn keep_rectangle(keep: &mut [u8], s: Keep) -> Result<(), Refusal>
     ensures { Stated s keep.old result keep.new }
 {
-    let a = keep_check(keep, s);
-    if let Answer::Refused(r) = a {
-        return Answer::Refused(r);
-    }
+    keep_check(keep, s)?;
     set_rectangle(keep, s);
-    Answer::Accepted
+    Ok(())
 }

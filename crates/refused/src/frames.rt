@@ -4,15 +4,19 @@ ghost use Rattle.by_settings.specs.Rooms.{kinds, fewest_shorts, frame_numbers};
 
 use crate::say;
 use by_settings::filters::frame_of;
+use by_settings::kinds::KINDS;
 use by_settings::lists::lists_of;
+use by_settings::places;
 use by_settings::places::Place;
-use by_settings::{kinds, places};
-use frame_by_settings::lists::Outcome;
+use frame_by_settings::lists::Refused;
 use plane_checks::starts::tiles_check;
-use rules::refusals::{Answer, Refusal, number, place};
+use rules::counts::Counts;
+use rules::refusals::{Refusal, number, place};
 use rules::settings::Frame;
+use settings::kinds::Kind;
 use settings::lines::{line_with, lines_of};
 use streams::job::Job;
+use streams::say::Answered;
 use system::files::Target;
 use thresholds::tests::delta_ok;
 use tiles::tests::cap_ok;
@@ -34,58 +38,57 @@ pub fn starts_good(shorts: &[u16], places: &[usize], f: Frame) -> bool
     let a = at.tiles;
     let b = at.tilesend;
     match tiles_check(&shorts[a..b], f.lumastride / 4) {
-        Answer::Accepted => true,
-        Answer::Refused(_) => false,
+        Ok(()) => true,
+        Err(_) => false,
     }
 }
 
 // Which setting of a frame is outside its range, where luma's tile starts are good or not: the kind of its line.
-fn setting_of(f: Frame, starts: bool) -> usize {
+fn setting_of(f: Frame, starts: bool) -> Kind {
     if !delta_ok(f.deltay) {
-        return kinds::DELTA_Y;
+        return Kind::DeltaY;
     }
     if !cap_ok(f.capw) || !cap_ok(f.caph) {
-        return kinds::CAP_Y;
+        return Kind::CapY;
     }
     if !delta_ok(f.deltauv) {
-        return kinds::DELTA_UV;
+        return Kind::DeltaUv;
     }
     if !cap_ok(f.ccapw) || !cap_ok(f.ccaph) {
-        return kinds::CAP_UV;
+        return Kind::CapUv;
     }
-    if starts {
-        kinds::TILES_UV
-    } else {
-        kinds::TILES_Y
-    }
+    if starts { Kind::TilesUv } else { Kind::TilesY }
+}
+
+// A line, where there is one: lines count from 1.
+fn line_or_none(line: usize) -> Option<usize> {
+    if line == 0 { None } else { Some(line) }
 }
 
 // The answer on a setting outside its range, by its kind.
-pub fn say_setting(told: &Target, kind: usize, f: Frame, text: &[u8]) {
-    let mut lines = [0usize; kinds::KINDS];
+pub fn say_setting(told: &Target, kind: Kind, f: Frame, text: &[u8]) {
+    let mut lines = [0usize; KINDS];
     lines_of(text, &mut lines);
-    if kind < kinds::TILES_Y {
-        say::out_of_range(told, kind, lines[kind]);
-    } else if kind == kinds::TILES_Y {
-        say::bad_tiles(told, kind, f.lumastride / 4, lines[kinds::TILES_Y]);
-    } else {
-        let line = lines[kinds::TILES_UV];
-        say::bad_tiles(told, kinds::TILES_UV, f.chromastride / 4, line);
+    let line = line_or_none(lines[usize::from(kind)]);
+    match kind {
+        Kind::TilesY => say::bad_tiles(told, kind, f.lumastride / 4, line),
+        Kind::TilesUv => say::bad_tiles(told, kind, f.chromastride / 4, line),
+        _ => say::out_of_range(told, kind, line),
     }
 }
 
-// The line of the settings that has number k of a list: a leaf's first number, or a step; 0 for none.
-fn line_of(list: usize, k: usize, text: &[u8]) -> usize {
+// The line of the settings that has number k of a list: a leaf's first number, or a step.
+fn line_of(list: usize, k: usize, text: &[u8]) -> Option<usize> {
     // no list of leaves is as long
     if 1048576 <= k {
-        return 0;
+        return None;
     }
     match list {
-        places::LEAVES => line_with(text, kinds::LEAF, 4 * k),
-        places::CHROMA_LEAVES => line_with(text, kinds::LEAF_UV, 4 * k),
-        places::SKIPS => line_with(text, kinds::SKIP, 4 * k),
-        places::STEPS => line_with(text, kinds::STEPS, k),
-        _ => 0,
+        places::LEAVES => line_with(text, Kind::Leaf, 4 * k),
+        places::CHROMA_LEAVES => line_with(text, Kind::LeafUv, 4 * k),
+        places::SKIPS => line_with(text, Kind::Skip, 4 * k),
+        places::STEPS => line_with(text, Kind::Steps, k),
+        _ => None,
     }
 }
 
@@ -98,15 +101,19 @@ fn say_refused(told: &Target, r: Refusal, at: Place, f: Frame, starts: bool, tex
     }
 }
 
-// Whether a frame was deblocked; else after the answer that says why not.
-pub fn deblocked(told: &Target, o: Outcome, f: Frame, starts: bool, text: &[u8]) -> bool {
-    let a = o.answer;
-    let at = o.place;
-    match a {
-        Answer::Accepted => true,
-        Answer::Refused(r) => {
-            say_refused(told, r, at, f, starts, text);
-            false
+// The counts of a frame that was deblocked; else an error after the answer that says why not.
+pub fn deblocked(
+    told: &Target,
+    o: Result<Counts, Refused>,
+    f: Frame,
+    starts: bool,
+    text: &[u8],
+) -> Result<Counts, Answered> {
+    match o {
+        Ok(counts) => Ok(counts),
+        Err(x) => {
+            say_refused(told, x.refusal, x.place, f, starts, text);
+            Err(Answered)
         }
     }
 }

@@ -3,10 +3,10 @@ ghost use Rattle.std.specs.Prelude.{length, ◌≤◌};
 ghost use Rattle.by_settings.specs.Rooms.{kinds, fewest_shorts};
 
 use crate::say;
-use by_settings::kinds;
 use by_settings::lists::lists_of;
 use pictures::outside::outside;
 use pictures::planes::Shape;
+use settings::kinds::Kind;
 use settings::lines::line_with;
 use streams::say::at_line;
 use system::files::Target;
@@ -17,19 +17,18 @@ fn list_inside(
     told: &Target,
     name: &[u8],
     text: &[u8],
-    kind: usize,
+    kind: Kind,
     leaves: &[u16],
     s: Shape,
 ) -> bool {
     let rows = s.rows / 4;
     let columns = s.stride / 4;
-    let k = outside(leaves, rows, columns);
-    if leaves.len() / 4 <= k {
+    let Some(k) = outside(leaves, rows, columns) else {
         return true;
-    }
+    };
     let row = wide(leaves[4 * k]);
     let column = wide(leaves[4 * k + 1]);
-    at_line(told, name, line_with(text, kind, 4 * k));
+    at_line(told, name, line_with(text, kind, 4 * k).unwrap_or(0));
     say::outside(told, kind, row, column, rows, columns);
     false
 }
@@ -52,11 +51,11 @@ pub fn inside(
     let d = at.chromaend;
     let e = at.skips;
     let g = at.skipsend;
-    if !list_inside(told, name, text, kinds::LEAF, &shorts[a..b], s) {
+    if !list_inside(told, name, text, Kind::Leaf, &shorts[a..b], s) {
         return false;
     }
-    if !list_inside(told, name, text, kinds::LEAF_UV, &shorts[c..d], s) {
+    if !list_inside(told, name, text, Kind::LeafUv, &shorts[c..d], s) {
         return false;
     }
-    list_inside(told, name, text, kinds::SKIP, &shorts[e..g], s)
+    list_inside(told, name, text, Kind::Skip, &shorts[e..g], s)
 }

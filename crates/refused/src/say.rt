@@ -1,7 +1,7 @@
 // The lines of an answer: the outcome as one byte (1 refused, 2 a bad file), which stands before any name, and then what is said of a leaf, a setting or a refusal.
-use by_settings::kinds;
 use by_settings::places::{Place, STEPS};
 use rules::refusals::Refusal;
+use settings::kinds::Kind;
 use streams::say::{number, words};
 use streams::table::entry;
 use streams::take::setting;
@@ -17,7 +17,7 @@ fn cells(told: &Target, rows: usize, columns: usize) {
 }
 
 // A leaf that begins outside the picture, by its kind, row and column.
-pub fn outside(told: &Target, kind: usize, row: usize, column: usize, rows: usize, columns: usize) {
+pub fn outside(told: &Target, kind: Kind, row: usize, column: usize, rows: usize, columns: usize) {
     cells(told, rows, columns);
     setting(told, kind);
     words(told, b" ");
@@ -28,20 +28,19 @@ pub fn outside(told: &Target, kind: usize, row: usize, column: usize, rows: usiz
 }
 
 // The line of the settings that has what was refused, where there is one.
-fn settings_line(told: &Target, line: usize) {
-    if line == 0 {
-        return;
+fn settings_line(told: &Target, line: Option<usize>) {
+    if let Some(line) = line {
+        words(told, b"; line ");
+        number(told, line);
+        words(told, b" of the settings");
     }
-    words(told, b"; line ");
-    number(told, line);
-    words(told, b" of the settings");
 }
 
 // The range of a setting.
-fn range(told: &Target, kind: usize) {
+fn range(told: &Target, kind: Kind) {
     match kind {
-        kinds::DELTA_Y | kinds::DELTA_UV => words(told, b"-128..127"),
-        kinds::CAP_Y | kinds::CAP_UV => words(told, b"1, 2, 4, 8 and 16 cells each way"),
+        Kind::DeltaY | Kind::DeltaUv => words(told, b"-128..127"),
+        Kind::CapY | Kind::CapUv => words(told, b"1, 2, 4, 8 and 16 cells each way"),
         _ => words(
             told,
             b"its ranges: scale 1..16, cuts -4095..4095 with lo at most hi, classes 0..3, taps -16..16, band log2 0..3",
@@ -50,7 +49,7 @@ fn range(told: &Target, kind: usize) {
 }
 
 // A setting outside its range, and the line that has it.
-pub fn out_of_range(told: &Target, kind: usize, line: usize) {
+pub fn out_of_range(told: &Target, kind: Kind, line: Option<usize>) {
     words(told, b"1refused by 5: ");
     setting(told, kind);
     words(told, b" is outside ");
@@ -60,7 +59,7 @@ pub fn out_of_range(told: &Target, kind: usize, line: usize) {
 }
 
 // A bad list of tile starts of a plane with so many columns of cells, and the line that has it.
-pub fn bad_tiles(told: &Target, kind: usize, columns: usize, line: usize) {
+pub fn bad_tiles(told: &Target, kind: Kind, columns: usize, line: Option<usize>) {
     words(told, b"1refused by 5: ");
     setting(told, kind);
     words(
@@ -113,8 +112,8 @@ fn placed(told: &Target, at: Place) {
     number(told, at.column);
 }
 
-// A refusal by its number, its meaning, its place, and the line of the settings that has it, 0 for none.
-pub fn refused(told: &Target, r: Refusal, at: Place, line: usize) {
+// A refusal by its number, its meaning, its place, and the line of the settings that has it.
+pub fn refused(told: &Target, r: Refusal, at: Place, line: Option<usize>) {
     let n = rules::refusals::number(r) as usize;
     words(told, b"1refused by ");
     number(told, n);

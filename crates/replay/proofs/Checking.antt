@@ -5,10 +5,10 @@ use Rattle.laws.specs.Choose.{both_parts}
 use Rattle.rules.specs.declared.settings.Replay.{Replay}
 use Rattle.rules.specs.declared.refusals.Refusal.{Refusal}
 use Rattle.rules.specs.declared.refusals.Refusal.TheVariants.{Header, Cut, Entry, Cell, Room, Sample}
-use Rattle.rules.specs.declared.refusals.Answer.{Answer}
-use Rattle.rules.specs.declared.refusals.Answer.TheVariants.{Accepted, Refused}
-use Rattle.rules.specs.declared.refusals.Found.{Found}
-use Rattle.rules.specs.declared.refusals.Found.TheVariants.{At, Nothing}
+use Rattle.rules.specs.Refusals.{Answer}
+use Rattle.std.specs.declared.result.Result.TheVariants.{Ok, Err}
+use Rattle.std.specs.declared.option.Option.{Option}
+use Rattle.std.specs.declared.option.Option.TheVariants.{Some, None}
 use Rattle.rules.specs.Numbers.{depth_ok, top_of}
 use Rattle.rules.specs.Refusals.{or_else, found, over_box}
 use Rattle.rules.specs.Record.{edges_in}
@@ -21,33 +21,33 @@ use Rattle.replay.proofs.Entries.{sized_of, header_there}
 -- ---- the record's own checks
 
 module _ (bytes : List ℕ) where
-  pub header_refused : false ≡ header_ok bytes → Refused Header ≡ record_check bytes
+  pub header_refused : false ≡ header_ok bytes → Err Header ≡ record_check bytes
   unfolding record_check
   header_refused h = stop _ _ (unless_bad _ _ h)
 
   module _ (h : true ≡ header_ok bytes) where
-    pub cut_refused : {n : ℕ} → At n ≡ cut_entry bytes → Refused (Cut n) ≡ record_check bytes
+    pub cut_refused : {n : ℕ} → Some n ≡ cut_entry bytes → Err (Cut n) ≡ record_check bytes
     unfolding record_check
     cut_refused c = go_on _ _ _ (unless_good _ _ h) (stop _ _ (found_bad _ _ _ c refl))
 
-    module _ (w : Nothing ≡ cut_entry bytes) {f : Found} (asked : f ≡ bad_entry bytes) where
+    module _ (w : None ≡ cut_entry bytes) {f : Option ℕ} (asked : f ≡ bad_entry bytes) where
       last : {a : Answer} → a ≡ found (bad_entry bytes) Entry → a ≡ record_check bytes
       unfolding record_check
       last e = go_on _ _ _ (unless_good _ _ h) (go_on _ _ _ (found_good _ _ w) e)
 
-      pub entry_refused : {k : ℕ} → f ≡ At k → Refused (Entry k) ≡ record_check bytes
+      pub entry_refused : {k : ℕ} → f ≡ Some k → Err (Entry k) ≡ record_check bytes
       entry_refused e = last (found_bad_by _ _ _ _ asked e refl)
 
-      pub record_passed : f ≡ Nothing → Accepted ≡ record_check bytes
+      pub record_passed : f ≡ None → Ok tt ≡ record_check bytes
       record_passed e = last (found_good_by _ _ _ asked e)
 
 -- what they say
 pub record Own (bytes : List ℕ) : Type 0 where
   pub header : header_ok bytes ≡ true
-  pub whole : cut_entry bytes ≡ Nothing
+  pub whole : cut_entry bytes ≡ None
   pub ranged : Ranged bytes
 
-pub own : (bytes : List ℕ) → record_check bytes ≡ Accepted → Own bytes
+pub own : (bytes : List ℕ) → record_check bytes ≡ Ok tt → Own bytes
 unfolding record_check
 own bytes h =
     let a = else_parts _ _ h in
@@ -61,25 +61,25 @@ own bytes h =
 
 -- ---- 6, 7 and 8
 
-module _ (s : Replay) (bytes keep l : List ℕ) {e : Found} (marked : e ≡ bad_keep (s.rows * s.cols) keep) where
-  pub keep_refused : {k : ℕ} → e ≡ At k → Refused (Cell k) ≡ room_check s bytes keep l
+module _ (s : Replay) (bytes keep l : List ℕ) {e : Option ℕ} (marked : e ≡ bad_keep (s.rows * s.cols) keep) where
+  pub keep_refused : {k : ℕ} → e ≡ Some k → Err (Cell k) ≡ room_check s bytes keep l
   unfolding room_check
   keep_refused q = stop _ _ (found_bad_by _ _ _ _ marked q refl)
 
-  module _ (good : e ≡ Nothing) {f : Found} (sought : f ≡ no_room_in s bytes) where
-    pub room_refused : {k : ℕ} → f ≡ At k → Refused (Room k) ≡ room_check s bytes keep l
+  module _ (good : e ≡ None) {f : Option ℕ} (sought : f ≡ no_room_in s bytes) where
+    pub room_refused : {k : ℕ} → f ≡ Some k → Err (Room k) ≡ room_check s bytes keep l
     unfolding room_check
     room_refused q = go_on _ _ _ (found_good_by _ _ _ marked good) (stop _ _ (found_bad_by _ _ _ _ sought q refl))
 
-    module _ (room : f ≡ Nothing) {top : ℕ} (deep : top ≡ top_of s.depth) {g : Found} (over : g ≡ over_box top l 0 s.stride (4 * s.cols) (4 * s.rows)) where
+    module _ (room : f ≡ None) {top : ℕ} (deep : top ≡ top_of s.depth) {g : Option ℕ} (over : g ≡ over_box top l 0 s.stride (4 * s.cols) (4 * s.rows)) where
       over_is : g ≡ over_replay s l
       over_is = over ∙ ap (λ (t : ℕ). over_box t l 0 s.stride (4 * s.cols) (4 * s.rows)) deep
 
-      pub sample_refused : {k : ℕ} → g ≡ At k → Refused (Sample k) ≡ room_check s bytes keep l
+      pub sample_refused : {k : ℕ} → g ≡ Some k → Err (Sample k) ≡ room_check s bytes keep l
       unfolding room_check
       sample_refused q = go_on _ _ _ (found_good_by _ _ _ marked good) (go_on _ _ _ (found_good_by _ _ _ sought room) (found_bad_by _ _ _ _ over_is q refl))
 
-      pub room_passed : g ≡ Nothing → Accepted ≡ room_check s bytes keep l
+      pub room_passed : g ≡ None → Ok tt ≡ room_check s bytes keep l
       unfolding room_check
       room_passed q = go_on _ _ _ (found_good_by _ _ _ marked good) (go_on _ _ _ (found_good_by _ _ _ sought room) (found_good_by _ _ _ over_is q))
 
@@ -96,13 +96,13 @@ module _ (s : Replay) (bytes keep l : List ℕ) (d : true ≡ depth_ok s.depth) 
   unfolding replay_check room_check
   later h = go_on _ _ _ (unless_good _ _ d) (go_on _ _ _ (unless_good _ _ z) (go_on _ _ _ (unless_good _ _ p) h))
 
-  pub record_refused : {r : Refusal} → a ≡ Refused r → Refused r ≡ replay_check s bytes keep l
+  pub record_refused : {r : Refusal} → a ≡ Err r → Err r ≡ replay_check s bytes keep l
   record_refused e = later (stop_by _ _ _ asked e)
 
-  pub roomy_by : a ≡ Accepted → Roomy s bytes (length l) (length keep)
+  pub roomy_by : a ≡ Ok tt → Roomy s bytes (length l) (length keep)
   roomy_by e = record { depth = sym d; sized = sized_of s z; ranged = (own bytes (sym asked ∙ e)).ranged; plane_long = (longs s _ _ p).0; keep_long = (longs s _ _ p).1 }
 
-  pub replay_passed : {b : Answer} → a ≡ Accepted → b ≡ room_check s bytes keep l → b ≡ replay_check s bytes keep l
+  pub replay_passed : {b : Answer} → a ≡ Ok tt → b ≡ room_check s bytes keep l → b ≡ replay_check s bytes keep l
   replay_passed e h = later (go_on_by _ _ _ _ asked e h)
 
 -- ---- what an accepted record says
@@ -110,12 +110,12 @@ module _ (s : Replay) (bytes keep l : List ℕ) (d : true ≡ depth_ok s.depth) 
 pub record Passed (s : Replay) (bytes keep l : List ℕ) : Type 0 where
   pub depth_ok : depth_ok s.depth ≡ true
   pub runs : Runnable s bytes (length l) (top_of s.depth)
-  pub record_ok : record_check bytes ≡ Accepted
-  pub clean : over_replay s l ≡ Nothing
+  pub record_ok : record_check bytes ≡ Ok tt
+  pub clean : over_replay s l ≡ None
   pub keep_long : s.rows * s.cols ≤ length keep
-  pub keep_ok : bad_keep (s.rows * s.cols) keep ≡ Nothing
+  pub keep_ok : bad_keep (s.rows * s.cols) keep ≡ None
 
-pub passed : (s : Replay) (bytes keep l : List ℕ) → replay_check s bytes keep l ≡ Accepted → Passed s bytes keep l
+pub passed : (s : Replay) (bytes keep l : List ℕ) → replay_check s bytes keep l ≡ Ok tt → Passed s bytes keep l
 unfolding replay_check
 passed s bytes keep l h =
     let a = else_parts _ _ h in
@@ -144,7 +144,7 @@ passed s bytes keep l h =
 -- ---- the entry, by the answer of its checks
 
 module _ (s : Replay) (bytes keep l : List ℕ) {a : Answer} (is : a ≡ replay_check s bytes keep l) where
-  pub replayed_refused : {r : Refusal} → a ≡ Refused r → Replayed s bytes keep l (record { answer = Refused r; stored = 0; changed = 0 }) l
+  pub replayed_refused : {r : Refusal} → a ≡ Err r → Replayed s bytes keep l (Err r) l
   unfolding replay_after replay_stored replay_changed
   replayed_refused e = record {
     answer = sym e ∙ is;
@@ -153,7 +153,7 @@ module _ (s : Replay) (bytes keep l : List ℕ) {a : Answer} (is : a ≡ replay_
     changed = ap in_word (settle_refused _ 0 _ (sym e ∙ is));
   }
 
-  pub replayed_run : {x y : ℕ} {m : List ℕ} → a ≡ Accepted → Ran s keep (edges_in bytes) l x y m → Replayed s bytes keep l (record { answer = Accepted; stored = x; changed = y }) m
+  pub replayed_run : {x y : ℕ} {m : List ℕ} → a ≡ Ok tt → Ran s keep (edges_in bytes) l x y m → Replayed s bytes keep l (Ok (record { stored = x; changed = y })) m
   unfolding replay_after replay_of replay_stored replay_changed
   replayed_run e run = record {
     answer = sym e ∙ is;
@@ -162,12 +162,12 @@ module _ (s : Replay) (bytes keep l : List ℕ) {a : Answer} (is : a ≡ replay_
     changed = run.changed_is ∙ ap in_word (settle_accepted _ 0 _ _ (sym e ∙ is) refl);
   }
 
-  pub depth_by : a ≡ Accepted → depth_ok s.depth ≡ true
+  pub depth_by : a ≡ Ok tt → depth_ok s.depth ≡ true
   depth_by e = (passed s bytes keep l (sym is ∙ e)).depth_ok
 
-  pub runnable_by : {top : ℕ} → a ≡ Accepted → top ≡ top_of s.depth → Runnable s bytes (length l) top
+  pub runnable_by : {top : ℕ} → a ≡ Ok tt → top ≡ top_of s.depth → Runnable s bytes (length l) top
   runnable_by e deep = rw deep (passed s bytes keep l (sym is ∙ e)).runs
 
   -- what is asked of the keep marks before the run
-  pub marks_by : a ≡ Accepted → s.rows * s.cols ≤ length keep
+  pub marks_by : a ≡ Ok tt → s.rows * s.cols ≤ length keep
   marks_by e = (passed s bytes keep l (sym is ∙ e)).keep_long

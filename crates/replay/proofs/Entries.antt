@@ -6,8 +6,8 @@ use Rattle.laws.specs.Loops.{each, each_more}
 use Rattle.laws.specs.Trace.{run_then}
 use Rattle.rules.specs.declared.edge.Edge.{Edge}
 use Rattle.rules.specs.declared.settings.Replay.{Replay}
-use Rattle.rules.specs.declared.refusals.Found.{Found}
-use Rattle.rules.specs.declared.refusals.Found.TheVariants.{At, Nothing}
+use Rattle.std.specs.declared.option.Option.{Option}
+use Rattle.std.specs.declared.option.Option.TheVariants.{Some, None}
 use Rattle.rules.specs.Numbers.{top_of}
 use Rattle.rules.specs.Refusals.{first, found_unless}
 use Rattle.rules.specs.Segment.{ranges_ok, has_room, segment_of, run_edges}
@@ -46,11 +46,11 @@ unfolding header_ok
 header_there bytes h = leb-true 5 (length bytes) (all_parts _ _ (sym h)).0
 
 -- the bytes after the header are whole entries, or not
-pub cut_at : (bytes : List ℕ) (n : ℕ) → n ≡ entry_count bytes → ((length bytes - 5) % 10 ≡ 0 → ⊥) → At n ≡ cut_entry bytes
+pub cut_at : (bytes : List ℕ) (n : ℕ) → n ≡ entry_count bytes → ((length bytes - 5) % 10 ≡ 0 → ⊥) → Some n ≡ cut_entry bytes
 unfolding cut_entry
-cut_at bytes n e h = ap At e ∙ found_unless_holds _ _ (not_eq _ _ h)
+cut_at bytes n e h = ap Some e ∙ found_unless_holds _ _ (not_eq _ _ h)
 
-pub cut_none : (bytes : List ℕ) → (length bytes - 5) % 10 ≡ 0 → Nothing ≡ cut_entry bytes
+pub cut_none : (bytes : List ℕ) → (length bytes - 5) % 10 ≡ 0 → None ≡ cut_entry bytes
 unfolding cut_entry
 cut_none bytes h = found_unless_not _ _ (is_eq _ _ h)
 
@@ -66,7 +66,7 @@ cells_most z = mul-le-mul z.rows_most z.cols_most
 
 module _ (bytes : List ℕ) (k : ℕ) (h : k < entry_count bytes) {e : Edge} (is : e ≡ edge_in bytes (entry_at k)) where
   -- an entry that passed a test of every entry
-  pub entry_good : (good : Edge → Bool) → first_entry good bytes ≡ Nothing → good e ≡ true
+  pub entry_good : (good : Edge → Bool) → first_entry good bytes ≡ None → good e ≡ true
   unfolding first_entry
   entry_good good n = rw is (unless_nothing _ k (nothing_all _ _ n k h))
 
@@ -91,20 +91,20 @@ module _ (bytes : List ℕ) (k : ℕ) (h : k < entry_count bytes) {e : Edge} (is
 
 -- ---- the search for the first bad entry, by any test of an edge
 
-abbrev pub good_at : List ℕ → (Edge → Bool) → ℕ → Found
+abbrev pub good_at : List ℕ → (Edge → Bool) → ℕ → Option ℕ
 good_at bytes good j = found_unless (good (edge_in bytes (entry_at j))) j
 
-module _ (bytes : List ℕ) (good : Edge → Bool) (k : ℕ) (before : first k (good_at bytes good) ≡ Nothing) where
-  pub entry_more : {e : Edge} {u : Bool} → e ≡ edge_in bytes (entry_at k) → u ≡ good e → not u ≡ false → first (k + 1) (good_at bytes good) ≡ Nothing
+module _ (bytes : List ℕ) (good : Edge → Bool) (k : ℕ) (before : first k (good_at bytes good) ≡ None) where
+  pub entry_more : {e : Edge} {u : Bool} → e ≡ edge_in bytes (entry_at k) → u ≡ good e → not u ≡ false → first (k + 1) (good_at bytes good) ≡ None
   entry_more is says ok = first_more (good_at bytes good) k before (found_unless_not _ k (told_yes_not _ _ (says ∙ ap good is) ok))
 
   pub entry_found : (n : ℕ) {e : Edge} {u : Bool} → n ≡ entry_count bytes → e ≡ edge_in bytes (entry_at k) → u ≡ good e → not u ≡ true → k < n
-      → At k ≡ first_entry good bytes
+      → Some k ≡ first_entry good bytes
   unfolding first_entry
   entry_found n all is says no-good h =
       first_found (good_at bytes good) k (entry_count bytes) before (found_unless_holds _ k (told_no_not _ _ (says ∙ ap good is) no-good)) (omega arith)
 
-  pub entry_end : (n : ℕ) → n ≡ entry_count bytes → k ≤ n → n ≤ k → Nothing ≡ first_entry good bytes
+  pub entry_end : (n : ℕ) → n ≡ entry_count bytes → k ≤ n → n ≤ k → None ≡ first_entry good bytes
   unfolding first_entry
   entry_end n all a b = first_end (good_at bytes good) k (entry_count bytes) before (omega arith) (omega arith)
 

@@ -2,9 +2,12 @@
 -- Assumes nothing.
 use Rattle.std.proofs.Common.{◌≡◌, ℕ, ◌*◌, List, [], ◌∷◌, ◌++◌, length, refl, ap, ◌∙◌}
 use Rattle.rules.specs.declared.settings.Replay.{Replay}
-use Rattle.rules.specs.declared.refusals.Answer.{Answer}
-use Rattle.rules.specs.declared.refusals.Answer.TheVariants.{Accepted}
-use Rattle.rules.specs.declared.refusals.PlaneAnswer.{PlaneAnswer}
+use Rattle.rules.specs.Refusals.{Answer}
+use Rattle.std.specs.declared.result.Result.TheVariants.{Ok}
+use Rattle.std.specs.declared.result.Result.{Result}
+use Rattle.rules.specs.declared.counts.Counts.{Counts}
+use Rattle.rules.specs.declared.refusals.Refusal.{Refusal}
+use Rattle.rules.specs.Refusals.{answered}
 use Rattle.rules.specs.declared.refusals.Refusal.TheVariants.{Depth, Size, Length}
 use Rattle.rules.specs.Numbers.{depth_ok}
 use Rattle.rules.specs.Refusals.{or_else, unless}
@@ -28,12 +31,12 @@ pub replay_exactly : (s : Replay) (bytes keep l : List ℕ) {a : Answer} → a �
 replay_exactly s bytes keep l e = exactly (replay_tests s bytes keep l) refl (e ∙ in_turn s bytes keep l)
 
 -- of whatever the entry may answer
-pub replayed_exactly : (s : Replay) (bytes keep l : List ℕ) {a : PlaneAnswer} {m : List ℕ} → Replayed s bytes keep l a m → Exactly a.answer (replay_tests s bytes keep l)
+pub replayed_exactly : (s : Replay) (bytes keep l : List ℕ) {a : Result Counts Refusal} {m : List ℕ} → Replayed s bytes keep l a m → Exactly (answered a) (replay_tests s bytes keep l)
 replayed_exactly s bytes keep l done = replay_exactly s bytes keep l done.answer
 
 -- the header alone, and the middle edge of 100 | 108
-pub accepts_none : replay_check (again 8 4) header (0 ∷ 0 ∷ 0 ∷ 0 ∷ []) (flat 100 108) ≡ Accepted
+pub accepts_none : replay_check (again 8 4) header (0 ∷ 0 ∷ 0 ∷ 0 ∷ []) (flat 100 108) ≡ Ok tt
 accepts_none = orders.replay_bare
 
-pub accepts_edge : replay_check (again 8 4) (header ++ entry 8 0 3) (0 ∷ 0 ∷ 0 ∷ 0 ∷ []) (flat 100 108) ≡ Accepted
+pub accepts_edge : replay_check (again 8 4) (header ++ entry 8 0 3) (0 ∷ 0 ∷ 0 ∷ 0 ∷ []) (flat 100 108) ≡ Ok tt
 accepts_edge = orders.replay_good

@@ -2,9 +2,12 @@
 -- Assumes nothing.
 use Rattle.std.proofs.Common.{◌≡◌, ℕ, ◌*◌, ◌/◌, ◌%◌, ◌<◌, Bool, List, length, get_or, take, sym, ap, ◌∙◌}
 use Rattle.rules.specs.declared.settings.Replay.{Replay}
-use Rattle.rules.specs.declared.refusals.Answer.{Answer}
-use Rattle.rules.specs.declared.refusals.Answer.TheVariants.{Accepted}
-use Rattle.rules.specs.declared.refusals.PlaneAnswer.{PlaneAnswer}
+use Rattle.rules.specs.Refusals.{Answer}
+use Rattle.std.specs.declared.result.Result.TheVariants.{Ok}
+use Rattle.std.specs.declared.result.Result.{Result}
+use Rattle.rules.specs.declared.counts.Counts.{Counts}
+use Rattle.rules.specs.declared.refusals.Refusal.{Refusal}
+use Rattle.rules.specs.Refusals.{answered}
 use Rattle.rules.specs.Numbers.{top_of}
 use Rattle.rules.specs.Segment.{none_kept, run_edges}
 use Rattle.rules.specs.Counts.{stored_by, changed_by}
@@ -16,7 +19,7 @@ use Rattle.replay.specs.Fit.{in_word, held, Ran, Replayed}
 use Rattle.replay.proofs.Theorems.{accepted_inside, runs_entries}
 
 -- tests that agree on the plane's samples
-module _ (s : Replay) (bytes keep l : List ℕ) (ok : replay_check s bytes keep l ≡ Accepted) (kept : ℕ → Bool)
+module _ (s : Replay) (bytes keep l : List ℕ) (ok : replay_check s bytes keep l ≡ Ok tt) (kept : ℕ → Bool)
     (same : (i : ℕ) → i % s.stride < 4 * s.cols → i / s.stride < 4 * s.rows → kept i ≡ held s keep i) where
   pub record_run : run_edges (top_of s.depth) s.stride kept (edges_in bytes) l ≡ run_edges (top_of s.depth) s.stride (held s keep) (edges_in bytes) l
   record_run = run_same (top_of s.depth) s.stride kept (held s keep) (4 * s.cols) (4 * s.rows) (length l) same (edges_in bytes) (accepted_inside s bytes keep l ok) l
@@ -28,7 +31,7 @@ module _ (s : Replay) (bytes keep l : List ℕ) (ok : replay_check s bytes keep 
   record_changed = changed_same (top_of s.depth) s.stride kept (held s keep) (4 * s.cols) (4 * s.rows) (length l) same (edges_in bytes) (accepted_inside s bytes keep l ok) l
 
 -- the marks that were asked for
-pub ran_asked : (s : Replay) (bytes keep l : List ℕ) {a : Answer} {n x y : ℕ} {m : List ℕ} → a ≡ replay_check s bytes keep l → a ≡ Accepted → Asked (s.rows * s.cols) keep n
+pub ran_asked : (s : Replay) (bytes keep l : List ℕ) {a : Answer} {n x y : ℕ} {m : List ℕ} → a ≡ replay_check s bytes keep l → a ≡ Ok tt → Asked (s.rows * s.cols) keep n
     → Ran s (take n keep) (edges_in bytes) l x y m → Ran s keep (edges_in bytes) l x y m
 ran_asked s bytes keep l {n = n} is e asked run =
     let ok = sym is ∙ e in
@@ -40,7 +43,7 @@ ran_asked s bytes keep l {n = n} is e asked run =
     }
 
 -- "Without kept cells all answers stay.": the plane is that of the entries' edges with nothing kept
-pub runs_unkept : (s : Replay) (bytes keep l : List ℕ) {a : PlaneAnswer} {m : List ℕ} → Replayed s bytes keep l a m → a.answer ≡ Accepted → ((k : ℕ) → k < s.rows * s.cols → get_or keep k 0 ≡ 0)
+pub runs_unkept : (s : Replay) (bytes keep l : List ℕ) {a : Result Counts Refusal} {m : List ℕ} → Replayed s bytes keep l a m → answered a ≡ Ok tt → ((k : ℕ) → k < s.rows * s.cols → get_or keep k 0 ≡ 0)
     → m ≡ run_edges (top_of s.depth) s.stride none_kept (edges_in bytes) l
 runs_unkept s bytes keep l done e zero =
     runs_entries s bytes keep l done e

@@ -4,9 +4,12 @@ use Rattle.std.specs.Prelude.{◌≡◌, ℕ, ◌*◌, ◌%◌, ◌≤◌, Bool,
 use Rattle.rules.specs.declared.edge.Edge.{Edge}
 use Rattle.rules.specs.declared.settings.Replay.{Replay}
 use Rattle.rules.specs.declared.refusals.Refusal.TheVariants.{Cell, Room, Sample}
-use Rattle.rules.specs.declared.refusals.Answer.{Answer}
-use Rattle.rules.specs.declared.refusals.PlaneAnswer.{PlaneAnswer}
-use Rattle.rules.specs.declared.refusals.Found.TheVariants.{Nothing}
+use Rattle.rules.specs.Refusals.{Answer}
+use Rattle.std.specs.declared.result.Result.{Result}
+use Rattle.rules.specs.declared.counts.Counts.{Counts}
+use Rattle.rules.specs.declared.refusals.Refusal.{Refusal}
+use Rattle.rules.specs.Refusals.{answered, changed_in, stored_in}
+use Rattle.std.specs.declared.option.Option.TheVariants.{None}
 use Rattle.rules.specs.Numbers.{depth_ok, top_of}
 use Rattle.rules.specs.Refusals.{or_else, found}
 use Rattle.rules.specs.Segment.{kept_in, run_edges}
@@ -24,7 +27,7 @@ pub record Sized (s : Replay) : Type 0 where
 -- there is a header, and every entry is in range
 pub record Ranged (bytes : List ℕ) : Type 0 where
   pub header_there : 5 ≤ length bytes
-  pub entries_ok : bad_entry bytes ≡ Nothing
+  pub entries_ok : bad_entry bytes ≡ None
 
 -- a good record, a plane of so many samples and so many keep marks, before 6, 7 and 8 are asked
 pub record Roomy (s : Replay) (bytes : List ℕ) (size marks : ℕ) : Type 0 where
@@ -42,7 +45,7 @@ room_check s bytes keep l = or_else (found (bad_keep (s.rows * s.cols) keep) Cel
 pub record Runnable (s : Replay) (bytes : List ℕ) (size top : ℕ) : Type 0 where
   pub sized : Sized s
   pub ranged : Ranged bytes
-  pub room : no_room_in s bytes ≡ Nothing
+  pub room : no_room_in s bytes ≡ None
   pub plane_long : 4 * s.rows * s.stride ≤ size
   pub top_is : top ≡ top_of s.depth
 
@@ -62,8 +65,8 @@ pub record Ran (s : Replay) (keep : List ℕ) (es : List Edge) (l : List ℕ) (s
   pub changed_is : changed ≡ in_word (changed_by (top_of s.depth) s.stride (held s keep) es l)
 
 -- all that the entry states: its answer a with the counts, and the plane afterwards m, of a plane l
-pub record Replayed (s : Replay) (bytes keep l : List ℕ) (a : PlaneAnswer) (m : List ℕ) : Type 0 where
-  pub answer : a.answer ≡ replay_check s bytes keep l
+pub record Replayed (s : Replay) (bytes keep l : List ℕ) (a : Result Counts Refusal) (m : List ℕ) : Type 0 where
+  pub answer : answered a ≡ replay_check s bytes keep l
   pub plane : m ≡ replay_after s bytes keep l
-  pub stored : a.stored ≡ in_word (replay_stored s bytes keep l)
-  pub changed : a.changed ≡ in_word (replay_changed s bytes keep l)
+  pub stored : stored_in a ≡ in_word (replay_stored s bytes keep l)
+  pub changed : changed_in a ≡ in_word (replay_changed s bytes keep l)

@@ -11,7 +11,7 @@ use low_first::two_at;
 use records::edge_at;
 use rules::depth::Depth;
 use rules::edge::Edge;
-use rules::refusals::{Answer, Found, Refusal};
+use rules::refusals::Refusal;
 use rules::settings::Replay;
 
 // A plane's ranges.
@@ -74,86 +74,79 @@ pub fn entry(bytes: &[u8], k: usize) -> Edge
 }
 
 // The first of n entries that is out of range.
-fn bad_entry(bytes: &[u8], n: usize) -> Found
+fn bad_entry(bytes: &[u8], n: usize) -> Option<usize>
     requires { n ≡ entry_count bytes.now }
     ensures { result ≡ bad_entry bytes.now }
 {
     for k in 0..n {
         if !ranges_ok(entry(bytes, k)) {
-            return Found::At(k);
+            return Some(k);
         }
     }
-    Found::Nothing
+    None
 }
 
 // The first of n entries whose edge lacks room.
-fn no_room(bytes: &[u8], n: usize, s: Replay) -> Found
+fn no_room(bytes: &[u8], n: usize, s: Replay) -> Option<usize>
     requires { (n ≡ entry_count bytes.now) × Sized s × Ranged bytes.now }
     ensures { result ≡ no_room_in s bytes.now }
 {
     for k in 0..n {
         if !has_room(4 * s.cols, 4 * s.rows, entry(bytes, k)) {
-            return Found::At(k);
+            return Some(k);
         }
     }
-    Found::Nothing
+    None
 }
 
 // A record's own checks: 11, 12, 13.
-pub fn record_check(bytes: &[u8]) -> Answer
+pub fn record_check(bytes: &[u8]) -> Result<(), Refusal>
     ensures { result ≡ record_check bytes.now }
 {
     if !header_ok(bytes) {
-        return Answer::Refused(Refusal::Header);
+        return Err(Refusal::Header);
     }
     let n = count(bytes);
     if (bytes.len() - 5) % 10 != 0 {
-        return Answer::Refused(Refusal::Cut(n));
+        return Err(Refusal::Cut(n));
     }
-    let bad = bad_entry(bytes, n);
-    if let Found::At(k) = bad {
-        return Answer::Refused(Refusal::Entry(k));
+    match bad_entry(bytes, n) {
+        Some(k) => Err(Refusal::Entry(k)),
+        None => Ok(()),
     }
-    Answer::Accepted
 }
 
 // The keep marks, and what a record and its plane are to each other: 6, 7 and 8.
-fn room_check(plane: &[u16], bytes: &[u8], keep: &[u8], s: Replay) -> Answer
+fn room_check(plane: &[u16], bytes: &[u8], keep: &[u8], s: Replay) -> Result<(), Refusal>
     requires { Roomy s bytes.now (length plane.now) (length keep.now) }
     ensures { result ≡ room_check s bytes.now keep.now plane.now }
 {
-    let bad = bad_keep(keep, s.rows * s.cols);
-    if let Found::At(k) = bad {
-        return Answer::Refused(Refusal::Cell(k));
+    if let Some(k) = bad_keep(keep, s.rows * s.cols) {
+        return Err(Refusal::Cell(k));
     }
-    let narrow = no_room(bytes, count(bytes), s);
-    if let Found::At(k) = narrow {
-        return Answer::Refused(Refusal::Room(k));
+    if let Some(k) = no_room(bytes, count(bytes), s) {
+        return Err(Refusal::Room(k));
     }
     let depth = Depth { bits: s.depth };
-    let over = samples(plane, 0, s.stride, 4 * s.cols, 4 * s.rows, depth.top());
-    if let Found::At(k) = over {
-        return Answer::Refused(Refusal::Sample(k));
+    match samples(plane, 0, s.stride, 4 * s.cols, 4 * s.rows, depth.top()) {
+        Some(k) => Err(Refusal::Sample(k)),
+        None => Ok(()),
     }
-    Answer::Accepted
 }
 
 // The first refusal, or none.
-pub fn replay_check(plane: &[u16], bytes: &[u8], keep: &[u8], s: Replay) -> Answer
+pub fn replay_check(plane: &[u16], bytes: &[u8], keep: &[u8], s: Replay) -> Result<(), Refusal>
     ensures { result ≡ replay_check s bytes.now keep.now plane.now }
 {
     if !Depth::is(s.depth) {
-        return Answer::Refused(Refusal::Depth);
+        return Err(Refusal::Depth);
     }
     if !sizes_ok(s) {
-        return Answer::Refused(Refusal::Size);
+        return Err(Refusal::Size);
     }
     if !lengths_ok(plane, keep, s) {
-        return Answer::Refused(Refusal::Length);
+        return Err(Refusal::Length);
     }
-    let a = record_check(bytes);
-    if let Answer::Refused(r) = a {
-        return Answer::Refused(r);
-    }
+    record_check(bytes)?;
     room_check(plane, bytes, keep, s)
 }

@@ -8,7 +8,7 @@ use checks::asked;
 use kept::filter_marked;
 use rules::counts::Counts;
 use rules::depth::Depth;
-use rules::refusals::{Answer, PlaneAnswer};
+use rules::refusals::Refusal;
 use rules::settings::Replay;
 use std::num::wrapping_add_usize;
 
@@ -41,23 +41,16 @@ fn run_record(plane: &mut [u16], bytes: &[u8], keep: &[u8], s: Replay, top: u16)
 }
 
 // Runs a record on the unfiltered plane with its keep marks and tells how many samples it stored and changed; or refuses it, leaves the plane as lent and tells of none.
-pub fn replay_plane(plane: &mut [u16], bytes: &[u8], keep: &[u8], s: Replay) -> PlaneAnswer
+pub fn replay_plane(
+    plane: &mut [u16],
+    bytes: &[u8],
+    keep: &[u8],
+    s: Replay,
+) -> Result<Counts, Refusal>
     ensures { Replayed s bytes.now keep.now plane.old result plane.new }
 {
-    let a = replay_check(plane, bytes, keep, s);
-    if let Answer::Refused(r) = a {
-        return PlaneAnswer {
-            answer: Answer::Refused(r),
-            stored: 0,
-            changed: 0,
-        };
-    }
+    replay_check(plane, bytes, keep, s)?;
     let depth = Depth { bits: s.depth };
     let n = asked(keep, s.rows * s.cols);
-    let done = run_record(plane, bytes, &keep[..n], s, depth.top());
-    PlaneAnswer {
-        answer: Answer::Accepted,
-        stored: done.stored,
-        changed: done.changed,
-    }
+    Ok(run_record(plane, bytes, &keep[..n], s, depth.top()))
 }

@@ -6,35 +6,39 @@ ghost use Rattle.replay_picture.specs.Held.{Held};
 ghost use Rattle.replay_picture.specs.Again.{settings_of};
 
 use crate::load::Records;
-use crate::say;
+use crate::say::refused;
 use pictures::planes::Shape;
 use replay::replay_plane;
-use rules::refusals::Answer;
 use rules::settings::Replay;
 use streams::job::Job;
+use streams::planes::Planes;
 use streams::read::{next_mark, read_frame};
 use streams::save::{pack, save};
-use system::files::Target;
+use streams::say::Answered;
 
-// Whether all is well so far, and whether a frame was there.
+// The records in one list, where each ends, and the marks of the cells that are kept.
 #[derive(Clone, Copy)]
-pub struct Done {
-    pub good: bool,
-    pub more: bool,
+pub struct Again<'a> {
+    pub bytes: &'a [u8],
+    pub at: Records,
+    pub keep: &'a [u8],
+    pub chromakeep: &'a [u8],
+    ghost held: { Held at (length bytes.now) },
 }
 
-// Plane p by its record and its keep marks, on the cells that were filtered; false after the answer that says why not.
+// Plane p by its record and its keep marks, on the cells that were filtered; an error after the answer that says why not.
 fn run_plane(
-    told: &Target,
+    j: Job<'_>,
     plane: &mut [u16],
     bytes: &[u8],
     keep: &[u8],
     s: Shape,
-    depth: u32,
     p: usize,
-) -> bool
-    ensures { plane.new ≡ replay_after (settings_of s depth) bytes.now keep.now plane.old }
+) -> Result<(), Answered>
+    ensures { plane.new ≡ replay_after (settings_of s j.entry.h.layout.depth) bytes.now keep.now plane.old }
 {
+    let h = j.h;
+    let layout = h.layout;
     let a = replay_plane(
         plane,
         bytes,
@@ -43,112 +47,37 @@ fn run_plane(
             cols: s.stride / 4,
             rows: s.rows / 4,
             stride: s.stride,
-            depth,
+            depth: layout.depth,
         },
     );
-    let answer = a.answer;
-    if let Answer::Refused(r) = answer {
-        say::refused(told, p, r, s);
-        return false;
+    if let Err(r) = a {
+        return Err(refused(j.told, p, r, s));
     }
-    true
+    Ok(())
 }
 
-// The planes that have a record; false after the answer that says why not.
-fn run_planes(
-    y: &mut [u16],
-    u: &mut [u16],
-    v: &mut [u16],
-    bytes: &[u8],
-    at: Records,
-    keep: &[u8],
-    chromakeep: &[u8],
-    j: Job<'_>,
-) -> bool
-    requires { Held at (length bytes.now) }
-{
-    let h = j.h;
-    let layout = h.layout;
-    let a = at.y;
-    let b = at.u;
-    let c = at.v;
-    if !run_plane(j.told, y, &bytes[0..a], keep, j.l, layout.depth, 0) {
-        return false;
+// The planes that have a record; an error after the answer that says why not.
+fn run_planes(frame: &mut Planes<'_>, r: Again<'_>, j: Job<'_>) -> Result<(), Answered> {
+    let at = r.at;
+    run_plane(j, frame.y, &r.bytes[..at.y], r.keep, j.l, 0)?;
+    if at.chroma {
+        run_plane(j, frame.u, &r.bytes[at.y..at.u], r.chromakeep, j.c, 1)?;
+        run_plane(j, frame.v, &r.bytes[at.u..at.v], r.chromakeep, j.c, 2)?;
     }
-    if !at.chroma {
-        return true;
-    }
-    if !run_plane(j.told, u, &bytes[a..b], chromakeep, j.c, layout.depth, 1) {
-        return false;
-    }
-    run_plane(j.told, v, &bytes[b..c], chromakeep, j.c, layout.depth, 2)
+    Ok(())
 }
 
-// Frame k, whose line was read; false after the answer that says why not.
-fn work(
-    y: &mut [u16],
-    u: &mut [u16],
-    v: &mut [u16],
-    bytes: &[u8],
-    at: Records,
-    keep: &[u8],
-    chromakeep: &[u8],
-    name: &[u8],
-    head: &[u8],
-    mark: &[u8],
-    j: Job<'_>,
-    k: usize,
-) -> bool
-    requires { Shaped j × Held at (length bytes.now) }
-{
-    if !read_frame(name, j, k, y, u, v) {
-        return false;
-    }
-    if !run_planes(y, u, v, bytes, at, keep, chromakeep, j) {
-        return false;
-    }
-    pack(y, u, v, j);
-    save(head, mark, j, k, y, u, v)
-}
-
-// Frame k of the file, where there is one; the first must be there.
-pub fn next(
-    y: &mut [u16],
-    u: &mut [u16],
-    v: &mut [u16],
-    bytes: &[u8],
-    at: Records,
-    keep: &[u8],
-    chromakeep: &[u8],
-    name: &[u8],
-    head: &[u8],
-    j: Job<'_>,
-    k: usize,
-) -> Done
-    requires { Shaped j × Held at (length bytes.now) }
+// Frame k of the file, where there is one; the first must be there. Says whether there was one; an error after the answer that says why not.
+pub fn next(frame: &mut Planes<'_>, r: Again<'_>, j: Job<'_>, k: usize) -> Result<bool, Answered>
+    requires { Shaped j }
 {
     let mut mark = [0u8; 1024];
-    let t = next_mark(j.told, name, j.from, k, &mut mark);
-    if !t.more {
-        return Done {
-            good: t.good,
-            more: false,
-        };
-    }
-    let m = t.n;
-    let good = work(
-        y,
-        u,
-        v,
-        bytes,
-        at,
-        keep,
-        chromakeep,
-        name,
-        head,
-        &mark[..m],
-        j,
-        k,
-    );
-    Done { good, more: good }
+    let Some(n) = next_mark(j, k, &mut mark)? else {
+        return Ok(false);
+    };
+    read_frame(j, k, frame)?;
+    run_planes(frame, r, j)?;
+    pack(frame, j);
+    save(frame, &mark[..n], j, k)?;
+    Ok(true)
 }

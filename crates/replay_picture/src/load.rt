@@ -1,17 +1,17 @@
 // The records' files, one after the other in one list.
-ghost use Rattle.std.specs.Prelude.{◌≤◌, length};
+ghost use Rattle.std.specs.Prelude.{◌≤◌, length, IfOk};
 ghost use Rattle.replay_picture.specs.Held.{Held};
 
-use pictures::files;
+use crate::run::Names;
+use pictures::files::read_whole;
 use std::fs::File;
 use std::rt::Files;
-use streams::say::cannot;
+use streams::say::{Answered, cannot};
 use system::files::{Ends, Target};
 
-// Whether the files could be read, whether chroma has records, and where luma's record ends in the list, U's and V's.
+// Whether chroma has records, and where luma's record ends in the list, U's and V's.
 #[derive(Clone, Copy)]
 pub struct Records {
-    pub good: bool,
     pub chroma: bool,
     pub y: usize,
     pub u: usize,
@@ -28,14 +28,7 @@ pub fn large_room() -> [u8; 67108864] {
     [0; 67108864]
 }
 
-// Whether a record could be read, and where it ends.
-#[derive(Clone, Copy)]
-struct Part {
-    good: bool,
-    end: usize,
-}
-
-// A record into the list from a place on; after the answer where it can't be read.
+// A record into the list from a place on, and where it ends; an error after the answer where it can't be read.
 fn add<R: Files<File = File>>(
     rt: &R,
     ends: Ends,
@@ -43,49 +36,43 @@ fn add<R: Files<File = File>>(
     name: &[u8],
     bytes: &mut [u8],
     from: usize,
-) -> Part
+) -> Result<usize, Answered>
     requires { from ≤ length bytes.old }
-    ensures { (from ≤ result.end) × (result.end ≤ length bytes.new) }
+    ensures { IfOk result (λ end. (from ≤ end) × (end ≤ length bytes.new)) }
 {
-    let w = files::read_whole(rt, ends, name, &mut bytes[from..]);
-    if !w.opened {
-        cannot(told, name, b"the record can't be read");
-    }
-    Part {
-        good: w.opened,
-        end: from + w.n,
+    match read_whole(rt, ends, name, &mut bytes[from..]) {
+        Some(n) => Ok(from + n),
+        None => Err(cannot(told, name, b"the record can't be read")),
     }
 }
 
-// The records by their names, where an empty name of U stands for no record of chroma. They fill the list where they don't fit.
+// The records by their names, where no name of U stands for no record of chroma. They fill the list where they don't fit. An error after the answer where one can't be read.
 pub fn load<R: Files<File = File>>(
     rt: &R,
     ends: Ends,
     told: &Target,
-    y: &[u8],
-    u: &[u8],
-    v: &[u8],
+    names: Names<'_>,
     bytes: &mut [u8],
-) -> Records
-    ensures { Held result (length bytes.new) }
+) -> Result<Records, Answered>
+    ensures { IfOk result (λ r. Held r (length bytes.new)) }
 {
-    let a = add(rt, ends, told, y, bytes, 0);
-    if u.len() == 0 || !a.good {
-        return Records {
-            good: a.good,
+    let y = add(rt, ends, told, names.y, bytes, 0)?;
+    let Some(name) = names.u else {
+        return Ok(Records {
             chroma: false,
-            y: a.end,
-            u: a.end,
-            v: a.end,
-        };
-    }
-    let b = add(rt, ends, told, u, bytes, a.end);
-    let c = add(rt, ends, told, v, bytes, b.end);
-    Records {
-        good: b.good && c.good,
+            y,
+            u: y,
+            v: y,
+        });
+    };
+    let b = add(rt, ends, told, name, bytes, y);
+    let u = b.unwrap_or(y);
+    let v = add(rt, ends, told, names.v.unwrap_or(b""), bytes, u)?;
+    b?;
+    Ok(Records {
         chroma: true,
-        y: a.end,
-        u: b.end,
-        v: c.end,
-    }
+        y,
+        u,
+        v,
+    })
 }

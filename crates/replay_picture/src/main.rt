@@ -17,6 +17,7 @@ mod frame;
 // The order of it all.
 mod run;
 
+use run::Names;
 use system::bytes::buffer;
 use system::files::{Ends, answers, word};
 
@@ -32,26 +33,22 @@ fn main(rt: HostRuntime) {
     let mut u = buffer();
     let mut v = buffer();
     let mut settings = buffer();
-    let p = word(&rt, 1, &mut picture);
-    let o = word(&rt, 2, &mut out);
-    let a = word(&rt, 3, &mut y);
-    let b = word(&rt, 4, &mut u);
-    let c = word(&rt, 5, &mut v);
-    let d = word(&rt, 6, &mut settings);
-    let told = answers(&rt, ends, &out[..o]);
-    if p == 0 || o == 0 || a == 0 {
+    let out = word(&rt, 2, &mut out);
+    let told = answers(&rt, ends, out.unwrap_or(b""));
+    let (Some(picture), Some(out), Some(y)) = (
+        word(&rt, 1, &mut picture),
+        out,
+        word(&rt, 3, &mut y),
+    ) else {
         say::usage(&told);
         return;
-    }
-    run::run(
-        &rt,
-        ends,
-        &told,
-        &picture[..p],
-        &out[..o],
-        &y[..a],
-        &u[..b],
-        &v[..c],
-        &settings[..d],
-    );
+    };
+    let names = Names {
+        out,
+        y,
+        u: word(&rt, 4, &mut u),
+        v: word(&rt, 5, &mut v),
+        settings: word(&rt, 6, &mut settings),
+    };
+    let _ = run::run(&rt, ends, &told, picture, names);
 }

@@ -3,42 +3,33 @@ ghost use Rattle.std.specs.Prelude.{◌≤◌, length};
 
 use pictures::shapes::{chroma_of, luma_of};
 use pictures::{defaults, files};
+use settings::file::Settings;
 use settings::names::first_places;
 use std::fs::File;
 use std::rt::Files;
+use streams::job::Picture;
 use streams::kept::mark;
 use streams::open::small;
-use streams::say::cannot;
+use streams::say::{Answered, cannot};
 use streams::take::{read_on, take};
 use system::bytes::large_buffer;
-use system::files::{Ends, Source, Target, read_full};
-use y4m::header::Header;
+use system::files::{Ends, Source, read_full};
 
-// Marks what short numbers keep, by the places after the last of each kind.
-fn placed(keep: &mut [u8], chromakeep: &mut [u8], shorts: &[u16], places: &[usize; 24], h: Header)
-    requires { 22526 ≤ length shorts.now }
-{
-    mark(
-        keep,
-        chromakeep,
-        shorts,
-        places,
-        h,
-        luma_of(h),
-        chroma_of(h),
-    );
+// The marks of luma's cells and of chroma's.
+#[derive(Drop)]
+pub struct Marks<'a> {
+    pub keep: &'a mut [u8],
+    pub chromakeep: &'a mut [u8],
 }
 
-// Marks what a text keeps; false after the answer that says what is wrong with it.
+// Marks what a text keeps; an error after the answer that says what is wrong with it.
 fn told(
-    to: &Target,
+    p: Picture<'_>,
     name: &[u8],
     text: &[u8],
     shorts: &mut [u16],
-    h: Header,
-    keep: &mut [u8],
-    chromakeep: &mut [u8],
-) -> bool
+    marks: &mut Marks<'_>,
+) -> Result<(), Answered>
     requires { 22526 ≤ length shorts.old }
 {
     let mut numbers = defaults::numbers();
@@ -46,97 +37,91 @@ fn told(
     let mut flags = [1u8; 12288];
     let mut offsets = [0i8; 384];
     let mut places = first_places(shorts.len());
-    if !take(
-        to,
-        name,
-        text,
-        &mut numbers,
+    let mut lists = Settings {
+        numbers: &mut numbers,
         shorts,
-        &mut steps,
-        &mut flags,
-        &mut offsets,
-        &mut places,
-    ) {
-        return false;
-    }
-    placed(keep, chromakeep, shorts, &places, h);
-    true
+        steps: &mut steps,
+        flags: &mut flags,
+        offsets: &mut offsets,
+        places: &mut places,
+    };
+    take(p.told, name, text, &mut lists)?;
+    let h = p.h;
+    mark(
+        marks.keep,
+        marks.chromakeep,
+        shorts,
+        &places,
+        h,
+        luma_of(h),
+        chroma_of(h),
+    );
+    Ok(())
 }
 
 // By a text below 64 KiB.
-fn light(
-    to: &Target,
-    name: &[u8],
-    text: &[u8],
-    h: Header,
-    keep: &mut [u8],
-    chromakeep: &mut [u8],
-) -> bool {
+fn light(p: Picture<'_>, name: &[u8], text: &[u8], marks: &mut Marks<'_>) -> Result<(), Answered> {
     let mut shorts = defaults::few_shorts();
-    told(to, name, text, &mut shorts, h, keep, chromakeep)
+    told(p, name, text, &mut shorts, marks)
 }
 
 // By any text, of which the front was read.
 fn heavy(
-    to: &Target,
+    p: Picture<'_>,
     name: &[u8],
     file: &Source,
     front: &[u8],
-    h: Header,
-    keep: &mut [u8],
-    chromakeep: &mut [u8],
-) -> bool
+    marks: &mut Marks<'_>,
+) -> Result<(), Answered>
     requires { length front.now ≤ 65536 }
 {
     let mut text = files::text_room();
     let n = read_on(file, front, &mut text);
     if n == 33554432 {
-        cannot(to, name, b"expected settings of fewer than 33554432 bytes");
-        return false;
+        return Err(cannot(
+            p.told,
+            name,
+            b"expected settings of fewer than 33554432 bytes",
+        ));
     }
     let mut shorts = defaults::shorts();
-    told(to, name, &text[..n], &mut shorts, h, keep, chromakeep)
+    told(p, name, &text[..n], &mut shorts, marks)
 }
 
 // By a text of which the front was read. `heavy` is called twice for the reason that `run` has.
 fn sized(
-    to: &Target,
+    p: Picture<'_>,
     name: &[u8],
     file: &Source,
     front: &[u8],
-    h: Header,
-    keep: &mut [u8],
-    chromakeep: &mut [u8],
-) -> bool
+    marks: &mut Marks<'_>,
+) -> Result<(), Answered>
     requires { length front.now ≤ 65536 }
 {
     if front.len() == 65536 {
-        return heavy(to, name, file, front, h, keep, chromakeep);
+        return heavy(p, name, file, front, marks);
     }
-    if small(h) {
-        return light(to, name, front, h, keep, chromakeep);
+    if small(p.h) {
+        return light(p, name, front, marks);
     }
-    heavy(to, name, file, front, h, keep, chromakeep)
+    heavy(p, name, file, front, marks)
 }
 
-// Marks what a settings file keeps, and nothing where its name is empty; false after the answer that says why not.
+// Marks what a settings file keeps, and nothing where there is none; an error after the answer that says why not.
 pub fn marked<R: Files<File = File>>(
     rt: &R,
     ends: Ends,
-    to: &Target,
-    name: &[u8],
-    h: Header,
-    keep: &mut [u8],
-    chromakeep: &mut [u8],
-) -> bool {
-    if name.len() == 0 {
-        return true;
-    }
+    p: Picture<'_>,
+    settings: Option<&[u8]>,
+    marks: &mut Marks<'_>,
+) -> Result<(), Answered> {
+    let Some(name) = settings else {
+        return Ok(());
+    };
     let Some(file) = files::open_in(rt, ends, name) else {
-        cannot(to, name, b"the settings can't be read");
-        return false;
+        return Err(cannot(p.told, name, b"the settings can't be read"));
     };
     let mut front = large_buffer();
     let n = read_full(&file, &mut front);
-    sized(to, name, &file, &front[..n], h, keep, chromakeep)
+    sized(p, name, &file, &front[..n], marks)
 }

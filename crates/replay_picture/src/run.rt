@@ -1,274 +1,201 @@
 // From the names of the files to the written frames and the answer.
-ghost use Rattle.std.specs.Prelude.{length};
 ghost use Rattle.streams.specs.Shaped.{Shaped};
-ghost use Rattle.replay_picture.specs.Held.{Held};
 
-use crate::frame::next;
+use crate::frame::{Again, next};
 use crate::load::{Records, large_room, load, small_room};
-use crate::marks::marked;
+use crate::marks::{Marks, marked};
 use crate::say;
 use by_settings::kept::{large_marks, small_marks};
-use pictures::shapes::{chroma_of, luma_of};
 use pictures::{files, planes};
 use std::fs::File;
 use std::rt::Files;
-use streams::job::Job;
+use streams::job::{Job, Picture};
 use streams::open::{open, small};
-use streams::say::{cannot, unwritten};
-use system::files::{Ends, Source, Target, is_watched, kept};
-use y4m::header::Header;
+use streams::planes::Planes;
+use streams::say::{Answered, cannot, unwritten};
+use system::files::{Ends, Target, is_watched, keep};
+
+// The names of OUT, of the records, and of the settings' file.
+#[derive(Clone, Copy)]
+pub struct Names<'a> {
+    pub out: &'a [u8],
+    pub y: &'a [u8],
+    pub u: Option<&'a [u8]>,
+    pub v: Option<&'a [u8]>,
+    pub settings: Option<&'a [u8]>,
+}
 
 // How many edges good records have: each begins with five bytes, and has ten for an edge.
 fn edges_of(at: Records) -> usize {
     let n = at.v / 10;
-    if at.chroma && 0 < n { n - 1 } else { n }
+    if at.chroma { n.saturating_sub(1) } else { n }
 }
 
-// The answer after the last frame, by whether OUT is kept; none where a frame was bad, which was answered.
-fn closed(name: &[u8], j: Job<'_>, at: Records, frames: usize, good: bool) {
-    if !good {
-        return;
-    }
-    if kept(j.to) {
-        say::replayed(j.told, name, j.h, frames, edges_of(at));
-    } else {
-        unwritten(j.told);
-    }
+// The answer after the last frame, by whether OUT is kept.
+fn closed(j: Job<'_>, at: Records, frames: usize) -> Result<(), Answered> {
+    keep(j.to).map_err(|_| unwritten(j.told))?;
+    say::replayed(j.told, j.name, j.h, frames, edges_of(at));
+    Ok(())
 }
 
 // Every frame of the file, and then the answer. On a terminal the frames are counted.
-fn frames(
-    y: &mut [u16],
-    u: &mut [u16],
-    v: &mut [u16],
-    bytes: &[u8],
-    at: Records,
-    keep: &[u8],
-    chromakeep: &[u8],
-    name: &[u8],
-    head: &[u8],
-    j: Job<'_>,
-    ends: Ends,
-)
-    requires { Shaped j × Held at (length bytes.now) }
+fn frames(ends: Ends, frame: &mut Planes<'_>, r: Again<'_>, j: Job<'_>) -> Result<(), Answered>
+    requires { Shaped j }
 {
     let errors = Target::Errors(ends.errors);
     let shown = is_watched(ends);
-    let mut k: usize = 0;
-    while k < 18446744073709551615 {
+    for k in 0..usize::MAX {
         say::count(&errors, k, shown);
-        let d = next(y, u, v, bytes, at, keep, chromakeep, name, head, j, k);
-        if !d.more {
-            closed(name, j, at, k, d.good);
-            return;
+        if !next(frame, r, j, k)? {
+            return closed(j, r.at, k);
         }
-        k += 1;
+    }
+    Ok(())
+}
+
+// Why a small picture is not run: the answer said so, or its records want more room.
+#[derive(Clone, Copy)]
+enum NotRun {
+    Answered,
+    Room,
+}
+
+impl From<Answered> for NotRun {
+    fn from(_a: Answered) -> NotRun {
+        NotRun::Answered
     }
 }
 
-// OUT and the shapes of the planes, and then the frames.
-fn loaded<R: Files<File = File>>(
-    rt: &R,
-    ends: Ends,
-    told: &Target,
-    y: &mut [u16],
-    u: &mut [u16],
-    v: &mut [u16],
-    bytes: &[u8],
-    at: Records,
-    keep: &[u8],
-    chromakeep: &[u8],
-    name: &[u8],
-    out: &[u8],
-    from: &Source,
-    head: &[u8],
-    h: Header,
-)
-    requires { Held at (length bytes.now) }
-{
-    let to = files::open_out(rt, ends, out);
-    let j = Job {
-        from,
-        to: &to,
-        told,
-        h,
-        l: luma_of(h),
-        c: chroma_of(h),
-    };
-    frames(y, u, v, bytes, at, keep, chromakeep, name, head, j, ends);
-}
-
-// A small picture; false where its records want more room.
+// A small picture.
 fn light<R: Files<File = File>>(
     rt: &R,
     ends: Ends,
-    told: &Target,
-    name: &[u8],
-    out: &[u8],
-    y: &[u8],
-    u: &[u8],
-    v: &[u8],
-    settings: &[u8],
-    from: &Source,
-    head: &[u8],
-    h: Header,
-) -> bool {
+    p: Picture<'_>,
+    names: Names<'_>,
+) -> Result<(), NotRun> {
     let mut bytes = small_room();
-    let at = load(rt, ends, told, y, u, v, &mut bytes);
-    if !at.good {
-        return true;
-    }
+    let at = load(rt, ends, p.told, names, &mut bytes)?;
     if at.v == 1048576 {
-        return false;
+        return Err(NotRun::Room);
     }
     let mut keep = small_marks();
     let mut chromakeep = small_marks();
-    if !marked(rt, ends, told, settings, h, &mut keep, &mut chromakeep) {
-        return true;
-    }
-    let mut a = planes::small_room();
-    let mut b = planes::small_room();
-    let mut c = planes::small_room();
-    loaded(
-        rt,
-        ends,
-        told,
-        &mut a,
-        &mut b,
-        &mut c,
-        &bytes,
+    let mut marks = Marks {
+        keep: &mut keep,
+        chromakeep: &mut chromakeep,
+    };
+    marked(rt, ends, p, names.settings, &mut marks)?;
+    let mut y = planes::small_room();
+    let mut u = planes::small_room();
+    let mut v = planes::small_room();
+    let mut frame = Planes {
+        y: &mut y,
+        u: &mut u,
+        v: &mut v,
+    };
+    let r = Again {
+        bytes: &bytes,
         at,
-        &keep,
-        &chromakeep,
-        name,
-        out,
-        from,
-        head,
-        h,
-    );
-    true
+        keep: &keep,
+        chromakeep: &chromakeep,
+    };
+    let to = files::open_out(rt, ends, names.out);
+    frames(ends, &mut frame, r, p.job(&to))?;
+    Ok(())
 }
 
 // Any picture.
 fn heavy<R: Files<File = File>>(
     rt: &R,
     ends: Ends,
-    told: &Target,
-    name: &[u8],
-    out: &[u8],
-    y: &[u8],
-    u: &[u8],
-    v: &[u8],
-    settings: &[u8],
-    from: &Source,
-    head: &[u8],
-    h: Header,
-) {
+    p: Picture<'_>,
+    names: Names<'_>,
+) -> Result<(), Answered> {
     let mut bytes = large_room();
-    let at = load(rt, ends, told, y, u, v, &mut bytes);
-    if !at.good {
-        return;
-    }
+    let at = load(rt, ends, p.told, names, &mut bytes)?;
     if at.v == 67108864 {
-        cannot(
-            told,
-            y,
+        return Err(cannot(
+            p.told,
+            names.y,
             b"expected records of fewer than 67108864 bytes in all planes",
-        );
-        return;
+        ));
     }
     let mut keep = large_marks();
     let mut chromakeep = large_marks();
-    if !marked(rt, ends, told, settings, h, &mut keep, &mut chromakeep) {
-        return;
-    }
-    let mut a = planes::large_room();
-    let mut b = planes::large_room();
-    let mut c = planes::large_room();
-    loaded(
-        rt,
-        ends,
-        told,
-        &mut a,
-        &mut b,
-        &mut c,
-        &bytes,
+    let mut marks = Marks {
+        keep: &mut keep,
+        chromakeep: &mut chromakeep,
+    };
+    marked(rt, ends, p, names.settings, &mut marks)?;
+    let mut y = planes::large_room();
+    let mut u = planes::large_room();
+    let mut v = planes::large_room();
+    let mut frame = Planes {
+        y: &mut y,
+        u: &mut u,
+        v: &mut v,
+    };
+    let r = Again {
+        bytes: &bytes,
         at,
-        &keep,
-        &chromakeep,
-        name,
-        out,
-        from,
-        head,
-        h,
-    );
+        keep: &keep,
+        chromakeep: &chromakeep,
+    };
+    let to = files::open_out(rt, ends, names.out);
+    frames(ends, &mut frame, r, p.job(&to))
 }
 
 // By the picture's size. `heavy` is called twice so that the compiler leaves it a function of its own, whose lists a small picture never touches.
 fn sized<R: Files<File = File>>(
     rt: &R,
     ends: Ends,
-    told: &Target,
-    name: &[u8],
-    out: &[u8],
-    y: &[u8],
-    u: &[u8],
-    v: &[u8],
-    settings: &[u8],
-    from: &Source,
-    head: &[u8],
-    h: Header,
-) {
-    if !small(h) {
-        heavy(rt, ends, told, name, out, y, u, v, settings, from, head, h);
-    } else if !light(rt, ends, told, name, out, y, u, v, settings, from, head, h) {
-        heavy(rt, ends, told, name, out, y, u, v, settings, from, head, h);
+    p: Picture<'_>,
+    names: Names<'_>,
+) -> Result<(), Answered> {
+    if !small(p.h) {
+        return heavy(rt, ends, p, names);
+    }
+    match light(rt, ends, p, names) {
+        Ok(()) => Ok(()),
+        Err(NotRun::Answered) => Err(Answered),
+        Err(NotRun::Room) => heavy(rt, ends, p, names),
     }
 }
 
-// Whether the picture has the planes of the records; else after the answer.
-fn fits(told: &Target, u: &[u8], h: Header) -> bool {
+// That the picture has the planes of the records; else an error after the answer.
+fn fits(p: Picture<'_>, u: Option<&[u8]>) -> Result<(), Answered> {
+    let h = p.h;
     let layout = h.layout;
-    if layout.chroma || u.len() == 0 {
-        return true;
+    match u {
+        Some(name) if !layout.chroma => {
+            Err(cannot(
+                p.told,
+                name,
+                b"a record of chroma, and the picture has none",
+            ))
+        }
+        _ => Ok(()),
     }
-    cannot(told, u, b"a record of chroma, and the picture has none");
-    false
 }
 
-// The picture's header, and then the rest.
+// The picture's header, and then the rest; an error after the answer that says why not.
 pub fn run<R: Files<File = File>>(
     rt: &R,
     ends: Ends,
     told: &Target,
     name: &[u8],
-    out: &[u8],
-    y: &[u8],
-    u: &[u8],
-    v: &[u8],
-    settings: &[u8],
-) {
+    names: Names<'_>,
+) -> Result<(), Answered> {
     let mut head = [0u8; 1024];
-    let p = open(rt, ends, told, name, &mut head);
-    let n = p.n;
-    let h = p.h;
-    let Some(from) = p.from else {
-        return;
+    let opened = open(rt, ends, told, name, &mut head)?;
+    let n = opened.n;
+    let p = Picture {
+        name,
+        from: &opened.from,
+        told,
+        head: &head[..n],
+        h: opened.h,
     };
-    if h.opens && fits(told, u, h) {
-        sized(
-            rt,
-            ends,
-            told,
-            name,
-            out,
-            y,
-            u,
-            v,
-            settings,
-            &from,
-            &head[..n],
-            h,
-        );
-    }
+    fits(p, names.u)?;
+    sized(rt, ends, p, names)
 }

@@ -1,7 +1,8 @@
 // The answer where it goes: the outcome as one byte (0 run again, 1 refused, 2 a bad file, 3 not written), which stands before any name, and then a line.
 use pictures::planes::Shape;
 use rules::refusals::Refusal;
-use streams::say::{frames_of, number, words};
+use std::io::Write;
+use streams::say::{Answered, frames_of, number, words};
 use system::files::Target;
 use y4m::header::Header;
 
@@ -53,15 +54,13 @@ fn entry(told: &Target, k: usize, what: &[u8]) {
 fn sample(told: &Target, k: usize, stride: usize) {
     words(told, b"a sample is above the depth's top");
     if 0 < stride {
-        words(told, b"; row ");
-        number(told, k / stride);
-        words(told, b", column ");
-        number(told, k % stride);
+        let mut to = told;
+        let _ = write!(to, "; row {}, column {}", k / stride, k % stride);
     }
 }
 
 // Why the record of plane p is not run.
-pub fn refused(told: &Target, p: usize, r: Refusal, s: Shape) {
+pub fn refused(told: &Target, p: usize, r: Refusal, s: Shape) -> Answered {
     words(told, b"1refused by ");
     number(told, rules::refusals::number(r) as usize);
     words(told, b": ");
@@ -69,22 +68,16 @@ pub fn refused(told: &Target, p: usize, r: Refusal, s: Shape) {
     words(told, b"'s record: ");
     meaning(told, r, s);
     words(told, b"\n");
+    Answered
 }
 
 // The frames that the records were run on, and how many edges a frame has.
 pub fn replayed(told: &Target, name: &[u8], h: Header, frames: usize, edges: usize) {
     words(told, b"0replayed ");
     words(told, name);
-    words(told, b": ");
-    number(told, h.width);
-    words(told, b"x");
-    number(told, h.height);
+    let mut to = told;
+    let _ = write!(to, ": {}x{}", h.width, h.height);
     frames_of(told, frames);
-    words(told, b", ");
-    number(told, edges);
-    if frames == 1 {
-        words(told, b" edges\n");
-    } else {
-        words(told, b" edges each\n");
-    }
+    let each = if frames == 1 { "" } else { " each" };
+    let _ = write!(to, ", {edges} edges{each}\n");
 }

@@ -13,11 +13,14 @@ use Rattle.laws.specs.Lists.{Each, each_map, each_both}
 use Rattle.rules.specs.declared.edge.Edge.{Edge}
 use Rattle.rules.specs.declared.settings.Plane.{Plane}
 use Rattle.rules.specs.declared.refusals.Refusal.TheVariants.{Size, Sample}
-use Rattle.rules.specs.declared.refusals.Answer.TheVariants.{Accepted}
-use Rattle.rules.specs.declared.refusals.Found.TheVariants.{Nothing}
-use Rattle.rules.specs.declared.refusals.PlaneAnswer.{PlaneAnswer}
-use Rattle.rules.specs.declared.refusals.RecordAnswer.{RecordAnswer}
-use Rattle.rules.specs.declared.refusals.Recorded.TheVariants.{Bytes}
+use Rattle.std.specs.declared.result.Result.TheVariants.{Ok}
+use Rattle.std.specs.declared.option.Option.TheVariants.{None}
+use Rattle.std.specs.declared.result.Result.{Result}
+use Rattle.rules.specs.declared.counts.Counts.{Counts}
+use Rattle.rules.specs.declared.refusals.Refusal.{Refusal}
+use Rattle.rules.specs.Refusals.{answered, changed_in, stored_in}
+use Rattle.rules.specs.declared.counts.Visited.{Visited}
+use Rattle.rules.specs.Refusals.{counted, length_told}
 use Rattle.rules.specs.Numbers.{top_of}
 use Rattle.rules.specs.Refusals.{settle}
 use Rattle.rules.specs.Segment.{ranges_ok, has_room, run_edges}
@@ -42,7 +45,7 @@ use Rattle.round_trip.specs.Again.{again_of}
 
 -- ---- an accepted plane's edges, as a record
 
-module _ (s : Plane) (steps : List ℕ) (g : Grid) (l : List ℕ) (ok : plane_check s steps g l ≡ Accepted) where
+module _ (s : Plane) (steps : List ℕ) (g : Grid) (l : List ℕ) (ok : plane_check s steps g l ≡ Ok tt) where
   abbrev edges : List Edge
   edges = edges_of s steps g
 
@@ -83,13 +86,13 @@ module _ (s : Plane) (steps : List ℕ) (g : Grid) (l : List ℕ) (ok : plane_ch
       let r = all_parts _ _ q.1 in
       sym (all_ok _ _ _ (sym p.0) (all_ok _ _ _ (sym q.0) (all_ok _ _ _ (sym r.0) all_none)))
 
-  again_clean : over_replay (again_of s) l ≡ Nothing
+  again_clean : over_replay (again_of s) l ≡ None
   unfolding plane_check over_plane
   again_clean =
       found_nothing _ Sample (else_parts _ _ (else_parts _ _ (else_parts _ _ (else_parts _ _ (else_parts _ _ (else_parts _ _ (else_parts _ _ (else_parts _ _ ok).1).1).1).1).1).1).1).1
 
   -- the record is accepted with the plane and the keep marks as they were lent
-  pub again_accepted : replay_check (again_of s) (record_of edges) g.keep l ≡ Accepted
+  pub again_accepted : replay_check (again_of s) (record_of edges) g.keep l ≡ Ok tt
   again_accepted =
       let long = lengths s g (length l) checks.lengths in
       record_accepted (again_of s) edges edges_written g.keep l checks.depth again_sizes long.samples long.lists.keep (marks_good checks) again_clean
@@ -118,21 +121,21 @@ module _ (s : Plane) (steps : List ℕ) (g : Grid) (l : List ℕ) (ok : plane_ch
 
 -- whatever ticket 1's entry may answer and leave, n bytes, the plane m and the buffer c, ticket 2's accepts those bytes with the plane and the keep marks as they
 -- were lent, leaves m and tells the same counts; ticket 7: "records of Ticket 2 are run with the same marks"
-module _ (s : Plane) (steps : List ℕ) (g : Grid) (l b : List ℕ) {a : RecordAnswer} {n : ℕ} {m c : List ℕ} (written : Stated s steps g l b a m c) (told : a.«record» ≡ Bytes n)
-    {x : PlaneAnswer} {k : List ℕ} (done : Replayed (again_of s) (take n c) g.keep l x k) where
-  ok : plane_check s steps g l ≡ Accepted
+module _ (s : Plane) (steps : List ℕ) (g : Grid) (l b : List ℕ) {a : Result Visited Refusal} {n : ℕ} {m c : List ℕ} (written : Stated s steps g l b a m c) (told : length_told a ≡ Ok n)
+    {x : Result Counts Refusal} {k : List ℕ} (done : Replayed (again_of s) (take n c) g.keep l x k) where
+  ok : plane_check s steps g l ≡ Ok tt
   ok = plane_passed s steps g l b written told
 
   is : take n c ≡ record_of (edges_of s steps g)
   is = record_is s steps g l b written told
 
-  pub round_trip : (x.answer ≡ Accepted) × (k ≡ m)
+  pub round_trip : (answered x ≡ Ok tt) × (k ≡ m)
   round_trip = (
     done.answer ∙ ap (λ (r : List ℕ). replay_check (again_of s) r g.keep l) is ∙ again_accepted s steps g l ok,
     done.plane ∙ ap (λ (r : List ℕ). replay_after (again_of s) r g.keep l) is ∙ again_plane s steps g l ok ∙ sym (plane_ran s steps g l b written told),
   )
 
-  pub counts_trip : (x.stored ≡ a.stored) × (x.changed ≡ a.changed)
+  pub counts_trip : (stored_in x ≡ stored_in (counted a)) × (changed_in x ≡ changed_in (counted a))
   counts_trip =
       let exact = counts_exact (again_of s) (take n c) g.keep l done (rw is (again_few s steps g l ok)) in
       let run = counts_ran s steps g l b written told in (

@@ -26,7 +26,7 @@ pub fn up_to_eight(n: usize) -> usize
     requires { n ≤ 4096 }
     ensures { (result ≡ Frame.up_to_eight n) × (n ≤ result) × (result ≤ 4096) }
 {
-    (n + 7) / 8 * 8
+    n.next_multiple_of(8)
 }
 
 // How many superblocks of 64 samples a size has.
@@ -34,5 +34,5 @@ pub fn superblocks(n: usize) -> usize
     requires { n ≤ 4096 }
     ensures { (result ≡ Frame.superblocks n) × (result ≤ 64) }
 {
-    (n + 63) / 64
+    n.div_ceil(64)
 }

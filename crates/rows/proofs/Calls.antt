@@ -15,10 +15,10 @@ use Rattle.rules.specs.declared.settings.Plane.{Plane}
 use Rattle.rules.specs.declared.rows.RowState.{RowState}
 use Rattle.rules.specs.declared.refusals.Refusal.{Refusal}
 use Rattle.rules.specs.declared.refusals.Refusal.TheVariants.{Filled, Spent, Sample}
-use Rattle.rules.specs.declared.refusals.Answer.{Answer}
-use Rattle.rules.specs.declared.refusals.Answer.TheVariants.{Accepted, Refused}
-use Rattle.rules.specs.declared.refusals.Found.{Found}
-use Rattle.rules.specs.declared.refusals.Found.TheVariants.{At, Nothing}
+use Rattle.rules.specs.Refusals.{Answer}
+use Rattle.std.specs.declared.result.Result.TheVariants.{Ok, Err}
+use Rattle.std.specs.declared.option.Option.{Option}
+use Rattle.std.specs.declared.option.Option.TheVariants.{Some, None}
 use Rattle.rules.specs.Numbers.{depth_ok}
 use Rattle.rules.specs.Refusals.{number_of}
 use Rattle.rules.specs.Plane.{Grid}
@@ -26,7 +26,7 @@ use Rattle.rules.specs.Rows.{count_ok, counts_ok, settings_check, over_new, rows
 use Rattle.checks.specs.Rows.{Box}
 use Rattle.checks.proofs.Rows.{box_inner}
 use Rattle.checks.proofs.Checks.{stop, stop_by, go_on, go_on_by, unless_bad, unless_good, found_bad_by, found_good_by, else_parts, unless_true, found_nothing, settle_refused, settle_accepted}
-use Rattle.plane.specs.declared.visited.Visited.{Visited}
+use Rattle.rules.specs.declared.counts.Visited.{Visited}
 use Rattle.plane.specs.Checked.{Checked}
 use Rattle.plane.proofs.Accepting.{settled}
 use Rattle.cell_edges.specs.Cells.{Sizes}
@@ -62,12 +62,12 @@ counts_of rows held filled e =
 
 pub record Passed (s : Plane) (steps : List ℕ) (g : Grid) (st : RowState) (filled : ℕ) (l : List ℕ) : Type 0 where
   pub unspent : st.spent ≡ false
-  pub settings : settings_check s steps g (length l) ≡ Accepted
+  pub settings : settings_check s steps g (length l) ≡ Ok tt
   pub checks : Checked s steps g (length l)
   pub counts : Counts s.rows st.held filled
-  pub low : over_new s st.held filled l ≡ Nothing
+  pub low : over_new s st.held filled l ≡ None
 
-pub passed : (s : Plane) (steps : List ℕ) (g : Grid) (st : RowState) (filled : ℕ) (l : List ℕ) → rows_check s steps g st filled l ≡ Accepted → Passed s steps g st filled l
+pub passed : (s : Plane) (steps : List ℕ) (g : Grid) (st : RowState) (filled : ℕ) (l : List ℕ) → rows_check s steps g st filled l ≡ Ok tt → Passed s steps g st filled l
 unfolding rows_check
 passed s steps g st filled l e =
     let p1 = else_parts _ _ e in
@@ -111,28 +111,28 @@ pub new_asks : {s : Plane} {n : ℕ} → Sizes s × (depth_ok s.depth ≡ true) 
 new_asks {s} k held filled of e = let c = counts_of s.rows held filled (sym (told_yes_not _ _ of e)) in (k.0, k.1, k.2, c.up, c.filled_most)
 
 module _ (s : Plane) (steps : List ℕ) (g : Grid) (st : RowState) (filled : ℕ) (l : List ℕ) where
-  pub spent_refused : st.spent ≡ true → Refused Spent ≡ rows_check s steps g st filled l
+  pub spent_refused : st.spent ≡ true → Err Spent ≡ rows_check s steps g st filled l
   unfolding rows_check
   spent_refused e = stop _ _ (unless_bad _ _ (ap not (sym e)))
 
   module _ (unspent : st.spent ≡ false) {a : Answer} (is : a ≡ settings_check s steps g (length l)) where
-    pub settings_refused : {r : Refusal} → a ≡ Refused r → Refused r ≡ rows_check s steps g st filled l
+    pub settings_refused : {r : Refusal} → a ≡ Err r → Err r ≡ rows_check s steps g st filled l
     unfolding rows_check
     settings_refused e = go_on _ _ _ (unless_good _ _ (ap not (sym unspent))) (stop_by _ _ _ is e)
 
-    module _ (good : a ≡ Accepted) {b : Bool} (of : b ≡ counts_ok s.rows st.held filled) where
-      pub counts_refused : not b ≡ true → Refused Filled ≡ rows_check s steps g st filled l
+    module _ (good : a ≡ Ok tt) {b : Bool} (of : b ≡ counts_ok s.rows st.held filled) where
+      pub counts_refused : not b ≡ true → Err Filled ≡ rows_check s steps g st filled l
       unfolding rows_check
       counts_refused e = go_on _ _ _ (unless_good _ _ (ap not (sym unspent))) (go_on_by _ _ _ _ is good (stop _ _ (unless_bad _ _ (told_no_not _ _ of e))))
 
-      module _ (fits : not b ≡ false) {f : Found} (new : f ≡ over_new s st.held filled l) where
-        pub sample_refused : {k : ℕ} → f ≡ At k → Refused (Sample k) ≡ rows_check s steps g st filled l
+      module _ (fits : not b ≡ false) {f : Option ℕ} (new : f ≡ over_new s st.held filled l) where
+        pub sample_refused : {k : ℕ} → f ≡ Some k → Err (Sample k) ≡ rows_check s steps g st filled l
         unfolding rows_check
         sample_refused e =
             go_on _ _ _ (unless_good _ _ (ap not (sym unspent)))
             (go_on_by _ _ _ _ is good (go_on _ _ _ (unless_good _ _ (told_yes_not _ _ of fits)) (found_bad_by _ _ _ _ new e refl)))
 
-        pub call_accepted : f ≡ Nothing → Accepted ≡ rows_check s steps g st filled l
+        pub call_accepted : f ≡ None → Ok tt ≡ rows_check s steps g st filled l
         unfolding rows_check
         call_accepted e =
             go_on _ _ _ (unless_good _ _ (ap not (sym unspent)))
@@ -151,8 +151,8 @@ module _ {n : ℕ} (r : Refusal) (st : RowState) (is : n ≡ number_of r) where
   stays e = pick_no _ _ _ _ (not_eq _ _ (λ q. e (is ∙ q))) refl
 
 module _ (s : Plane) (steps : List ℕ) (g : Grid) (st : RowState) (filled : ℕ) (l : List ℕ) {a : Answer} (is : a ≡ rows_check s steps g st filled l) where
-  pub stated_refused : {r : Refusal} → a ≡ Refused r → {t : RowState} → t ≡ spent_by r st
-      → Stated s steps g st filled l (record { answer = Refused r; stored = 0; changed = 0; state = t; finalrows = 0 }) l
+  pub stated_refused : {r : Refusal} → a ≡ Err r → {t : RowState} → t ≡ spent_by r st
+      → Stated s steps g st filled l (record { answer = Err r; stored = 0; changed = 0; state = t; finalrows = 0 }) l
   unfolding rows_after rows_stored rows_changed rows_state rows_final state_after
   stated_refused e next = record {
     answer = sym e ∙ is;
@@ -163,17 +163,17 @@ module _ (s : Plane) (steps : List ℕ) (g : Grid) (st : RowState) (filled : ℕ
     final_rows = settle_refused _ _ _ (sym e ∙ is);
   }
 
-  pub passed_by : a ≡ Accepted → Passed s steps g st filled l
+  pub passed_by : a ≡ Ok tt → Passed s steps g st filled l
   passed_by e = passed s steps g st filled l (sym is ∙ e)
 
   -- what the run asks
-  pub band_asks : a ≡ Accepted → Checked s steps g (length l) × (st.held / 4 ≤ filled / 4) × (filled / 4 ≤ s.rows)
+  pub band_asks : a ≡ Ok tt → Checked s steps g (length l) × (st.held / 4 ≤ filled / 4) × (filled / 4 ≤ s.rows)
   band_asks e =
       let p = passed_by e in
       (p.checks, omega (arith, p.counts.up), omega (arith, p.counts.filled_most))
 
-  pub stated_run : {v : Visited} {m : List ℕ} {f : ℕ} → a ≡ Accepted → RanBand s steps g (st.held / 4) (filled / 4) l v m → f ≡ final_of s.rows filled
-      → Stated s steps g st filled l (record { answer = Accepted; stored = v.stored; changed = v.changed; state = record { held = filled; spent = false }; finalrows = f }) m
+  pub stated_run : {v : Visited} {m : List ℕ} {f : ℕ} → a ≡ Ok tt → RanBand s steps g (st.held / 4) (filled / 4) l v m → f ≡ final_of s.rows filled
+      → Stated s steps g st filled l (record { answer = Ok tt; stored = v.stored; changed = v.changed; state = record { held = filled; spent = false }; finalrows = f }) m
   unfolding rows_after rows_stored rows_changed rows_state rows_final state_after call_edges
   stated_run e run final = record {
     answer = sym e ∙ is;

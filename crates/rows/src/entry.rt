@@ -8,7 +8,7 @@ use crate::check::rows_check;
 use crate::counts::final_rows;
 use bands::run_band;
 use plane::settings_check;
-use rules::refusals::{Answer, Refusal, number};
+use rules::refusals::{Refusal, number};
 use rules::rows::{RowState, RowsAnswer};
 use rules::settings::Plane;
 
@@ -45,10 +45,10 @@ pub fn deblock_rows(
 {
     let given = settings_check(plane, vedge, hedge, sqw, sqh, qindex, tiles, keep, steps, s);
     let a = rows_check(plane, s, state, filled, given);
-    if let Answer::Refused(r) = a {
+    if let Err(r) = a {
         let kept = spent_by(r, state);
         return RowsAnswer {
-            answer: Answer::Refused(r),
+            answer: Err(r),
             stored: 0,
             changed: 0,
             state: kept,
@@ -74,7 +74,7 @@ pub fn deblock_rows(
         spent: false,
     };
     RowsAnswer {
-        answer: Answer::Accepted,
+        answer: Ok(()),
         stored: done.stored,
         changed: done.changed,
         state: next,

@@ -1,10 +1,10 @@
 // One call on filled rows: what the caller does before it, what it is asked, and what the stream says that it answers and leaves.
+use crate::grid::Grid;
 use crate::samples;
+use cases::Line;
 use rows::deblock_rows;
-use rules::refusals::PlaneAnswer;
 use rules::rows::{RowState, RowsAnswer};
-use rules::settings::Plane;
-use text::{Answered, Cursor};
+use text::Answered;
 
 // What the caller does before a call: from a place up to another the picture's samples come, and beyond stands rubbish.
 #[derive(Clone, Copy)]
@@ -13,14 +13,6 @@ struct Filling {
     to: usize,
     first: u16,
     step: u16,
-    rest: Cursor,
-}
-
-// A state, and what follows it.
-#[derive(Clone, Copy)]
-struct Stood {
-    state: RowState,
-    rest: Cursor,
 }
 
 // A call: what is done before it; the state and the count that it is handed; the answer, the entries and the rows that are final, and the state, which are due.
@@ -33,59 +25,35 @@ pub struct Call {
     done: usize,
     finalrows: usize,
     next: RowState,
-    pub rest: Cursor,
 }
 
-fn read_filling(text: &[u8], c: Cursor) -> Filling {
-    let from = text::read_unsigned(text, c, 4294967295);
-    let to = text::read_unsigned(text, from.rest, 4294967295);
-    let first = text::read_unsigned(text, to.rest, 65535);
-    let step = text::read_unsigned(text, first.rest, 65535);
-    let rest = step.rest;
-    Filling {
-        from: from.value,
-        to: to.value,
-        first: first.value as u16,
-        step: step.value as u16,
-        rest,
-    }
+fn read_filling(line: &mut Line) -> Option<Filling> {
+    Some(Filling {
+        from: line.size()?,
+        to: line.size()?,
+        first: line.number()?,
+        step: line.number()?,
+    })
 }
 
-fn read_state(text: &[u8], c: Cursor) -> Stood {
-    let held = text::read_unsigned(text, c, 1099511627775);
-    let spent = text::read_unsigned(text, held.rest, 1);
-    let rest = spent.rest;
-    Stood {
-        state: RowState {
-            held: held.value,
-            spent: spent.value == 1,
-        },
-        rest,
-    }
+fn read_state(line: &mut Line) -> Option<RowState> {
+    Some(RowState {
+        held: line.large()?,
+        spent: line.flag()?,
+    })
 }
 
 // The next call of a line.
-pub fn read(text: &[u8], c: Cursor) -> Call {
-    let f = read_filling(text, c);
-    let before = read_state(text, f.rest);
-    let filled = text::read_unsigned(text, before.rest, 1099511627775);
-    let told = text::read_counted(text, filled.rest);
-    let done = text::read_unsigned(text, told.rest, 4294967295);
-    let finalrows = text::read_unsigned(text, done.rest, 4294967295);
-    let after = read_state(text, finalrows.rest);
-    let state = before.state;
-    let next = after.state;
-    let rest = after.rest;
-    Call {
-        filling: f,
-        state,
-        filled: filled.value,
-        told,
-        done: done.value,
-        finalrows: finalrows.value,
-        next,
-        rest,
-    }
+pub fn read(line: &mut Line) -> Option<Call> {
+    Some(Call {
+        filling: read_filling(line)?,
+        state: read_state(line)?,
+        filled: line.large()?,
+        told: line.counted()?,
+        done: line.size()?,
+        finalrows: line.size()?,
+        next: read_state(line)?,
+    })
 }
 
 // Whether a state is the stream's.
@@ -97,12 +65,9 @@ fn same_state(a: RowState, b: RowState) -> bool {
 fn answered(a: RowsAnswer, call: Call) -> bool {
     let told = call.told;
     let answer = a.answer;
-    let counted = PlaneAnswer {
-        answer,
-        stored: a.stored,
-        changed: a.changed,
-    };
-    tally::same_counted(counted, told.number, told.place, told.stored, told.changed)
+    tally::same(answer, told.number, told.place)
+        && a.stored == told.stored
+        && a.changed == told.changed
         && a.finalrows == call.finalrows
         && same_state(a.state, call.next)
 }
@@ -121,15 +86,7 @@ fn left(plane: &[u16], found: &[u16], due: &[u16], call: Call) -> bool {
 // Fills the plane as the caller does, runs the call, and holds what it answers and leaves against the stream's.
 pub fn run(
     call: Call,
-    s: Plane,
-    vedge: &[u8],
-    hedge: &[u8],
-    sqw: &[u8],
-    sqh: &[u8],
-    qindex: &[u16],
-    tiles: &[u16],
-    keep: &[u8],
-    steps: &[u32],
+    g: Grid,
     picture: &[u16],
     due: &[u16],
     plane: &mut [u16],
@@ -142,19 +99,17 @@ pub fn run(
     samples::copy(found, plane, 0, n);
     let a = deblock_rows(
         plane,
-        vedge,
-        hedge,
-        sqw,
-        sqh,
-        qindex,
-        tiles,
-        keep,
-        steps,
-        s,
+        g.vedge,
+        g.hedge,
+        g.sqw,
+        g.sqh,
+        g.qindex,
+        g.tiles,
+        g.keep,
+        g.steps,
+        g.s,
         call.state,
         call.filled,
     );
-    let right = answered(a, call);
-    let stays = left(plane, found, due, call);
-    right && stays
+    answered(a, call) && left(plane, found, due, call)
 }

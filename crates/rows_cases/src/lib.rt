@@ -4,6 +4,9 @@
 // Samples moved and compared.
 mod samples;
 
+// What every call on a plane is asked with.
+mod grid;
+
 // One call: what is done before it, what it is asked, and what the stream says that it answers.
 mod call;
 
@@ -11,3 +14,4 @@ mod call;
 mod calls;
 
 pub use calls::replay;
+pub use grid::Grid;

@@ -11,8 +11,8 @@ use Rattle.rules.specs.declared.rows.RowState.{RowState}
 use Rattle.rules.specs.declared.rows.RowsAnswer.{RowsAnswer}
 use Rattle.rules.specs.declared.refusals.Refusal.{Refusal}
 use Rattle.rules.specs.declared.refusals.Refusal.TheVariants.{Spent, Sample}
-use Rattle.rules.specs.declared.refusals.Answer.{Answer}
-use Rattle.rules.specs.declared.refusals.Answer.TheVariants.{Refused}
+use Rattle.rules.specs.Refusals.{Answer}
+use Rattle.std.specs.declared.result.Result.TheVariants.{Err}
 use Rattle.rules.specs.Refusals.{number_of}
 use Rattle.rules.specs.Plane.{Grid}
 use Rattle.rules.specs.Rows.{rows_check, rows_after, rows_stored, rows_changed, spent_by, state_after, rows_state, rows_final}
@@ -21,8 +21,8 @@ use Rattle.rows.specs.Stated.{Stated}
 use Rattle.rows.proofs.Calls.{spent_refused}
 
 module _ {s : Plane} {steps : List ℕ} {g : Grid} {st : RowState} {filled : ℕ} {l : List ℕ} {a : RowsAnswer} {m : List ℕ} (done : Stated s steps g st filled l a m) where
-  module _ {r : Refusal} (told : a.answer ≡ Refused r) where
-    is_refused : rows_check s steps g st filled l ≡ Refused r
+  module _ {r : Refusal} (told : a.answer ≡ Err r) where
+    is_refused : rows_check s steps g st filled l ≡ Err r
     is_refused = sym done.answer ∙ told
 
     -- the plane as that call found it, nothing counted, no row called final
@@ -45,12 +45,12 @@ module _ {s : Plane} {steps : List ℕ} {g : Grid} {st : RowState} {filled : ℕ
     state_unchanged n = state_by ∙ ap (λ (b : Bool). pick b (record { held = st.held; spent = true }) st) (ne_eqb (number_of r) 8 n)
 
   -- 8: "the state is spent", and keeps its held count
-  pub sample_spends : {k : ℕ} → a.answer ≡ Refused (Sample k) → (a.state.spent ≡ true) × (a.state.held ≡ st.held)
+  pub sample_spends : {k : ℕ} → a.answer ≡ Err (Sample k) → (a.state.spent ≡ true) × (a.state.held ≡ st.held)
   unfolding spent_by pick
   sample_spends told = (ap (λ (t : RowState). t.spent) (state_by told), ap (λ (t : RowState). t.held) (state_by told))
 
   -- "and each further call is refused", by 15 and whatever else is lent
-  pub spent_stays : st.spent ≡ true → (a.answer ≡ Refused Spent) × (a.state ≡ st) × (m ≡ l)
+  pub spent_stays : st.spent ≡ true → (a.answer ≡ Err Spent) × (a.state ≡ st) × (m ≡ l)
   unfolding spent_by pick
   spent_stays e =
       let told = done.answer ∙ sym (spent_refused s steps g st filled l e) in

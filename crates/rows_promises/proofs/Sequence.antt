@@ -20,7 +20,7 @@ use Rattle.rules.specs.declared.edge.Edge.{Edge}
 use Rattle.rules.specs.declared.settings.Plane.{Plane}
 use Rattle.rules.specs.declared.rows.RowState.{RowState}
 use Rattle.rules.specs.declared.rows.RowsAnswer.{RowsAnswer}
-use Rattle.rules.specs.declared.refusals.Answer.TheVariants.{Accepted}
+use Rattle.std.specs.declared.result.Result.TheVariants.{Ok}
 use Rattle.rules.specs.Numbers.{top_of}
 use Rattle.rules.specs.Refusals.{or_else, found}
 use Rattle.rules.specs.Segment.{run_edges, segment_of}
@@ -212,10 +212,10 @@ module _ {s : Plane} {steps : List ℕ} {g : Grid} {m : ℕ} {a : ℕ → ℕ} {
 
   module _ (p : List ℕ) (sent : Sends s (suc m) a lent p) where
     -- the whole run accepts the picture
-    pub picture_accepted : plane_check s steps g p ≡ Accepted
+    pub picture_accepted : plane_check s steps g p ≡ Ok tt
     unfolding or_else found
     picture_accepted =
-        let settings : settings_check s steps g (length p) ≡ Accepted = rw (sent.long m (le_refl (suc m))) at (done c ok m (le_refl (suc m))).passes.settings in
+        let settings : settings_check s steps g (length p) ≡ (Ok tt) = rw (sent.long m (le_refl (suc m))) at (done c ok m (le_refl (suc m))).passes.settings in
         let low : LowRows s 0 (4 * s.rows) p = rw full at (low_sofar c ok p sent (suc m) (le_refl (suc m))) in
         plane_parts s steps g p ∙ rw (settings, low_plane s p low)
 
@@ -254,7 +254,7 @@ module _ {s : Plane} {steps : List ℕ} {g : Grid} {m : ℕ} {a : ℕ → ℕ} {
 
 module _ {s : Plane} {steps : List ℕ} {g : Grid} {m : ℕ} {a : ℕ → ℕ} {st : ℕ → RowState} {lent left : ℕ → List ℕ} {r : ℕ → RowsAnswer}
     (c : Calls s steps g (suc m) a st lent left r) (ok : AllAccepted (suc m) r) (full : a m ≡ 4 * s.rows)
-    (same : (k : ℕ) → k < m → lent (suc k) ≡ left k) (whole : plane_check s steps g (lent 0) ≡ Accepted) where
+    (same : (k : ℕ) → k < m → lent (suc k) ≡ left k) (whole : plane_check s steps g (lent 0) ≡ Ok tt) where
   abbrev start : List ℕ
   start = lent 0
 
@@ -310,9 +310,9 @@ module _ {s : Plane} {steps : List ℕ} {g : Grid} {m : ℕ} {a : ℕ → ℕ} {
 -- ---- a picture that the whole run accepts is accepted call by call, where the counts are good
 
 module _ {s : Plane} {steps : List ℕ} {g : Grid} {n : ℕ} {a : ℕ → ℕ} {st : ℕ → RowState} {lent left : ℕ → List ℕ} {r : ℕ → RowsAnswer}
-    (c : Calls s steps g n a st lent left r) (p : List ℕ) (sent : Sends s n a lent p) (whole : plane_check s steps g p ≡ Accepted)
+    (c : Calls s steps g n a st lent left r) (p : List ℕ) (sent : Sends s n a lent p) (whole : plane_check s steps g p ≡ Ok tt)
     (good : (k : ℕ) → k < n → Counts s.rows (held_at a k) (a k)) where
-  accepted_at : (k : ℕ) → k < n → st k ≡ record { held = held_at a k; spent = false } → (r k).answer ≡ Accepted
+  accepted_at : (k : ℕ) → k < n → st k ≡ record { held = held_at a k; spent = false } → (r k).answer ≡ Ok tt
   accepted_at k h e =
       (c.stated k h).answer
       ∙ ap (λ (t : RowState). rows_check s steps g t (a k) (lent k)) e

@@ -14,8 +14,8 @@ use Rattle.rules.specs.declared.settings.Plane.{Plane}
 use Rattle.rules.specs.declared.rows.RowState.{RowState}
 use Rattle.rules.specs.declared.rows.RowsAnswer.{RowsAnswer}
 use Rattle.rules.specs.declared.refusals.Refusal.TheVariants.{Sample}
-use Rattle.rules.specs.declared.refusals.Answer.{Answer}
-use Rattle.rules.specs.declared.refusals.Answer.TheVariants.{Accepted, Refused}
+use Rattle.rules.specs.Refusals.{Answer}
+use Rattle.std.specs.declared.result.Result.TheVariants.{Ok, Err}
 use Rattle.rules.specs.Numbers.{top_of}
 use Rattle.rules.specs.Refusals.{settle}
 use Rattle.rules.specs.Segment.{run_edges}
@@ -43,7 +43,7 @@ pub record Done (s : Plane) (steps : List ℕ) (g : Grid) (st : RowState) (fille
   pub final_rows : a.finalrows ≡ final_of s.rows filled
 
 module _ {s : Plane} {steps : List ℕ} {g : Grid} {st : RowState} {filled : ℕ} {l : List ℕ} {a : RowsAnswer} {m : List ℕ} (said : Stated s steps g st filled l a m) where
-  pub done_of : a.answer ≡ Accepted → Done s steps g st filled l a m
+  pub done_of : a.answer ≡ Ok tt → Done s steps g st filled l a m
   unfolding rows_after rows_stored rows_changed rows_state rows_final state_after call_edges settle
   done_of told =
       let ok = sym said.answer ∙ told in
@@ -62,8 +62,8 @@ module _ {s : Plane} {steps : List ℕ} {g : Grid} {st : RowState} {filled : ℕ
   final_kept = go (rows_check s steps g st filled l) refl said.plane
     where
       go : (x : Answer) → rows_check s steps g st filled l ≡ x → m ≡ settle x l (run_edges (top_of s.depth) s.stride (kept_by s g) (call_edges s steps g st filled) l) → SameRows s 0 (final_of s.rows st.held) m l
-      go (Refused r) e is = record { at = λ x y hx lo hi. ap (λ (q : List ℕ). get_or q (y * s.stride + x) 0) is }
-      go Accepted e is =
+      go (Err r) e is = record { at = λ x y hx lo hi. ap (λ (q : List ℕ). get_or q (y * s.stride + x) 0) is }
+      go (Ok tt) e is =
           let p = passed s steps g st filled l e in
           let c = p.counts in
           let fours : 4 * (st.held / 4) ≡ st.held = omega (arith, c.held_fours) in
@@ -82,8 +82,8 @@ module _ {s : Plane} {steps : List ℕ} {g : Grid} {st : RowState} {filled : ℕ
   unfilled_kept i out = go (rows_check s steps g st filled l) refl said.plane
     where
       go : (x : Answer) → rows_check s steps g st filled l ≡ x → m ≡ settle x l (run_edges (top_of s.depth) s.stride (kept_by s g) (call_edges s steps g st filled) l) → get_or m i 0 ≡ get_or l i 0
-      go (Refused r) e is = ap (λ (q : List ℕ). get_or q i 0) is
-      go Accepted e is =
+      go (Err r) e is = ap (λ (q : List ℕ). get_or q i 0) is
+      go (Ok tt) e is =
           let p = passed s steps g st filled l e in
           let c = p.counts in
           let fours : 4 * (filled / 4) ≡ filled = omega (arith, c.filled_fours) in
@@ -105,11 +105,11 @@ counts_yes rows held filled c =
     )
 
 -- a call whose new rows are those of a picture that the whole run accepts, with good counts
-pub call_accepts : (s : Plane) (steps : List ℕ) (g : Grid) (st : RowState) (filled : ℕ) (l p : List ℕ) → plane_check s steps g p ≡ Accepted
-    → length l ≡ length p → st.spent ≡ false → Counts s.rows st.held filled → SameRows s st.held filled l p → rows_check s steps g st filled l ≡ Accepted
+pub call_accepts : (s : Plane) (steps : List ℕ) (g : Grid) (st : RowState) (filled : ℕ) (l p : List ℕ) → plane_check s steps g p ≡ Ok tt
+    → length l ≡ length p → st.spent ≡ false → Counts s.rows st.held filled → SameRows s st.held filled l p → rows_check s steps g st filled l ≡ Ok tt
 call_accepts s steps g st filled l p ok long unspent c same =
     let parts = else_parts _ _ (sym (plane_parts s steps g p) ∙ ok) in
-    let settings : settings_check s steps g (length l) ≡ Accepted = rw long parts.0 in
+    let settings : settings_check s steps g (length l) ≡ (Ok tt) = rw long parts.0 in
     let low = plane_low s p (found_nothing _ Sample parts.1) in
     let new = low_new s l st.held filled (record { at = λ x y hx lo hi. rw (same.at x y hx lo hi) (low.at x y hx (omega arith) (omega (arith, hi, c.filled_most))) }) in
     sym (call_accepted s steps g st filled l unspent refl settings refl (ap not (counts_yes s.rows st.held filled c)) refl new)

@@ -4,7 +4,7 @@ use Rattle.std.specs.Prelude.{◌≡◌, List, ℕ, zero, suc, ◌+◌, ◌*◌,
 use Rattle.rules.specs.declared.settings.Plane.{Plane}
 use Rattle.rules.specs.declared.rows.RowState.{RowState}
 use Rattle.rules.specs.declared.rows.RowsAnswer.{RowsAnswer}
-use Rattle.rules.specs.declared.refusals.Answer.TheVariants.{Accepted}
+use Rattle.std.specs.declared.result.Result.TheVariants.{Ok}
 use Rattle.rules.specs.Plane.{Grid}
 use Rattle.rules.specs.Rows.{fresh}
 use Rattle.rows.specs.Stated.{Stated}
@@ -25,7 +25,7 @@ pub record Calls (s : Plane) (steps : List ℕ) (g : Grid) (n : ℕ) (a : ℕ �
 
 -- every call is accepted
 pub record AllAccepted (n : ℕ) (r : ℕ → RowsAnswer) : Type 0 where
-  pub each : (k : ℕ) → k < n → (r k).answer ≡ Accepted
+  pub each : (k : ℕ) → k < n → (r k).answer ≡ Ok tt
 
 -- how many rows are filled before call k
 abbrev pub held_at : (ℕ → ℕ) → ℕ → ℕ

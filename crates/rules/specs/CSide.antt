@@ -6,8 +6,8 @@ use Rattle.low_first.specs.Bytes.{number_in, low_first}
 use Rattle.rules.specs.declared.settings.Lone.{Lone}
 use Rattle.rules.specs.declared.refusals.Refusal.{Refusal}
 use Rattle.rules.specs.declared.refusals.Refusal.TheVariants.{Depth, Length, Steps}
-use Rattle.rules.specs.declared.refusals.Answer.{Answer}
-use Rattle.rules.specs.declared.refusals.Answer.TheVariants.{Accepted, Refused}
+use Rattle.rules.specs.Refusals.{Answer}
+use Rattle.std.specs.declared.result.Result.TheVariants.{Ok, Err}
 use Rattle.rules.specs.Numbers.{depth_ok}
 use Rattle.rules.specs.Refusals.{number_of, or_else, unless, settle}
 use Rattle.rules.specs.Thresholds.{q_threshold, side_threshold, thresholds_check}
@@ -16,8 +16,8 @@ use Rattle.rules.specs.Lone.{edge_of, lone_check, lone_plane}
 
 -- "Both answer minus the refusal number."
 unfoldable pub c_answer : Answer → ℕ → ℤ
-c_answer Accepted n = pos n
-c_answer (Refused r) n = neg_ℤ (pos (number_of r))
+c_answer (Ok tt) n = pos n
+c_answer (Err r) n = neg_ℤ (pos (number_of r))
 
 -- ---- thresholds: "four bytes a step, low first; 4 if not 1,408 bytes"
 

@@ -7,8 +7,8 @@ use Rattle.laws.specs.Loops.{turns}
 use Rattle.laws.specs.Whole.{limit, between}
 use Rattle.rules.specs.declared.settings.Ccso.{Ccso}
 use Rattle.rules.specs.declared.refusals.Refusal.TheVariants.{Depth, Size, Length, Setting, Sample}
-use Rattle.rules.specs.declared.refusals.Answer.{Answer}
-use Rattle.rules.specs.declared.refusals.Found.{Found}
+use Rattle.rules.specs.Refusals.{Answer}
+use Rattle.std.specs.declared.option.Option.{Option}
 use Rattle.rules.specs.Numbers.{depth_ok, top_of, in_range, in_range_z, subsampling_ok, down, up}
 use Rattle.rules.specs.Refusals.{or_else, unless, found, settle, first, found_unless, over_row}
 use Rattle.rules.specs.Frame.{halved, superblocks}
@@ -125,7 +125,7 @@ ccso_settings_ok s =
 unfoldable pub offset_ok : List ℤ → ℕ → Bool
 offset_ok offsets k = in_range_z (neg_ℤ (pos 10)) (pos 7) (get_or offsets k (pos 0))
 
-unfoldable pub bad_offset : Ccso → List ℤ → Found
+unfoldable pub bad_offset : Ccso → List ℤ → Option ℕ
 bad_offset s offsets = first (offset_count s) (λ k. found_unless (offset_ok offsets k) k)
 
 -- order 1, 2, 3, 5, 8; "for CCSO, at all of luma, then the target"

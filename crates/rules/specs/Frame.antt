@@ -9,8 +9,8 @@ use Rattle.rules.specs.declared.settings.QindexGrid.{QindexGrid}
 use Rattle.rules.specs.declared.lent.GridLengths.{GridLengths}
 use Rattle.rules.specs.declared.lent.FrameLengths.{FrameLengths}
 use Rattle.rules.specs.declared.refusals.Refusal.TheVariants.{Depth, Size, Length, Steps, Setting, Cell, Room, Sample, Leaf}
-use Rattle.rules.specs.declared.refusals.Answer.{Answer}
-use Rattle.rules.specs.declared.refusals.Answer.TheVariants.{Accepted, Refused}
+use Rattle.rules.specs.Refusals.{Answer}
+use Rattle.std.specs.declared.result.Result.TheVariants.{Ok, Err}
 use Rattle.rules.specs.Numbers.{depth_ok, in_range, subsampling_ok, delta_ok, down}
 use Rattle.rules.specs.Refusals.{or_else, unless, found, only_if, settle}
 use Rattle.rules.specs.Thresholds.{steps_check}
@@ -296,8 +296,8 @@ frame_built f steps b p = finish (frame_late f b p) b p (run_frame f steps b p)
 
 -- "A refusal leaves all lent memory unchanged, but a frame refused by 7 or 8 has built every grid it uses, chroma's too."
 unfoldable pub or_done : Answer → Lent → Done → Done
-or_done (Refused r) l d = done (Refused r) l
-or_done Accepted l d = d
+or_done (Err r) l d = done (Err r) l
+or_done (Ok tt) l d = d
 
 unfoldable pub frame_of : Frame → Given → Lent → Done
 frame_of f n l =

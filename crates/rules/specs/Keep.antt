@@ -5,7 +5,7 @@ use Rattle.laws.specs.Choose.{pick, all}
 use Rattle.laws.specs.Loops.{filled}
 use Rattle.rules.specs.declared.settings.Keep.{Keep}
 use Rattle.rules.specs.declared.refusals.Refusal.TheVariants.{Size, Length, Cell}
-use Rattle.rules.specs.declared.refusals.Answer.{Answer}
+use Rattle.rules.specs.Refusals.{Answer}
 use Rattle.rules.specs.Refusals.{or_else, unless, found, settle}
 use Rattle.rules.specs.Plane.{bad_keep}
 use Rattle.rules.specs.TuGrid.{cells_ok}

@@ -5,11 +5,11 @@ use Rattle.laws.specs.Choose.{all}
 use Rattle.rules.specs.declared.edge.Edge.{Edge}
 use Rattle.rules.specs.declared.settings.Lone.{Lone}
 use Rattle.rules.specs.declared.refusals.Refusal.TheVariants.{Depth, Size, Length, Setting, Room, Sample}
-use Rattle.rules.specs.declared.refusals.Answer.{Answer}
-use Rattle.rules.specs.declared.refusals.Answer.TheVariants.{Accepted, Refused}
-use Rattle.rules.specs.declared.refusals.Width.{Width}
-use Rattle.rules.specs.declared.refusals.Width.TheVariants.{Samples, Refused as «NoWidth»}
-use Rattle.rules.specs.declared.refusals.Found.{Found}
+use Rattle.rules.specs.Refusals.{Answer}
+use Rattle.std.specs.declared.result.Result.TheVariants.{Ok, Err}
+use Rattle.std.specs.declared.result.Result.{Result}
+use Rattle.rules.specs.declared.refusals.Refusal.{Refusal}
+use Rattle.std.specs.declared.option.Option.{Option}
 use Rattle.rules.specs.Numbers.{depth_ok, top_of, in_range}
 use Rattle.rules.specs.Refusals.{or_else, unless, found, settle, over_box}
 use Rattle.rules.specs.Lengths.{reach_before, reach_after}
@@ -28,11 +28,11 @@ unfoldable pub settings_ok : Lone → Bool
 settings_ok s = ranges_ok (edge_of s)
 
 -- "for a segment, at its reach on four lines", row by row over the plane
-abbrev pub over_reach : Bool → ℕ → ℕ → List ℕ → ℕ → ℕ → ℕ → ℕ → Found
+abbrev pub over_reach : Bool → ℕ → ℕ → List ℕ → ℕ → ℕ → ℕ → ℕ → Option ℕ
 over_reach true top stride l x y b a = over_box top l (y * stride + (x - b)) stride (b + a) 4
 over_reach false top stride l x y b a = over_box top l ((y - b) * stride + x) stride 4 (b + a)
 
-unfoldable pub over_edge : ℕ → ℕ → Edge → List ℕ → Found
+unfoldable pub over_edge : ℕ → ℕ → Edge → List ℕ → Option ℕ
 over_edge top stride e l = over_reach (eqb e.dir 0) top stride l e.x e.y (reach_before e.pair) (reach_after e.pair)
 
 unfoldable pub lone_check : Lone → List ℕ → Answer
@@ -49,11 +49,11 @@ unfoldable pub lone_plane : Lone → List ℕ → List ℕ
 lone_plane s l = settle (lone_check s l) l (segment_of (top_of s.depth) s.stride none_kept (edge_of s) l)
 
 -- "Answer: the width, or the refusal."
-unfoldable pub answer_width : Answer → ℕ → Width
-answer_width Accepted w = Samples w
-answer_width (Refused r) w = «NoWidth» r
+unfoldable pub answer_width : Answer → ℕ → Result ℕ Refusal
+answer_width (Ok tt) w = Ok w
+answer_width (Err r) w = Err r
 
-unfoldable pub lone_width : Lone → List ℕ → Width
+unfoldable pub lone_width : Lone → List ℕ → Result ℕ Refusal
 lone_width s l = answer_width (lone_check s l) (width_at s.stride (edge_of s) l)
 
 -- document 02, ticket 4: stored and changed samples; "A refusal reports zero for both."

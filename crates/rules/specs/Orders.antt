@@ -9,7 +9,7 @@ use Rattle.rules.specs.declared.settings.Replay.{Replay}
 use Rattle.rules.specs.declared.settings.TuGrid.{TuGrid}
 use Rattle.rules.specs.declared.settings.Keep.{Keep}
 use Rattle.rules.specs.declared.refusals.Refusal.TheVariants.{Depth, Size, Length, Steps, Setting, Cell, Room, Sample, Leaf, Header, Cut, Entry}
-use Rattle.rules.specs.declared.refusals.Answer.TheVariants.{Accepted, Refused}
+use Rattle.std.specs.declared.result.Result.TheVariants.{Ok, Err}
 use Rattle.rules.specs.Numbers.{depth_ok, top_of, in_range, in_range_z, delta_ok, subsampling_ok}
 use Rattle.rules.specs.Refusals.{or_else, unless, found, sooner, first, found_if, found_unless, over_top, over_row, over_box}
 use Rattle.rules.specs.Thresholds.{step_good, bad_step, steps_check, deltas_check, thresholds_check}
@@ -60,41 +60,41 @@ abbrev pub entry : ℕ → ℕ → ℕ → List ℕ
 entry x dir pair = x ∷ 0 ∷ 0 ∷ 0 ∷ dir ∷ pair ∷ 8 ∷ 0 ∷ 40 ∷ 0 ∷ []
 
 pub record Orders : Type 0 where
-  pub thresholds_1_4 : thresholds_check 9 [] (pos 0) (pos 0) ≡ Refused Depth
-  pub thresholds_4_5 : thresholds_check 8 [] (pos 128) (pos 0) ≡ Refused (Steps 0)
-  pub lone_1_2 : lone_check (lone 9 0 8 8) [] ≡ Refused Depth
-  pub lone_2_3 : lone_check (lone 8 0 8 8) [] ≡ Refused Size
-  pub lone_3_5 : lone_check (lone 8 16 2049 8) [] ≡ Refused Length
-  pub lone_5_7 : lone_check (lone 8 16 2049 0) (flat 100 108) ≡ Refused Setting
-  pub lone_7_8 : lone_check (lone 8 16 8 7) (flat 256 108) ≡ Refused (Room 0)
-  pub lone_8 : lone_check (lone 8 16 8 8) (flat 100 256) ≡ Refused (Sample 8)
-  pub lone_good : lone_check (lone 8 16 8 8) (flat 100 108) ≡ Accepted
-  pub replay_1_2 : replay_check (again 9 0) [] [] [] ≡ Refused Depth
-  pub replay_2_3 : replay_check (again 8 0) [] [] [] ≡ Refused Size
-  pub replay_3_11 : replay_check (again 8 4) [] unkept [] ≡ Refused Length
-  pub replay_keep_3_11 : replay_check (again 8 4) [] (0 ∷ 0 ∷ 0 ∷ []) (flat 100 108) ≡ Refused Length
-  pub replay_mark_12 : replay_check (again 8 4) (69 ∷ 68 ∷ 72 ∷ 1 ∷ 0 ∷ 8 ∷ []) unkept (flat 100 108) ≡ Refused Header
-  pub replay_version : replay_check (again 8 4) (69 ∷ 68 ∷ 71 ∷ 2 ∷ 0 ∷ []) unkept (flat 100 108) ≡ Refused Header
-  pub replay_4_bytes : replay_check (again 8 4) (69 ∷ 68 ∷ 71 ∷ 1 ∷ []) unkept (flat 100 108) ≡ Refused Header
-  pub replay_12_13 : replay_check (again 8 4) (header ++ (entry 8 2 3 ++ (8 ∷ []))) third (flat 100 108) ≡ Refused (Cut 1)
-  pub replay_13_6 : replay_check (again 8 4) (header ++ (entry 7 0 3 ++ entry 8 0 8)) third (flat 100 108) ≡ Refused (Entry 1)
-  pub replay_6_7 : replay_check (again 8 4) (header ++ entry 7 0 3) third (flat 100 108) ≡ Refused (Cell 2)
-  pub replay_7_8 : replay_check (again 8 4) (header ++ (entry 8 0 3 ++ entry 9 0 3)) unkept (flat 256 108) ≡ Refused (Room 1)
-  pub replay_8 : replay_check (again 8 4) (header ++ entry 8 0 3) unkept (flat 100 256) ≡ Refused (Sample 8)
-  pub replay_bare : replay_check (again 8 4) header unkept (flat 100 108) ≡ Accepted
-  pub replay_good : replay_check (again 8 4) (header ++ entry 8 0 3) unkept (flat 100 108) ≡ Accepted
+  pub thresholds_1_4 : thresholds_check 9 [] (pos 0) (pos 0) ≡ Err Depth
+  pub thresholds_4_5 : thresholds_check 8 [] (pos 128) (pos 0) ≡ Err (Steps 0)
+  pub lone_1_2 : lone_check (lone 9 0 8 8) [] ≡ Err Depth
+  pub lone_2_3 : lone_check (lone 8 0 8 8) [] ≡ Err Size
+  pub lone_3_5 : lone_check (lone 8 16 2049 8) [] ≡ Err Length
+  pub lone_5_7 : lone_check (lone 8 16 2049 0) (flat 100 108) ≡ Err Setting
+  pub lone_7_8 : lone_check (lone 8 16 8 7) (flat 256 108) ≡ Err (Room 0)
+  pub lone_8 : lone_check (lone 8 16 8 8) (flat 100 256) ≡ Err (Sample 8)
+  pub lone_good : lone_check (lone 8 16 8 8) (flat 100 108) ≡ Ok tt
+  pub replay_1_2 : replay_check (again 9 0) [] [] [] ≡ Err Depth
+  pub replay_2_3 : replay_check (again 8 0) [] [] [] ≡ Err Size
+  pub replay_3_11 : replay_check (again 8 4) [] unkept [] ≡ Err Length
+  pub replay_keep_3_11 : replay_check (again 8 4) [] (0 ∷ 0 ∷ 0 ∷ []) (flat 100 108) ≡ Err Length
+  pub replay_mark_12 : replay_check (again 8 4) (69 ∷ 68 ∷ 72 ∷ 1 ∷ 0 ∷ 8 ∷ []) unkept (flat 100 108) ≡ Err Header
+  pub replay_version : replay_check (again 8 4) (69 ∷ 68 ∷ 71 ∷ 2 ∷ 0 ∷ []) unkept (flat 100 108) ≡ Err Header
+  pub replay_4_bytes : replay_check (again 8 4) (69 ∷ 68 ∷ 71 ∷ 1 ∷ []) unkept (flat 100 108) ≡ Err Header
+  pub replay_12_13 : replay_check (again 8 4) (header ++ (entry 8 2 3 ++ (8 ∷ []))) third (flat 100 108) ≡ Err (Cut 1)
+  pub replay_13_6 : replay_check (again 8 4) (header ++ (entry 7 0 3 ++ entry 8 0 8)) third (flat 100 108) ≡ Err (Entry 1)
+  pub replay_6_7 : replay_check (again 8 4) (header ++ entry 7 0 3) third (flat 100 108) ≡ Err (Cell 2)
+  pub replay_7_8 : replay_check (again 8 4) (header ++ (entry 8 0 3 ++ entry 9 0 3)) unkept (flat 256 108) ≡ Err (Room 1)
+  pub replay_8 : replay_check (again 8 4) (header ++ entry 8 0 3) unkept (flat 100 256) ≡ Err (Sample 8)
+  pub replay_bare : replay_check (again 8 4) header unkept (flat 100 108) ≡ Ok tt
+  pub replay_good : replay_check (again 8 4) (header ++ entry 8 0 3) unkept (flat 100 108) ≡ Ok tt
   pub replay_in_order : edges_in (header ++ (entry 8 0 3 ++ (entry 8 0 2 ++ entry 9 0 1))) ≡ edge 3 8 ∷ edge 2 8 ∷ record { x = 9; y = 0; dir = 0; pair = 1; q = 8; side = 40 } ∷ []
   pub replay_twice : edges_in (header ++ (entry 8 0 3 ++ entry 8 0 3)) ≡ edge 3 8 ∷ edge 3 8 ∷ []
-  pub grid_2_3 : tx_grid_check (cell 0 8) (0 ∷ []) [] one [] ≡ Refused Size
-  pub grid_3_5 : tx_grid_check (cell 1 3) [] [] none (2 ∷ []) ≡ Refused Length
-  pub grid_keep_3_5 : tx_grid_check (cell 1 3) [] [] one [] ≡ Refused Length
-  pub grid_5_9 : tx_grid_check (cell 1 3) bad [] one (2 ∷ []) ≡ Refused Setting
-  pub grid_9 : tx_grid_check (cell 1 8) bad (0 ∷ 0 ∷ 4097 ∷ 1 ∷ []) one (2 ∷ []) ≡ Refused (Leaf 1)
-  pub grid_skip : tx_grid_check (cell 1 8) [] (0 ∷ 0 ∷ 4097 ∷ 1 ∷ []) one (2 ∷ []) ≡ Refused (Leaf 0)
-  pub keep_2_3 : keep_check (far 0) [] ≡ Refused Size
-  pub keep_3_6 : keep_check (far 2) (2 ∷ []) ≡ Refused Length
-  pub keep_6 : keep_check (far 2) (1 ∷ 2 ∷ []) ≡ Refused (Cell 1)
-  pub keep_beyond : keep_check (far 2) (1 ∷ 0 ∷ 2 ∷ []) ≡ Accepted
+  pub grid_2_3 : tx_grid_check (cell 0 8) (0 ∷ []) [] one [] ≡ Err Size
+  pub grid_3_5 : tx_grid_check (cell 1 3) [] [] none (2 ∷ []) ≡ Err Length
+  pub grid_keep_3_5 : tx_grid_check (cell 1 3) [] [] one [] ≡ Err Length
+  pub grid_5_9 : tx_grid_check (cell 1 3) bad [] one (2 ∷ []) ≡ Err Setting
+  pub grid_9 : tx_grid_check (cell 1 8) bad (0 ∷ 0 ∷ 4097 ∷ 1 ∷ []) one (2 ∷ []) ≡ Err (Leaf 1)
+  pub grid_skip : tx_grid_check (cell 1 8) [] (0 ∷ 0 ∷ 4097 ∷ 1 ∷ []) one (2 ∷ []) ≡ Err (Leaf 0)
+  pub keep_2_3 : keep_check (far 0) [] ≡ Err Size
+  pub keep_3_6 : keep_check (far 2) (2 ∷ []) ≡ Err Length
+  pub keep_6 : keep_check (far 2) (1 ∷ 2 ∷ []) ≡ Err (Cell 1)
+  pub keep_beyond : keep_check (far 2) (1 ∷ 0 ∷ 2 ∷ []) ≡ Ok tt
 
 pub orders : Orders
 unfolding pick either both all depth_ok top_of in_range in_range_z delta_ok subsampling_ok or_else unless found sooner first found_if found_unless over_top over_row over_box step_good bad_step steps_check deltas_check thresholds_check length_before length_after reach_of reach_before reach_after ranges_ok has_room edge_of

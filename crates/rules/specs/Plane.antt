@@ -6,8 +6,8 @@ use Rattle.laws.specs.Loops.{each}
 use Rattle.rules.specs.declared.edge.Edge.{Edge}
 use Rattle.rules.specs.declared.settings.Plane.{Plane}
 use Rattle.rules.specs.declared.refusals.Refusal.TheVariants.{Depth, Size, Length, Steps, Setting, Cell, Room, Sample}
-use Rattle.rules.specs.declared.refusals.Answer.{Answer}
-use Rattle.rules.specs.declared.refusals.Found.{Found}
+use Rattle.rules.specs.Refusals.{Answer}
+use Rattle.std.specs.declared.option.Option.{Option}
 use Rattle.rules.specs.Numbers.{depth_ok, top_of, in_range}
 use Rattle.rules.specs.Refusals.{or_else, unless, found, settle, sooner, first, found_if, found_unless, over_top, over_box}
 use Rattle.rules.specs.Thresholds.{q_threshold, side_threshold, steps_check, deltas_check}
@@ -171,7 +171,7 @@ plane_lengths_ok s g n =
 unfoldable pub start_good : ℕ → List ℕ → ℕ → Bool
 start_good cols ts k = both (ltb (pick (eqb k 0) 0 (get_or ts (k - 1) 0)) (get_or ts k 0)) (ltb (get_or ts k 0) cols)
 
-unfoldable pub bad_start : ℕ → List ℕ → Found
+unfoldable pub bad_start : ℕ → List ℕ → Option ℕ
 bad_start cols ts = first (length ts) (λ k. found_unless (start_good cols ts k) k)
 
 -- "Refusal: 5 also for a bad list."
@@ -190,11 +190,11 @@ cell_good g k =
     ∷ [])
 
 -- "6: first cell, row by row"
-unfoldable pub bad_cell : Plane → Grid → Found
+unfoldable pub bad_cell : Plane → Grid → Option ℕ
 bad_cell s g = first (s.rows * s.cols) (λ k. found_unless (cell_good g k) k)
 
 -- the same of keep marks alone, where an entry has no others: the first of n cells
-unfoldable pub bad_keep : ℕ → List ℕ → Found
+unfoldable pub bad_keep : ℕ → List ℕ → Option ℕ
 bad_keep n keep = first n (λ k. over_top 1 keep k)
 
 -- "7: an edge lacks room": its pair alone decides, whatever its thresholds
@@ -203,21 +203,21 @@ edge_room s g dir r c =
     has_room (4 * s.cols) (4 * s.rows)
     (record { x = c * 4; y = r * 4; dir = dir; pair = pair_of (index_at s g dir r c) s.chroma (shortened_at s g dir r c); q = 0; side = 0 })
 
-unfoldable pub lacks_room : Plane → Grid → ℕ → ℕ → ℕ → Found
+unfoldable pub lacks_room : Plane → Grid → ℕ → ℕ → ℕ → Option ℕ
 lacks_room s g dir r c = found_unless (pick (is_edge s g dir r c) (edge_room s g dir r c) true) (cell_of s r c)
 
-unfoldable pub lacks_row : Plane → Grid → ℕ → ℕ → Found
+unfoldable pub lacks_row : Plane → Grid → ℕ → ℕ → Option ℕ
 lacks_row s g dir r = first s.cols (λ c. lacks_room s g dir r c)
 
-unfoldable pub lacks_dir : Plane → Grid → ℕ → Found
+unfoldable pub lacks_dir : Plane → Grid → ℕ → Option ℕ
 lacks_dir s g dir = first s.rows (λ r. lacks_row s g dir r)
 
 -- "first cell, vertical edges row by row, then horizontal"
-unfoldable pub no_room : Plane → Grid → Found
+unfoldable pub no_room : Plane → Grid → Option ℕ
 no_room s g = sooner (lacks_dir s g 0) (lacks_dir s g 1)
 
 -- "Refusal 8 looks at 4·mi_cols by 4·mi_rows in a plane"
-unfoldable pub over_plane : Plane → List ℕ → Found
+unfoldable pub over_plane : Plane → List ℕ → Option ℕ
 over_plane s l = over_box (top_of s.depth) l 0 s.stride (4 * s.cols) (4 * s.rows)
 
 -- order 1, 2, 3, 4, 5, 6, 7, 8

@@ -5,7 +5,7 @@ use Rattle.laws.specs.Choose.{all}
 use Rattle.laws.specs.Loops.{turns}
 use Rattle.rules.specs.declared.settings.QindexGrid.{QindexGrid}
 use Rattle.rules.specs.declared.refusals.Refusal.TheVariants.{Size, Length}
-use Rattle.rules.specs.declared.refusals.Answer.{Answer}
+use Rattle.rules.specs.Refusals.{Answer}
 use Rattle.rules.specs.Numbers.{in_range, subsampling_ok, up}
 use Rattle.rules.specs.Refusals.{or_else, unless, settle}
 use Rattle.rules.specs.TuGrid.{cells_ok}

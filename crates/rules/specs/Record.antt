@@ -8,10 +8,10 @@ use Rattle.low_first.specs.Bytes.{low_first, number_in}
 use Rattle.rules.specs.declared.edge.Edge.{Edge}
 use Rattle.rules.specs.declared.settings.Plane.{Plane}
 use Rattle.rules.specs.declared.refusals.Refusal.TheVariants.{Buffer}
-use Rattle.rules.specs.declared.refusals.Answer.{Answer}
-use Rattle.rules.specs.declared.refusals.Answer.TheVariants.{Accepted, Refused}
-use Rattle.rules.specs.declared.refusals.Recorded.{Recorded}
-use Rattle.rules.specs.declared.refusals.Recorded.TheVariants.{Bytes, Refused as «NoRecord»}
+use Rattle.rules.specs.Refusals.{Answer}
+use Rattle.std.specs.declared.result.Result.TheVariants.{Ok, Err}
+use Rattle.std.specs.declared.result.Result.{Result}
+use Rattle.rules.specs.declared.refusals.Refusal.{Refusal}
 use Rattle.rules.specs.Refusals.{or_else, unless, settle}
 use Rattle.rules.specs.Plane.{Grid, is_edge, edges_of, run_plane, run_stored, run_changed, plane_check}
 
@@ -48,11 +48,11 @@ unfoldable pub recorded_check : Plane → List ℕ → Grid → List ℕ → ℕ
 recorded_check s steps g l n = or_else (plane_check s steps g l) (unless (leb (5 + 10 * edge_count s g) n) Buffer)
 
 -- "and answer its length"
-unfoldable pub answer_bytes : Answer → ℕ → Recorded
-answer_bytes Accepted n = Bytes n
-answer_bytes (Refused r) n = «NoRecord» r
+unfoldable pub answer_bytes : Answer → ℕ → Result ℕ Refusal
+answer_bytes (Ok tt) n = Ok n
+answer_bytes (Err r) n = Err r
 
-unfoldable pub recorded_answer : Plane → List ℕ → Grid → List ℕ → ℕ → Recorded
+unfoldable pub recorded_answer : Plane → List ℕ → Grid → List ℕ → ℕ → Result ℕ Refusal
 recorded_answer s steps g l n = answer_bytes (recorded_check s steps g l n) (length (record_of (edges_of s steps g)))
 
 -- "the plane ends as without it"; refused, "the plane and buffer stay unchanged"

@@ -6,8 +6,8 @@ use Rattle.low_first.specs.Bytes.{number_in}
 use Rattle.rules.specs.declared.edge.Edge.{Edge}
 use Rattle.rules.specs.declared.settings.Replay.{Replay}
 use Rattle.rules.specs.declared.refusals.Refusal.TheVariants.{Depth, Size, Length, Header, Cut, Entry, Cell, Room, Sample}
-use Rattle.rules.specs.declared.refusals.Answer.{Answer}
-use Rattle.rules.specs.declared.refusals.Found.{Found}
+use Rattle.rules.specs.Refusals.{Answer}
+use Rattle.std.specs.declared.option.Option.{Option}
 use Rattle.rules.specs.Numbers.{depth_ok, top_of, in_range}
 use Rattle.rules.specs.Refusals.{or_else, unless, found, settle, first, found_unless, over_box}
 use Rattle.rules.specs.Segment.{ranges_ok, has_room, kept_in, run_edges}
@@ -33,23 +33,23 @@ header_ok bytes =
     ∷ [])
 
 -- "12 a cut entry": the bytes after the header are no whole entries; the number is that of the entry begun last
-unfoldable pub cut_entry : List ℕ → Found
+unfoldable pub cut_entry : List ℕ → Option ℕ
 cut_entry bytes = found_unless (eqb ((length bytes - 5) % 10) 0) (entry_count bytes)
 
 -- the number of the first entry whose edge fails a test
-unfoldable pub first_entry : (Edge → Bool) → List ℕ → Found
+unfoldable pub first_entry : (Edge → Bool) → List ℕ → Option ℕ
 first_entry good bytes = first (entry_count bytes) (λ k. found_unless (good (edge_in bytes (entry_at k))) k)
 
 -- "13 an entry outside 01's ranges for a segment"
-abbrev pub bad_entry : List ℕ → Found
+abbrev pub bad_entry : List ℕ → Option ℕ
 bad_entry bytes = first_entry ranges_ok bytes
 
 -- "then 7 with its number": the edge has room in the plane's 4·mi_cols by 4·mi_rows samples
-abbrev pub no_room_in : Replay → List ℕ → Found
+abbrev pub no_room_in : Replay → List ℕ → Option ℕ
 no_room_in s bytes = first_entry (has_room (4 * s.cols) (4 * s.rows)) bytes
 
 -- "and 8 over the whole plane"
-abbrev pub over_replay : Replay → List ℕ → Found
+abbrev pub over_replay : Replay → List ℕ → Option ℕ
 over_replay s l = over_box (top_of s.depth) l 0 s.stride (4 * s.cols) (4 * s.rows)
 
 -- a record's own checks: "11 .., 12 .. and 13 .., each with its number"

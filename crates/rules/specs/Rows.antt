@@ -7,9 +7,9 @@ use Rattle.rules.specs.declared.settings.Plane.{Plane}
 use Rattle.rules.specs.declared.rows.RowState.{RowState}
 use Rattle.rules.specs.declared.refusals.Refusal.{Refusal}
 use Rattle.rules.specs.declared.refusals.Refusal.TheVariants.{Depth, Size, Length, Cell, Room, Sample, Filled, Spent}
-use Rattle.rules.specs.declared.refusals.Answer.{Answer}
-use Rattle.rules.specs.declared.refusals.Answer.TheVariants.{Accepted, Refused}
-use Rattle.rules.specs.declared.refusals.Found.{Found}
+use Rattle.rules.specs.Refusals.{Answer}
+use Rattle.std.specs.declared.result.Result.TheVariants.{Ok, Err}
+use Rattle.std.specs.declared.option.Option.{Option}
 use Rattle.rules.specs.Numbers.{depth_ok, top_of}
 use Rattle.rules.specs.Refusals.{number_of, or_else, unless, found, settle, over_box}
 use Rattle.rules.specs.Thresholds.{steps_check, deltas_check}
@@ -66,7 +66,7 @@ unfoldable pub counts_ok : ℕ → ℕ → ℕ → Bool
 counts_ok rows held filled = all (count_ok rows held ∷ count_ok rows filled ∷ leb held filled ∷ [])
 
 -- "Only newly filled rows are tested for refusal 8"
-unfoldable pub over_new : Plane → ℕ → ℕ → List ℕ → Found
+unfoldable pub over_new : Plane → ℕ → ℕ → List ℕ → Option ℕ
 over_new s held filled l = over_box (top_of s.depth) l (held * s.stride) s.stride (4 * s.cols) (filled - held)
 
 -- "15 for a spent state; order 15, then 1 to 7 as in 01, 14, 8"
@@ -96,8 +96,8 @@ spent_by r st = pick (eqb (number_of r) 8) (record { held = st.held; spent = tru
 
 -- an accepted call holds the new count
 unfoldable pub state_after : Answer → RowState → ℕ → RowState
-state_after Accepted st filled = record { held = filled; spent = false }
-state_after (Refused r) st filled = spent_by r st
+state_after (Ok tt) st filled = record { held = filled; spent = false }
+state_after (Err r) st filled = spent_by r st
 
 unfoldable pub rows_state : Plane → List ℕ → Grid → RowState → ℕ → List ℕ → RowState
 rows_state s steps g st filled l = state_after (rows_check s steps g st filled l) st filled

@@ -7,12 +7,13 @@ use Rattle.rules.specs.Numbers.{depth_ok, highest_of, offset_of, shift_of, delta
 use Rattle.rules.specs.SideTable.{side_table}
 use Rattle.rules.specs.Refusals.{or_else, unless, found, first, found_unless}
 use Rattle.rules.specs.declared.refusals.Refusal.TheVariants.{Depth, Steps, Setting}
-use Rattle.rules.specs.declared.refusals.Answer.{Answer}
-use Rattle.rules.specs.declared.refusals.Answer.TheVariants.{Accepted, Refused}
+use Rattle.rules.specs.Refusals.{Answer}
+use Rattle.std.specs.declared.result.Result.TheVariants.{Ok, Err}
+use Rattle.std.specs.declared.result.Result.{Result}
+use Rattle.rules.specs.declared.refusals.Refusal.{Refusal}
 use Rattle.rules.specs.declared.refusals.Thresholds.{Thresholds}
-use Rattle.rules.specs.declared.refusals.Thresholds.TheVariants.{Both, Refused as «NoThresholds»}
-use Rattle.rules.specs.declared.refusals.Found.{Found}
-use Rattle.rules.specs.declared.refusals.Found.TheVariants.{At}
+use Rattle.std.specs.declared.option.Option.{Option}
+use Rattle.std.specs.declared.option.Option.TheVariants.{Some}
 
 -- "i is qindex + 8·delta."
 unfoldable pub index_of : ℕ → ℤ → ℤ
@@ -57,8 +58,8 @@ unfoldable pub step_good : List ℕ → ℕ → Bool
 step_good steps k = both (leb (get_or steps k 0) 1048576) (pick (eqb k 0) (eqb (get_or steps k 0) 64) true)
 
 -- "4: first bad entry, 0 for length"
-unfoldable pub bad_step : List ℕ → Found
-bad_step steps = pick (eqb (length steps) 352) (first 352 (λ k. found_unless (step_good steps k) k)) (At 0)
+unfoldable pub bad_step : List ℕ → Option ℕ
+bad_step steps = pick (eqb (length steps) 352) (first 352 (λ k. found_unless (step_good steps k) k)) (Some 0)
 
 -- the checks that thresholds, a plane and a frame share
 unfoldable pub steps_check : List ℕ → Answer
@@ -73,11 +74,11 @@ thresholds_check depth steps deltaq deltaside =
     or_else (unless (depth_ok depth) Depth) (or_else (steps_check steps) (deltas_check deltaq deltaside))
 
 -- the answer: both thresholds, or the refusal
-unfoldable pub answer_thresholds : Answer → ℕ → ℕ → Thresholds
-answer_thresholds Accepted q side = Both q side
-answer_thresholds (Refused r) q side = «NoThresholds» r
+unfoldable pub answer_thresholds : Answer → ℕ → ℕ → Result Thresholds Refusal
+answer_thresholds (Ok tt) q side = Ok (record { q = q; side = side })
+answer_thresholds (Err r) q side = Err r
 
-unfoldable pub thresholds_of : ℕ → ℕ → ℤ → ℤ → ℕ → List ℕ → Thresholds
+unfoldable pub thresholds_of : ℕ → ℕ → ℤ → ℤ → ℕ → List ℕ → Result Thresholds Refusal
 thresholds_of curr prev deltaq deltaside depth steps =
     answer_thresholds (thresholds_check depth steps deltaq deltaside)
     (q_threshold depth steps curr prev deltaq) (side_threshold depth curr prev deltaside)

@@ -6,8 +6,8 @@ use Rattle.laws.specs.Loops.{turns}
 use Rattle.rules.specs.declared.settings.TuGrid.{TuGrid}
 use Rattle.rules.specs.declared.settings.Tile.{Tile}
 use Rattle.rules.specs.declared.refusals.Refusal.TheVariants.{Size, Length, Setting, Leaf}
-use Rattle.rules.specs.declared.refusals.Answer.{Answer}
-use Rattle.rules.specs.declared.refusals.Found.{Found}
+use Rattle.rules.specs.Refusals.{Answer}
+use Rattle.std.specs.declared.option.Option.{Option}
 use Rattle.rules.specs.Numbers.{in_range, subsampling_ok, down}
 use Rattle.rules.specs.Refusals.{or_else, unless, found, settle, first, found_unless}
 
@@ -121,7 +121,7 @@ leaf_good skip row col w h =
 unfoldable pub leaf_good_at : Bool → List ℕ → ℕ → Bool
 leaf_good_at skip ls k = leaf_good skip (get_or ls (k * 4) 0) (get_or ls (k * 4 + 1) 0) (get_or ls (k * 4 + 2) 0) (get_or ls (k * 4 + 3) 0)
 
-unfoldable pub bad_leaf : Bool → List ℕ → Found
+unfoldable pub bad_leaf : Bool → List ℕ → Option ℕ
 bad_leaf skip ls = first (length ls / 4) (λ k. found_unless (leaf_good_at skip ls k) k)
 
 -- "Each list has at least mi_cols·mi_rows entries." Ticket 7: "Each grid cell gets a third mark, keep", so its list too

@@ -6,3 +6,11 @@ pub struct Counts {
     pub stored: usize,
     pub changed: usize,
 }
+
+// The same of a run that notes its edges, with the bytes that its record takes so far.
+#[derive(Clone, Copy)]
+pub struct Visited {
+    pub bytes: usize,
+    pub stored: usize,
+    pub changed: usize,
+}

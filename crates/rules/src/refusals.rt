@@ -22,63 +22,19 @@ pub enum Refusal {
     Spent,
 }
 
-// What a check, or an entry that gives back nothing but the lent lists, answers.
+// Both thresholds of an edge.
 #[derive(Clone, Copy)]
-pub enum Answer {
-    Accepted,
-    Refused(Refusal),
+pub struct Thresholds {
+    pub q: u32,
+    pub side: u32,
 }
 
-// Both thresholds of an edge, q and side, or why there are none.
+// How many samples after a lone segment's edge were filtered, how many were stored on both sides, and how many of those differ from before.
 #[derive(Clone, Copy)]
-pub enum Thresholds {
-    Both(u32, u32),
-    Refused(Refusal),
-}
-
-// How many bytes a recorded plane's record takes, or why there is none.
-#[derive(Clone, Copy)]
-pub enum Recorded {
-    Bytes(usize),
-    Refused(Refusal),
-}
-
-// How many samples after the edge a lone segment filtered, or why it did not.
-#[derive(Clone, Copy)]
-pub enum Width {
-    Samples(usize),
-    Refused(Refusal),
-}
-
-// A lone segment's width or refusal, how many samples it stored, and how many of those differ from before.
-#[derive(Clone, Copy)]
-pub struct LoneAnswer {
-    pub width: Width,
+pub struct Filtered {
+    pub width: usize,
     pub stored: usize,
     pub changed: usize,
-}
-
-// A plane's or a frame's answer, how many samples it stored, and how many of those differ from before.
-#[derive(Clone, Copy)]
-pub struct PlaneAnswer {
-    pub answer: Answer,
-    pub stored: usize,
-    pub changed: usize,
-}
-
-// The same of a recorded plane, with its record's length or refusal.
-#[derive(Clone, Copy)]
-pub struct RecordAnswer {
-    pub record: Recorded,
-    pub stored: usize,
-    pub changed: usize,
-}
-
-// What a search for the first bad place found.
-#[derive(Clone, Copy)]
-pub enum Found {
-    At(usize),
-    Nothing,
 }
 
 // Document 01's number of a refusal.

@@ -1,18 +1,149 @@
 // Replays streams of cases, one part after the other, and prints a line for each part: how many there were, how they came out, and how many differ.
 #![tactic(auto)]
 
-ghost use Rattle.std.specs.Prelude.{◌≡◌, length};
-
+use cases::{Line, Stream};
 use std::io::{Read, Write};
-use tally::Tally;
-use text::Cursor;
+use tally::{Outcome, Tally, Widths};
 
-// What is counted so far, the part whose cases these are, 0 before the first, and the length of the step table that stands.
+// The parts of a stream, by whose cases they are.
+#[derive(Clone, Copy, PartialEq, Eq)]
+enum Part {
+    Thresholds,
+    Segments,
+    Planes,
+    Rows,
+    Grids,
+    Frames,
+    Ccso,
+}
+
+// A number that no part has.
+#[derive(Clone, Copy)]
+struct NoPart;
+
+impl TryFrom<usize> for Part {
+    type Error = NoPart;
+
+    fn try_from(number: usize) -> Result<Part, NoPart> {
+        match number {
+            1 => Ok(Part::Thresholds),
+            2 => Ok(Part::Segments),
+            3 => Ok(Part::Planes),
+            4 => Ok(Part::Rows),
+            5 => Ok(Part::Grids),
+            6 => Ok(Part::Frames),
+            7 => Ok(Part::Ccso),
+            _ => Err(NoPart),
+        }
+    }
+}
+
+impl Part {
+    // Whether the part's lines of kind 1 set the step table.
+    fn has_tables(self) -> bool {
+        matches!(
+            self,
+            Part::Thresholds | Part::Planes | Part::Rows | Part::Frames
+        )
+    }
+
+    // How a case of the part came out, if it could be read.
+    fn replay(self, line: Line, steps: &[u32]) -> Option<Outcome> {
+        match self {
+            Part::Thresholds => threshold_cases::replay(line, steps),
+            Part::Segments => segment_cases::replay(line),
+            Part::Planes => plane_cases::replay(line, steps),
+            Part::Rows => plane_cases::replay_rows(line, steps),
+            Part::Grids => grid_cases::replay(line),
+            Part::Frames => frame_cases::replay(line, steps),
+            Part::Ccso => ccso_cases::replay(line),
+        }
+    }
+}
+
+// What is counted so far, the part whose cases these are, none before the first, and the step table, of which the front stands: its length beside it, since no program here has a heap.
 #[derive(Clone, Copy)]
 struct Run {
     tally: Tally,
-    part: usize,
+    part: Option<Part>,
+    table: [u32; 400],
     steps: usize,
+}
+
+// The part that a line names.
+fn named(mut line: Line) -> Option<Part> {
+    let part = Part::try_from(line.unsigned(7)?).ok()?;
+    line.ended().then_some(part)
+}
+
+impl Run {
+    // Prints how the part's cases came out; of segments also how often each width was reached.
+    fn print<W: Write>(&self, to: &mut W) {
+        let _ = writeln!(to, "{}", self.tally);
+        if self.part == Some(Part::Segments) {
+            let counts = self.tally.widths;
+            let _ = writeln!(to, "{}", Widths { counts });
+        }
+    }
+
+    // A line that says whose cases follow: what was counted is printed, and counted anew. Lines before the first part stay counted.
+    fn begin<W: Write>(&mut self, to: &mut W, line: Line) {
+        let Some(part) = named(line) else {
+            self.tally.count_unread();
+            return;
+        };
+        if self.part.is_some() {
+            self.print(to);
+            self.tally = Tally::new();
+        }
+        self.part = Some(part);
+        self.steps = 0;
+    }
+
+    // A line that sets the step table.
+    fn set_steps(&mut self, line: Line) {
+        let read = line.set_steps(&mut self.table);
+        self.steps = read.length;
+        self.tally.count_no_case(read.whole);
+    }
+
+    // A case of the part, with the steps that stand.
+    fn replay(&mut self, line: Line) {
+        let steps = self.table.get(..self.steps).unwrap_or_default();
+        let outcome = match self.part {
+            Some(part) => part.replay(line, steps),
+            None => None,
+        };
+        self.tally.count(outcome);
+    }
+
+    // A line: 0 says whose cases follow, 1 sets the step table where the part has one, and any other is a case.
+    fn line<W: Write>(&mut self, to: &mut W, line: Line) {
+        let mut rest = line;
+        match (rest.unsigned(4), self.part) {
+            (Some(0), _) => self.begin(to, rest),
+            (Some(1), Some(part)) if part.has_tables() => self.set_steps(rest),
+            _ => self.replay(line),
+        }
+    }
+}
+
+// Every line of a stream, read into a buffer.
+fn replay_all<R: Read + Drop, W: Write>(from: R, to: &mut W, buf: &mut [u8]) {
+    let mut lines = Stream::new(from, buf);
+    let mut run = Run {
+        tally: Tally::new(),
+        part: None,
+        table: [0; 400],
+        steps: 0,
+    };
+    for _ in 0..u64::MAX {
+        let Ok(line) = lines.next_line() else {
+            break;
+        };
+        run.line(to, line);
+    }
+    run.print(to);
 }
 
 // The buffer: the longest line that a stream may have.
@@ -20,120 +151,8 @@ fn room() -> [u8; 4194304] {
     [0; 4194304]
 }
 
-// Whether a part's lines of kind 1 set the step table.
-fn has_tables(part: usize) -> bool {
-    match part {
-        1 | 3 | 4 | 6 => true,
-        _ => false,
-    }
-}
-
-// How a part's cases came out; of segments also how often each width was reached.
-fn print<W: Write>(to: &mut W, part: usize, t: Tally) {
-    tally::print(to, t);
-    if part == 2 {
-        tally::print_widths(to, t);
-    }
-}
-
-// Prints what was counted of a part, and counts anew; lines before the first part stay counted.
-fn counted<W: Write>(to: &mut W, part: usize, t: Tally) -> Tally {
-    if part == 0 {
-        return t;
-    }
-    print(to, part, t);
-    tally::none()
-}
-
-// A line that says whose cases follow.
-fn begin<W: Write>(to: &mut W, text: &[u8], c: Cursor, before: Run) -> Run {
-    let part = text::read_unsigned(text, c, 7);
-    let t = before.tally;
-    if part.value == 0 || !text::ended(part.rest) {
-        return Run {
-            tally: tally::unread(t),
-            part: before.part,
-            steps: before.steps,
-        };
-    }
-    Run {
-        tally: counted(to, before.part, t),
-        part: part.value,
-        steps: 0,
-    }
-}
-
-// A case of a part.
-fn replay_case(text: &[u8], c: Cursor, part: usize, steps: &[u32], t: Tally) -> Tally {
-    match part {
-        1 => threshold_cases::replay(text, c, steps, t),
-        2 => segment_cases::replay(text, c, t),
-        3 => plane_cases::replay(text, c, steps, t),
-        4 => plane_cases::replay_rows(text, c, steps, t),
-        5 => grid_cases::replay(text, c, t),
-        6 => frame_cases::replay(text, c, steps, t),
-        7 => ccso_cases::replay(text, c, t),
-        _ => tally::unread(t),
-    }
-}
-
-// A line: 0 says whose cases follow, 1 sets the step table where the part has one, and any other is a case.
-fn replay<W: Write>(to: &mut W, text: &[u8], c: Cursor, steps: &mut [u32], before: Run) -> Run
-    ensures { length steps.new ≡ length steps.old }
-{
-    let t = before.tally;
-    let part = before.part;
-    let n = before.steps;
-    let kind = text::read_unsigned(text, c, 4);
-    let rest = kind.rest;
-    if kind.value == 0 && rest.good {
-        return begin(to, text, rest, before);
-    }
-    if kind.value == 1 && has_tables(part) {
-        let table = text::set_steps(text, rest, steps);
-        return Run {
-            tally: tally::no_case(t, table.whole),
-            part,
-            steps: table.length,
-        };
-    }
-    if steps.len() < n {
-        return before;
-    }
-    Run {
-        tally: replay_case(text, c, part, &steps[..n], t),
-        part,
-        steps: n,
-    }
-}
-
-// Every line.
-fn replay_all<R: Read, W: Write>(
-    from: &mut R,
-    to: &mut W,
-    buf: &mut [u8],
-    steps: &mut [u32],
-) -> Run {
-    let mut run = Run {
-        tally: tally::none(),
-        part: 0,
-        steps: 0,
-    };
-    let mut l = cases::next_line(from, buf, cases::start());
-    let mut turns = u64::MAX;
-    while turns > 0 && l.good {
-        run = replay(to, buf, cases::line(l), steps, run);
-        l = cases::next_line(from, buf, l);
-        turns -= 1;
-    }
-    run
-}
-
+// Holds the buffer alone, since the stack has room for two as large and for little more.
 fn main(rt: HostRuntime) {
-    let mut from = rt.stdin();
-    let mut to = rt.stdout();
     let mut buf = room();
-    let mut steps = [0u32; 400];
-    let run = replay_all(&mut from, &mut to, &mut buf, &mut steps);
-    print(&mut to, run.part, run.tally);
+    replay_all(rt.stdin(), &mut rt.stdout(), &mut buf);
 }

@@ -1,7 +1,6 @@
 -- An edge that has room: demand 3 at each sample within the widths that is not kept, every other sample as it was, and none over top that was not.
 -- Assumes nothing.
-use Rattle.std.proofs.Common.{◌≡◌, ℕ, zero, suc, ◌+◌, ◌-◌, ◌*◌, ◌<◌, ◌≤◌, min, Bool, true, false, eqb, List, [], ◌∷◌, length, get_or, set, ℤ, pos, negsuc, ◌+ℤ◌, ◌-ℤ◌, sym, refl, ap, ◌∙◌, mul-le-mul_right, arith, length-set, get_or-set_other, get_or-set_same}
-use native.Mathlib.Decide.{ℕ_discrete}
+use Rattle.std.proofs.Common.{◌≡◌, ℕ, zero, suc, ◌<◌, ◌≤◌, min, Bool, true, false, eqb, List, [], ◌∷◌, length, get_or, set, ℤ, pos, ◌+ℤ◌, ◌-ℤ◌, refl, ap, ◌∙◌, arith}
 use Rattle.laws.specs.Lists.{Each}
 use Rattle.laws.specs.Stores.{Store, puts, puts_other, puts_length}
 use Rattle.laws.specs.Outside.{outside, outside_each, outside_kept, outside_rest}
@@ -13,12 +12,12 @@ use Rattle.rules.specs.Lengths.{most_before, most_after, reach_before, reach_aft
 use Rattle.rules.specs.Width.{blank, p_of, q_of}
 use Rattle.rules.specs.Taps.{move, before, after}
 use Rattle.rules.specs.Ramp.{Near, ramp_before, ramp_after}
-use Rattle.rules.specs.Segment.{placed, edge_place, p_at, q_at, window_of, chosen_of, stores_of, four_stores, difference_of, width_at, open_stores, segment_of}
+use Rattle.rules.specs.Segment.{placed, edge_place, window_of, chosen_of, stores_of, difference_of, width_at, open_stores, segment_of}
 use Rattle.lengths.proofs.Lengths.{PairFacts, pair_facts}
 use Rattle.width.proofs.Most.{width_most}
 use Rattle.taps.proofs.Ramp.{ramp_before_holds, ramp_after_holds}
-use Rattle.segment.specs.Fit.{Room, Spread, EdgeFits, InPlane}
-use Rattle.segment.specs.Promises.{p_place, q_place, narrow_at, difference_at, Demand3, Outside}
+use Rattle.segment.specs.Fit.{EdgeFits, InPlane}
+use Rattle.segment.specs.Promises.{p_place, q_place, Demand3, Outside}
 use Rattle.segment.proofs.Places.{before_in, after_in, line_in}
 use Rattle.segment.proofs.Edges.{fit_of}
 use Rattle.segment.proofs.Samples.{all_stores, sample_before, sample_after}

@@ -1,10 +1,10 @@
 -- One edge: room for what is read and stored, the answer, and either direction.
 -- Assumes nothing.
-use Rattle.std.proofs.Common.{◌≡◌, ℕ, ◌+◌, ◌-◌, ◌*◌, ◌<◌, ◌≤◌, min, max, Bool, true, false, eqb, List, [], ◌∷◌, ◌++◌, length, get_or, ℤ, sym, refl, ap, ◌∙◌, ap₂, mul-le-mul_right, add-mul, arith, eq-eqb, ne_eqb}
+use Rattle.std.proofs.Common.{◌≡◌, ℕ, ◌+◌, ◌-◌, ◌*◌, ◌<◌, ◌≤◌, min, Bool, true, false, eqb, List, [], ◌∷◌, ◌++◌, length, get_or, ℤ, sym, refl, ap, ◌∙◌, ap₂, mul-le-mul_right, add-mul, arith, eq-eqb, ne_eqb}
 use native.Mathlib.Decide.{dec_le}
 use Rattle.laws.specs.Loops.{each, each_same}
 use Rattle.laws.specs.Stores.{Store, puts}
-use Rattle.laws.specs.Changes.{changes, Put, put_as}
+use Rattle.laws.specs.Changes.{changes, put_as}
 use Rattle.laws.specs.Outside.{outside, outside_nothing}
 use Rattle.rules.specs.declared.edge.Edge.{Edge}
 use Rattle.rules.specs.declared.edge.Place.{Place}

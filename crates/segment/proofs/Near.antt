@@ -1,6 +1,6 @@
 -- What the code reads agrees with the window within the reach.
 -- Assumes nothing.
-use Rattle.std.proofs.Common.{◌≡◌, ℕ, ◌+◌, ◌-◌, ◌*◌, ◌<◌, ◌≤◌, min, List, [], ◌∷◌, get_or, sym, refl, ap, ◌∙◌, mul-le-mul_right, mul_comm, add-mul, mul-le-mul_left, mul-add, arith}
+use Rattle.std.proofs.Common.{◌≡◌, ℕ, ◌+◌, ◌-◌, ◌*◌, ◌<◌, ◌≤◌, min, List, [], ◌∷◌, get_or, sym, ap, ◌∙◌, mul-le-mul_right, mul_comm, add-mul, mul-le-mul_left, arith}
 use Rattle.laws.specs.Loops.{each}
 use Rattle.laws.proofs.Loops.{singles_at}
 use Rattle.rules.specs.declared.edge.Place.{Place}
@@ -8,8 +8,8 @@ use Rattle.rules.specs.declared.edge.Line.{Line}
 use Rattle.rules.specs.Lengths.{most_before, most_after, reach_before, reach_after}
 use Rattle.rules.specs.Width.{blank, p_of, q_of, width_of}
 use Rattle.rules.specs.Segment.{p_at, q_at, window_of, chosen_of}
-use Rattle.lengths.proofs.Lengths.{PairFacts, pair_facts}
-use Rattle.width.proofs.Agree.{Agree, agree_four, width_agree}
+use Rattle.lengths.proofs.Lengths.{pair_facts}
+use Rattle.width.proofs.Agree.{agree_four, width_agree}
 use Rattle.segment.specs.Fit.{Room}
 use Rattle.segment.specs.Near.{near_before, near_after, near_line, near_lines, Span}
 use Rattle.segment.proofs.Places.{line_in}

@@ -1,6 +1,6 @@
 -- What an edge stores: a property of every store, and what stands at each sample within the widths afterwards.
 -- Assumes nothing.
-use Rattle.std.proofs.Common.{◌≡◌, ℕ, ◌+◌, ◌*◌, ◌<◌, ◌≤◌, List, [], ◌∷◌, ◌++◌, length, get_or, sym, refl, ap, ◌∙◌, inl, arith}
+use Rattle.std.proofs.Common.{◌≡◌, ℕ, ◌+◌, ◌*◌, ◌<◌, ◌≤◌, List, [], ◌∷◌, length, get_or, sym, refl, inl, arith}
 use Rattle.laws.specs.Lists.{Each, Some, each_append, each_loop, some_left, some_right, some_loop}
 use Rattle.laws.specs.Loops.{each}
 use Rattle.laws.specs.Stores.{Store, puts, Only, puts_at}

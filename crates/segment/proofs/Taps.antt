@@ -12,7 +12,7 @@ use Rattle.rules.specs.Segment.{p_at, q_at}
 use Rattle.taps.specs.Signed.{signed, along, against}
 use Rattle.taps.proofs.Signs.{before_is, after_is}
 use Rattle.segment.specs.Fit.{Spread}
-use Rattle.segment.specs.Sides.{along_stores, against_stores, both_stores, Paired, difference_in, before_taps, after_taps, line_taps, four_taps, Scales, none, Tapped}
+use Rattle.segment.specs.Sides.{along_stores, against_stores, both_stores, Paired, difference_in, before_taps, after_taps, line_taps, Scales, none, Tapped}
 use Rattle.segment.proofs.Places.{line_in}
 
 -- ---- places of one line

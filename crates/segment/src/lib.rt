@@ -7,6 +7,9 @@ pub mod outcome;
 // The samples of an edge's four lines.
 mod read;
 
+// The widths of an edge, and what goes with them.
+mod widths;
+
 // What an edge stores.
 mod store;
 
@@ -18,3 +21,4 @@ pub use segment::filter_edge;
 
 // The parts of an edge that one next to kept cells is made of too.
 pub use segment::{filter_segment, level, upright};
+pub use widths::Widths;

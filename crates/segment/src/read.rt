@@ -3,7 +3,6 @@ ghost use Rattle.std.specs.Prelude.{◌≡◌, ◌+◌, ◌*◌, ◌<◌, ◌≤
 ghost use Rattle.segment.specs.Near.{near_before, near_after, near_line, near_lines, Span};
 ghost use Rattle.segment.specs.Fit.{Room};
 
-use laws::least;
 use rules::edge::Line;
 
 // k steps outwards, or as many as lead to the last sample of the reach.
@@ -11,7 +10,7 @@ fn out(step: usize, k: usize, last: usize) -> usize
     requires { step * last < 18446744073709551616 }
     ensures { (result ≡ step * min k last) × (result ≤ step * last) }
 {
-    step * least(k, last)
+    step * k.min(last)
 }
 
 // The samples before the edge, p0 at `at`.
@@ -32,7 +31,7 @@ fn read_before(plane: &[u16], at: usize, step: usize, last: usize) -> [u16; 9]
     ]
 }
 
-// The samples after the edge, q0 at `at`.
+// The samples after the edge, q0 at `at`. A function for each side: with the side as an argument every clause would have two cases.
 fn read_after(plane: &[u16], at: usize, step: usize, last: usize) -> [u16; 9]
     requires { (2 ≤ last) × (at + 2 * step < length plane.now) × (at + step * last < length plane.now) }
     ensures { result ≡ near_after plane.now at step last }

@@ -7,10 +7,9 @@ ghost use Rattle.segment.specs.Fit.{EdgeFits, Filtered, Chosen, InPlane, EdgeFil
 use super::read::read_lines;
 use super::store::filter_lines;
 use crate::outcome::Outcome;
-use laws::least;
+use crate::widths::Widths;
 use lengths::pairs::{most_after, most_before, reach_after, reach_before};
 use rules::edge::{Edge, Place};
-use taps::tables::{limit_of, weight};
 use width::choice::{filt_choice, off};
 
 // How many samples after an edge are to be filtered, by its window and thresholds that are not 0. What else the choice takes is looked up
@@ -53,19 +52,8 @@ pub fn filter_segment(plane: &mut [u16], e: Place, top: u16, stores: bool) -> Ou
             changed: 0,
         };
     }
-    let n = least(w, most_before(e.pair));
-    let t = filter_lines(
-        plane,
-        e.at,
-        e.step,
-        e.line,
-        n,
-        w,
-        limit_of(e.q, w),
-        weight(n),
-        weight(w),
-        top,
-    );
+    let n = w.min(most_before(e.pair));
+    let t = filter_lines(plane, e, Widths::new(e.q, n, w, top));
     Outcome {
         width: w,
         stored: t.stored,
@@ -88,7 +76,7 @@ pub fn upright(e: Edge, stride: usize) -> Place
     }
 }
 
-// Where a horizontal one stands.
+// Where a horizontal one stands. A function for each direction: with it as an argument where an edge is visited a plane takes 4 % longer (docs/PACE.md).
 pub fn level(e: Edge, stride: usize) -> Place
     requires { e.y * stride + e.x < 18446744073709551616 }
     ensures { result ≡ placed false stride e }

@@ -1,105 +1,73 @@
 // The taps of document 01, line after line, each from the edge outwards; a sample is read just before it is moved, and counted where that changes it.
 ghost use Rattle.std.specs.Prelude.{◌≡◌, ℕ, ◌+◌, ◌-◌, ◌*◌, ◌<◌, ◌≤◌, List, length};
 ghost use Rattle.laws.specs.Changes.{Put};
-ghost use Rattle.segment.specs.Sides.{along_stores, against_stores, both_stores, Paired, line_taps, four_taps, Scales, Lane, Lanes, none, Tapped};
+ghost use Rattle.segment.specs.Sides.{along_stores, against_stores, both_stores, Paired, line_taps, four_taps, Lane, Lanes, none, Tapped};
 
+use crate::widths::Widths;
 use rules::counts::Counts;
-use std::num::wrapping_add_usize;
+use rules::edge::Place;
 use taps::difference::limited;
-use taps::moves::{move_after, move_before, move_pair};
-use taps::tables::weighted;
+use taps::moves::Move;
 
 // The s samples of a line before the edge, moved by D·W of this sign and size; how many changed, with those so far.
-fn side_before(
-    plane: &mut [u16],
-    at: usize,
-    step: usize,
-    s: usize,
-    plus: bool,
-    by: u32,
-    top: u16,
-    sofar: usize,
-) -> usize
-    requires { (by ≤ 5570560) × (s ≤ 8) × (sofar ≤ 64) × (1 ≤ step) × (s * step ≤ at) × (at < length plane.old) }
-    ensures { (Put (along_stores top at step s plus by plane.old s) plane.old plane.new sofar result) × (result ≤ sofar + s) }
+// By offsets, here and below: the samples of a side stand a step apart in the plane, outwards from the edge.
+fn side_before(plane: &mut [u16], at: usize, step: usize, s: usize, m: Move, sofar: usize) -> usize
+    requires { (s ≤ 8) × (sofar ≤ 64) × (1 ≤ step) × (s * step ≤ at) × (at < length plane.old) }
+    ensures { (Put (along_stores m.top at step s m.plus m.by plane.old s) plane.old plane.new sofar result) × (result ≤ sofar + s) }
 {
     let mut changed = sofar;
-    let mut i: usize = 0;
-    while i < s {
+    for i in 0..s {
         let k = at - (i + 1) * step;
-        let p = move_before(plane[k], plus, by, s - i, top);
+        let p = m.before(plane[k], s - i);
         plane[k] = p.to;
         changed += p.changed;
-        i += 1;
     }
     changed
 }
 
-// The s samples of a line after the edge.
-fn side_after(
-    plane: &mut [u16],
-    at: usize,
-    step: usize,
-    s: usize,
-    plus: bool,
-    by: u32,
-    top: u16,
-    sofar: usize,
-) -> usize
-    requires { (by ≤ 5570560) × (s ≤ 8) × (sofar ≤ 64) × (1 ≤ step) × (at + (s - 1) * step < length plane.old) }
-    ensures { (Put (against_stores top at step s plus by plane.old s) plane.old plane.new sofar result) × (result ≤ sofar + s) }
+// The s samples of a line after the edge. A function for each side: with the side as an argument every clause would have two cases.
+fn side_after(plane: &mut [u16], at: usize, step: usize, s: usize, m: Move, sofar: usize) -> usize
+    requires { (s ≤ 8) × (sofar ≤ 64) × (1 ≤ step) × (at + (s - 1) * step < length plane.old) }
+    ensures { (Put (against_stores m.top at step s m.plus m.by plane.old s) plane.old plane.new sofar result) × (result ≤ sofar + s) }
 {
     let mut changed = sofar;
-    let mut i: usize = 0;
-    while i < s {
+    for i in 0..s {
         let k = at + i * step;
-        let q = move_after(plane[k], plus, by, s - i, top);
+        let q = m.after(plane[k], s - i);
         plane[k] = q.to;
         changed += q.changed;
-        i += 1;
     }
     changed
 }
 
 // How many pairs of a line were moved with no limit met, and how many of these moves were not 0.
-#[derive(Drop)]
+#[derive(Clone, Copy)]
 struct Plain {
     done: usize,
     moved: usize,
 }
 
 // The pairs of a line from the edge outwards, where both widths are s, up to the first that meets a limit.
-fn plain_pairs(
-    plane: &mut [u16],
-    at: usize,
-    step: usize,
-    s: usize,
-    plus: bool,
-    by: u32,
-    top: u16,
-) -> Plain
-    requires { (by ≤ 5570560) × (s ≤ 8) × (1 ≤ step) × (s * step ≤ at) × (at + (s - 1) * step < length plane.old) }
-    ensures { (Paired top at step s plus by plane.old result.done plane.new 0 (2 * result.moved)) × (result.done ≤ s) × (result.moved ≤ result.done) }
+fn plain_pairs(plane: &mut [u16], at: usize, step: usize, s: usize, m: Move) -> Plain
+    requires { (s ≤ 8) × (1 ≤ step) × (s * step ≤ at) × (at + (s - 1) * step < length plane.old) }
+    ensures { (Paired m.top at step s m.plus m.by plane.old result.done plane.new 0 (2 * result.moved)) × (result.done ≤ s) × (result.moved ≤ result.done) }
 {
     let mut moved: usize = 0;
-    let mut i: usize = 0;
-    while i < s {
+    for i in 0..s {
         let k = at - (i + 1) * step;
-        let m = at + i * step;
-        let t = move_pair(plane[k], plane[m], plus, by, s - i, top);
-        if !t.plain {
+        let o = at + i * step;
+        let Some(t) = m.pair(plane[k], plane[o], s - i) else {
             return Plain {
                 done: i,
                 moved: moved,
             };
-        }
+        };
         plane[k] = t.first;
-        plane[m] = t.second;
+        plane[o] = t.second;
         moved += t.moved;
-        i += 1;
     }
     Plain {
-        done: i,
+        done: s,
         moved: moved,
     }
 }
@@ -110,142 +78,72 @@ fn pairs_from(
     at: usize,
     step: usize,
     s: usize,
-    plus: bool,
-    by: u32,
-    top: u16,
+    m: Move,
     from: usize,
     sofar: usize,
 ) -> usize
-    requires { (by ≤ 5570560) × (s ≤ 8) × (1 ≤ step) × (s * step ≤ at) × (at + (s - 1) * step < length plane.old) × (from ≤ s) × (sofar ≤ 80) }
-    ensures { ((l : List ℕ) (m : ℕ) → Paired top at step s plus by l from plane.old m sofar → Paired top at step s plus by l s plane.new m result) × (result ≤ sofar + 2 * (s - from)) }
+    requires { (s ≤ 8) × (1 ≤ step) × (s * step ≤ at) × (at + (s - 1) * step < length plane.old) × (from ≤ s) × (sofar ≤ 80) }
+    ensures { ((l : List ℕ) (n : ℕ) → Paired m.top at step s m.plus m.by l from plane.old n sofar → Paired m.top at step s m.plus m.by l s plane.new n result) × (result ≤ sofar + 2 * (s - from)) }
 {
     let mut changed = sofar;
-    let mut i = from;
-    while i < s {
+    for i in from..s {
         let k = at - (i + 1) * step;
-        let p = move_before(plane[k], plus, by, s - i, top);
+        let p = m.before(plane[k], s - i);
         plane[k] = p.to;
-        let m = at + i * step;
-        let q = move_after(plane[m], plus, by, s - i, top);
-        plane[m] = q.to;
+        let o = at + i * step;
+        let q = m.after(plane[o], s - i);
+        plane[o] = q.to;
         changed += p.changed + q.changed;
-        i += 1;
     }
     changed
 }
 
 // The s samples of a line on either side of the edge, where both widths are s: each move is worked out once for two samples. Most meet no limit,
 // and are told from the others by a test that the processor foresees.
-fn both_sides(
-    plane: &mut [u16],
-    at: usize,
-    step: usize,
-    s: usize,
-    plus: bool,
-    by: u32,
-    top: u16,
-    sofar: usize,
-) -> usize
-    requires { (by ≤ 5570560) × (s ≤ 8) × (sofar ≤ 64) × (1 ≤ step) × (s * step ≤ at) × (at + (s - 1) * step < length plane.old) }
-    ensures { (Put (both_stores top at step s s plus by by plane.old) plane.old plane.new sofar result) × (result ≤ sofar + 2 * s) }
+fn both_sides(plane: &mut [u16], at: usize, step: usize, s: usize, m: Move, sofar: usize) -> usize
+    requires { (s ≤ 8) × (sofar ≤ 64) × (1 ≤ step) × (s * step ≤ at) × (at + (s - 1) * step < length plane.old) }
+    ensures { (Put (both_stores m.top at step s s m.plus m.by m.by plane.old) plane.old plane.new sofar result) × (result ≤ sofar + 2 * s) }
 {
-    let e = plain_pairs(plane, at, step, s, plus, by, top);
-    pairs_from(
-        plane,
-        at,
-        step,
-        s,
-        plus,
-        by,
-        top,
-        e.done,
-        sofar + 2 * e.moved,
-    )
+    let e = plain_pairs(plane, at, step, s, m);
+    pairs_from(plane, at, step, s, m, e.done, sofar + 2 * e.moved)
 }
 
-// Both sides of a line: n samples before the edge and w after it, of weights wn and ww, by D limited to ±limit; how many are stored and
-// changed, with those so far.
-fn apply_taps(
-    plane: &mut [u16],
-    at: usize,
-    step: usize,
-    n: usize,
-    w: usize,
-    limit: u32,
-    wn: u32,
-    ww: u32,
-    top: u16,
-    sofar: Counts,
-) -> Counts
-    requires { (Scales n w limit wn ww) × (Lane at step n w (length plane.old)) × (sofar.stored ≤ 48) × (sofar.changed ≤ 48) }
-    ensures { (Tapped (line_taps top at step n w limit plane.old) plane.old sofar result plane.new) × (result.stored ≤ sofar.stored + 16) × (result.changed ≤ sofar.changed + 16) }
+// Both sides of a line, by its D; how many are stored and changed, with those so far.
+fn apply_taps(plane: &mut [u16], at: usize, step: usize, t: Widths, sofar: Counts) -> Counts
+    requires { (Lane at step t.n t.w (length plane.old)) × (sofar.stored ≤ 48) × (sofar.changed ≤ 48) }
+    ensures { (Tapped (line_taps t.top at step t.n t.w t.limit plane.old) plane.old sofar result plane.new) × (result.stored ≤ sofar.stored + 16) × (result.changed ≤ sofar.changed + 16) }
 {
     let d = limited(
         plane[at - step - step],
         plane[at - step],
         plane[at],
         plane[at + step],
-        limit,
+        t.limit,
     );
-    if n == w {
-        let both = both_sides(
-            plane,
-            at,
-            step,
-            w,
-            d.plus,
-            weighted(d.size, ww),
-            top,
-            sofar.changed,
-        );
-        return Counts {
-            stored: sofar.stored + (n + w),
-            changed: both,
-        };
-    }
-    let p = side_before(
-        plane,
-        at,
-        step,
-        n,
-        d.plus,
-        weighted(d.size, wn),
-        top,
-        sofar.changed,
-    );
-    let q = side_after(plane, at, step, w, d.plus, weighted(d.size, ww), top, p);
+    let after = t.moves_after(d);
+    let changed = if t.n == t.w {
+        both_sides(plane, at, step, t.w, after, sofar.changed)
+    } else {
+        let p = side_before(plane, at, step, t.n, t.moves_before(d), sofar.changed);
+        side_after(plane, at, step, t.w, after, p)
+    };
     Counts {
-        stored: sofar.stored + (n + w),
-        changed: q,
+        stored: sofar.stored + (t.n + t.w),
+        changed: changed,
     }
 }
 
-// The four lines of an edge, `here` at each one's q0; beyond the last it may wrap.
-pub fn filter_lines(
-    plane: &mut [u16],
-    at: usize,
-    step: usize,
-    line: usize,
-    n: usize,
-    w: usize,
-    limit: u32,
-    wn: u32,
-    ww: u32,
-    top: u16,
-) -> Counts
-    requires { (Scales n w limit wn ww) × (Lanes at step line n w (length plane.old)) }
-    ensures { Tapped (four_taps top at step line n w limit plane.old) plane.old none result plane.new }
+// The four lines of an edge.
+pub fn filter_lines(plane: &mut [u16], e: Place, t: Widths) -> Counts
+    requires { Lanes e.at e.step e.line t.n t.w (length plane.old) }
+    ensures { Tapped (four_taps t.top e.at e.step e.line t.n t.w t.limit plane.old) plane.old none result plane.new }
 {
     let mut done = Counts {
         stored: 0,
         changed: 0,
     };
-    let mut here = at;
-    let mut j: usize = 0;
-    while j < 4 {
-        done = apply_taps(plane, here, step, n, w, limit, wn, ww, top, done);
-        here = wrapping_add_usize(here, line);
-        j += 1;
+    for j in 0..4 {
+        done = apply_taps(plane, e.at + j * e.line, e.step, t, done);
     }
     done
 }

@@ -3,6 +3,7 @@ pub mod Rules
 pub mod Taking
 pub mod Signs
 pub mod Settling
+pub mod Stepping
 pub mod Walking
 pub mod Numbering
 pub mod Faults

@@ -8,13 +8,18 @@ use borrow.Author.Rules.{rules}
 use borrow.Author.Tests.{lt-ltb, le-ltb}
 use lib.ListN.{length, set}
 use lib.Dec.{ltb}
+use Rattle.std.specs.Prelude.{None, Some}
 use Rattle.laws.specs.Choose.{pick, pick_yes, pick_no, is_lt, not_lt, is_eq, not_eq}
 use Rattle.text.specs.declared.spell.Word.{Word}
 use Rattle.text.specs.Places.{seek, newline_at, remark_at, ink_at}
 use Rattle.text.specs.Words.{word_at, words_in}
+use Rattle.settings.specs.declared.walk.Line.{Line}
+use Rattle.settings.specs.declared.walk.Walk.{Walk}
 use Rattle.settings.specs.Names.{kind_of}
 use Rattle.settings.specs.Text.{line_end}
-use Rattle.settings.specs.Numbered.{kind_to, kind_at, numbered, lines_of, numbers_to, numbers_at, holding, line_with}
+use Rattle.settings.specs.Numbered.{kind_to, kind_at, numbered, lines_of, numbers_to, numbers_at, holding, line_or_none, line_with}
+use Rattle.settings.specs.Walked.{Stepped}
+use Rattle.settings.proofs.Stepping.{line_end_is}
 
 -- by the line's first word
 pub kind_is : (xs : List ℕ) (from stop at k : ℕ) (w : Word) → at ≡ seek (ink_at xs) from (stop - from) → w ≡ word_at xs at stop → k ≡ kind_of w.value → k ≡ kind_to xs from stop
@@ -119,3 +124,36 @@ unfolding line_with
 hold_start xs kind n number e f = let m : n + 1 - 1 ≡ length xs = omega arith in f ∙ ap (λ (k : ℕ). holding xs kind k 0 1 number) m
 
 pub ruleset holdings = (rules, hold_here, hold_on, hold_end, hold_start)
+
+-- lines count from 1
+pub line_some : (l m : ℕ) → 1 ≤ l → l ≡ m → Some l ≡ line_or_none m
+line_some zero m h e = absurd (omega arith)
+line_some (suc l) m h e = rw (← e)
+
+pub line_none : (m : ℕ) → 0 ≡ m → None ≡ line_or_none m
+line_none m e = rw (← e)
+
+-- ---- by the steps of a walk
+
+module _ (xs : List ℕ) (w : Walk) (few : w.number ≤ w.at + 1) where
+  module _ (lines whole : List ℕ) (inv : numbered xs (length xs + 1 - w.number) w.at w.number lines ≡ whole) where
+    pub number_next : (line : Line) (after : Walk) → Stepped xs w line after → (k : ℕ) → k ≡ kind_to xs line.at line.stop
+        → numbered xs (length xs + 1 - after.number) after.at after.number (set lines k line.number) ≡ whole
+    number_next line after t k said =
+        rw t.number (number_on xs (length xs) w.at w.number lines whole refl inv (line_end xs w.at) line.stop k t.here few (line_end_is xs w.at) t.stop (rw (← t.at) said) after.at after.number t.next t.count)
+
+    pub number_done : length xs ≤ w.at → lines ≡ whole
+    number_done past = number_end xs (length xs) w.at w.number lines whole refl inv past
+
+  module _ (kind left whole : ℕ) (inv : holding xs kind (length xs + 1 - w.number) w.at w.number left ≡ whole) where
+    module _ (line : Line) (after : Walk) (t : Stepped xs w line after) (k : ℕ) (said : k ≡ numbers_to xs kind line.at line.stop) where
+      pub hold_next : k ≤ left → holding xs kind (length xs + 1 - after.number) after.at after.number (left - k) ≡ whole
+      hold_next h =
+          hold_on xs kind (length xs) w.at w.number left whole refl inv (line_end xs w.at) line.stop k t.here few (line_end_is xs w.at) t.stop (rw (← t.at) said) after.at after.number (left - k) h t.next t.count refl
+
+      pub hold_found : left < k → line.number ≡ whole
+      hold_found h =
+          hold_here xs kind (length xs) w.at w.number left whole refl inv (line_end xs w.at) line.stop k t.here few (line_end_is xs w.at) t.stop (rw (← t.at) said) line.number h t.number
+
+    pub hold_done : length xs ≤ w.at → 0 ≡ whole
+    hold_done past = hold_end xs kind (length xs) w.at w.number left whole refl inv past

@@ -1,5 +1,5 @@
 -- How a line's numbers are put into a list one at a time, for every sort of them. Assumes nothing.
-use mathlib.Core.Path.{◌≡◌, sym, ap, ◌∙◌}
+use mathlib.Core.Path.{◌≡◌, sym, ◌∙◌}
 use mathlib.Core.List.{List}
 use mathlib.Core.Bool.{Bool, true, false}
 use Prim.Native.Nat.{ℕ, suc, ◌+◌, ◌-◌, ◌≤◌, ◌<◌, min}
@@ -20,7 +20,8 @@ use Rattle.text.specs.declared.typed.Signed.{Signed}
 use Rattle.text.specs.declared.typed.Unsigned.{Unsigned}
 use Rattle.text.specs.Numbers.{number_at}
 use Rattle.text.specs.Typed.{signed_of, unsigned_of}
-use Rattle.settings.specs.Values.{Read, Put, read_signed, read_up_to, read_offset, offset_of, offset_rest, skipped, goes_on, taken, taken_to}
+use Rattle.settings.specs.declared.values.Read.{Read}
+use Rattle.settings.specs.Values.{Put, read_signed, read_up_to, read_offset, offset_of, offset_rest, skipped, goes_on, taken, taken_to}
 
 -- a line that is not in the text, and one that is
 module _ (xs : List ℕ) (c : Cursor) where
@@ -41,34 +42,20 @@ pub ruleset skipping = (rules, skip_beyond, skip_past, skip_within)
 
 -- a number as the callee read it, and what is left after it
 module _ (xs : List ℕ) (c : Cursor) where
-  module _ (n : Signed) (e : n ≡ signed_of (number_at xs c)) where
-    pub signed_value : SFits w32 n.value → to_z w32 (of_z w32 n.value) ≡ (read_signed xs c).value
-    unfolding read_signed
-    signed_value f = to_z-of_z f ∙ ap (λ (m : Signed). m.value) e
+  pub signed_is : (n : Signed) → n ≡ signed_of (number_at xs c) → SFits w32 n.value → record { value = to_z w32 (of_z w32 n.value); rest = n.rest } ≡ read_signed xs c
+  unfolding read_signed
+  signed_is n e f = rw (to_z-of_z f, e)
 
-    pub signed_rest : n.rest ≡ (read_signed xs c).rest
-    unfolding read_signed
-    signed_rest = ap (λ (m : Signed). m.rest) e
+  pub unsigned_is : (most : ℕ) (n : Unsigned) → n ≡ unsigned_of most (number_at xs c) → record { value = n.value; rest = n.rest } ≡ read_up_to most xs c
+  unfolding read_up_to
+  unsigned_is most n e = rw e
 
-  module _ (most : ℕ) (n : Unsigned) (e : n ≡ unsigned_of most (number_at xs c)) where
-    pub unsigned_value : n.value ≡ (read_up_to most xs c).value
-    unfolding read_up_to
-    unsigned_value = ap (λ (m : Unsigned). m.value) e
+  pub offset_is : (n : Number) (v : ℤ) (r : Cursor) → n ≡ number_at xs c → v ≡ offset_of n.negative n.size → SFits w8 v → r ≡ offset_rest n
+      → record { value = to_z w8 (of_z w8 v); rest = r } ≡ read_offset xs c
+  unfolding read_offset
+  offset_is n v r e f g h = rw (to_z-of_z g, f, h, e)
 
-    pub unsigned_rest : n.rest ≡ (read_up_to most xs c).rest
-    unfolding read_up_to
-    unsigned_rest = ap (λ (m : Unsigned). m.rest) e
-
-  module _ (n : Number) (e : n ≡ number_at xs c) where
-    pub offset_value : (v : ℤ) → v ≡ offset_of n.negative n.size → SFits w8 v → to_z w8 (of_z w8 v) ≡ (read_offset xs c).value
-    unfolding read_offset
-    offset_value v g f = to_z-of_z f ∙ g ∙ ap (λ (m : Number). offset_of m.negative m.size) e
-
-    pub offset_rest_holds : (r : Cursor) → r ≡ offset_rest n → r ≡ (read_offset xs c).rest
-    unfolding read_offset
-    offset_rest_holds r f = f ∙ ap offset_rest e
-
-pub ruleset reading = (rules, signed_value, signed_rest, unsigned_value, unsigned_rest, offset_value, offset_rest_holds)
+pub ruleset reading = (rules, signed_is, unsigned_is, offset_is)
 
 -- the loop's turns: whole is what is put there from the first number on, m is whether a number is to be read
 module _ {A : Type 0} (xs : List ℕ) (read : Cursor → Read A) (stop : ℕ) (whole : Put A) (list : List A) (at : ℕ) (c : Cursor)
@@ -93,12 +80,12 @@ module _ {A : Type 0} (xs : List ℕ) (read : Cursor → Read A) (stop : ℕ) (w
       sym w ∙ inv
 
   -- no place is left
-  pub take_full : stop ≤ at → record { list = list; left = record { at = at; rest = c } } ≡ whole
+  pub take_ended : (n : ℕ) → stop ≤ at → n ≡ at → record { list = list; left = record { at = n; rest = c } } ≡ whole
   unfolding taken
-  take_full h =
-      let n : stop - at ≡ 0 = omega arith in
-      let w : taken xs read (stop - at) list at c ≡ record { list = list; left = record { at = at; rest = c } } = rw n in
-      sym w ∙ inv
+  take_ended n h e =
+      let m : stop - at ≡ 0 = omega arith in
+      let w : taken xs read (stop - at) list at c ≡ record { list = list; left = record { at = at; rest = c } } = rw m in
+      rw e (sym w ∙ inv)
 
 -- what the loop makes is what the line says: the last place and the first cursor are the callees' answers
 pub take_whole : {A : Type 0} (xs : List ℕ) (read : Cursor → Read A) (list : List A) (from end stop : ℕ) (c first : Cursor) {p : Put A}

@@ -1,10 +1,13 @@
 -- What one line of a settings text says: the lists after it, and whether it is as it should be. Assumes nothing.
-use Rattle.std.specs.Prelude.{ℕ, ◌-◌, ◌≡◌, List, [], ◌∷◌, Bool, true, false, not, length, get_or, set, ℤ, pos, negsuc, eqb, leb, ltb}
+use Rattle.std.specs.Prelude.{ℕ, Option, None, Some, ◌-◌, ◌≡◌, List, [], ◌∷◌, Bool, true, false, not, length, get_or, set, ℤ, pos, negsuc, eqb, leb, ltb}
 use Rattle.laws.specs.Choose.{pick, both, all}
 use Rattle.text.specs.declared.spell.Word.{Word}
 use Rattle.text.specs.Places.{seek, ink_at}
 use Rattle.text.specs.Words.{word_at}
 use Rattle.text.specs.declared.number.Cursor.{Cursor}
+use Rattle.settings.specs.declared.file.Settings.{Settings}
+use Rattle.settings.specs.declared.names.Destination.{Destination}
+use Rattle.settings.specs.declared.names.Destination.TheVariants.{Numbers, Shorts, Steps, Flags, Offsets, Tiles}
 use Rattle.settings.specs.declared.names.Rule.{Rule}
 use Rattle.settings.specs.declared.values.Taken.{Taken}
 use Rattle.settings.specs.Names.{kind_of}
@@ -29,6 +32,19 @@ lists numbers shorts steps flags offsets = record { numbers = numbers; shorts = 
 
 abbrev pub state : List ℤ → List ℕ → List ℕ → List ℕ → List ℤ → List ℕ → State
 state numbers shorts steps flags offsets places = record { lists = lists numbers shorts steps flags offsets; places = places }
+
+-- what the lent lists and places hold
+abbrev pub lent : Settings → State
+lent s = state s.numbers.now s.shorts.now s.steps.now s.flags.now s.offsets.now s.places.now
+
+-- the lists and places are those that were lent
+pub record Lent (before after : Settings) : Type 0 where
+  pub numbers : after.numbers.ghost_name ≡ before.numbers.ghost_name
+  pub shorts : after.shorts.ghost_name ≡ before.shorts.ghost_name
+  pub steps : after.steps.ghost_name ≡ before.steps.ghost_name
+  pub flags : after.flags.ghost_name ≡ before.flags.ghost_name
+  pub offsets : after.offsets.ghost_name ≡ before.offsets.ghost_name
+  pub places : after.places.ghost_name ≡ before.places.ghost_name
 
 -- every list is as long as it was
 pub record Kept (before after : Lists) : Type 0 where
@@ -60,30 +76,34 @@ in_flags s p = record { lists = lists s.numbers s.shorts s.steps p.list s.offset
 unfoldable pub in_offsets : Lists → Put ℤ → Filled
 in_offsets s p = record { lists = lists s.numbers s.shorts s.steps s.flags p.list; left = p.left }
 
--- the numbers from a line's place on, into the list of that number, from from up to end
-unfoldable pub take_of : List ℕ → Cursor → ℕ → ℕ → ℕ → Lists → Filled
-take_of xs c list from end s =
-    pick (eqb list 0) (in_numbers s (taken_to xs (read_signed xs) s.numbers from end c))
-    (pick (eqb list 1) (in_shorts s (taken_to xs (read_up_to 65535 xs) s.shorts from end c))
-    (pick (eqb list 2) (in_steps s (taken_to xs (read_up_to 4294967295 xs) s.steps from end c))
-    (pick (eqb list 3) (in_flags s (taken_to xs (read_up_to 1 xs) s.flags from end c))
-    (pick (eqb list 4) (in_offsets s (taken_to xs (read_offset xs) s.offsets from end c))
-    (in_shorts s (taken_to xs (read_up_to 65535 xs) s.shorts from end c))))))
+-- the numbers from a line's place on, into the list where they go, from from up to end
+unfoldable pub take_of : List ℕ → Cursor → Destination → ℕ → ℕ → Lists → Filled
+take_of xs c Numbers from end s = in_numbers s (taken_to xs (read_signed xs) s.numbers from end c)
+take_of xs c Shorts from end s = in_shorts s (taken_to xs (read_up_to 65535 xs) s.shorts from end c)
+take_of xs c Steps from end s = in_steps s (taken_to xs (read_up_to 4294967295 xs) s.steps from end c)
+take_of xs c Flags from end s = in_flags s (taken_to xs (read_up_to 1 xs) s.flags from end c)
+take_of xs c Offsets from end s = in_offsets s (taken_to xs (read_offset xs) s.offsets from end c)
+take_of xs c Tiles from end s = in_shorts s (taken_to xs (read_up_to 65535 xs) s.shorts from end c)
 
 -- ---- whether they are as they should be
 
 -- signed numbers and tile starts stand at places of their own, so that a line replaces the one before; others go on after those before them
-unfoldable pub start_of : ℕ → ℕ → ℕ → ℕ
-start_of list from place = pick (eqb list 0) from (pick (eqb list 5) from place)
+unfoldable pub start_of : Destination → ℕ → ℕ → ℕ
+start_of Numbers from place = from
+start_of Shorts from place = place
+start_of Steps from place = place
+start_of Flags from place = place
+start_of Offsets from place = place
+start_of Tiles from place = from
 
--- every number was there, the line was read to its end, and it had as many as it should; 0 stands for any, but at least one
-unfoldable pub whole_of : Taken → ℕ → ℕ → Bool
-whole_of t from each =
-    all
-    (t.rest.good
-    ∷ leb t.rest.end t.rest.at
-    ∷ pick (eqb each 0) (ltb 0 (t.at - from)) (eqb (t.at - from) each)
-    ∷ [])
+-- as many numbers as a line of the kind should have, or at least one where that is not settled
+unfoldable pub count_right : Option ℕ → ℕ → Bool
+count_right None n = ltb 0 n
+count_right (Some each) n = eqb n each
+
+-- every number was there, the line was read to its end, and it had as many as it should
+unfoldable pub whole_of : Taken → ℕ → Option ℕ → Bool
+whole_of t from each = all (t.rest.good ∷ leb t.rest.end t.rest.at ∷ count_right each (t.at - from) ∷ [])
 
 unfoldable pub is_one : ℤ → Bool
 is_one (pos n) = eqb n 1
@@ -102,7 +122,7 @@ unfoldable pub flag_bad : ℕ → List ℤ → Bool
 flag_bad kind numbers = both (eqb kind 11) (not (is_flag (get_or numbers 7 (pos 0))))
 
 -- 0, or the kind that was expected
-unfoldable pub verdict_of : Taken → ℕ → ℕ → ℕ → List ℤ → ℕ
+unfoldable pub verdict_of : Taken → ℕ → Option ℕ → ℕ → List ℤ → ℕ
 verdict_of t from each kind numbers =
     pick (whole_of t from each) (pick (version_bad kind numbers) 1 (pick (flag_bad kind numbers) 11 0)) kind
 
@@ -119,7 +139,7 @@ settled kind places t answer =
     record { state = record { lists = t.lists; places = pick (eqb answer 0) (set places kind t.left.at) places }; answer = answer }
 
 -- the numbers of a line of a kind, where they start and how they are judged
-unfoldable pub judged : ℕ → ℕ → ℕ → List ℕ → Filled → Said
+unfoldable pub judged : ℕ → ℕ → Option ℕ → List ℕ → Filled → Said
 judged kind from each places t = settled kind places t (verdict_of t.left from each kind t.lists.numbers)
 
 -- they go where the kind's rule says

@@ -1,5 +1,5 @@
 -- Which line of a settings text has a setting, or one of its numbers. Assumes nothing.
-use Rattle.std.specs.Prelude.{ℕ, zero, suc, ◌+◌, ◌-◌, List, length, set, eqb, ltb}
+use Rattle.std.specs.Prelude.{ℕ, zero, suc, Option, None, Some, ◌+◌, ◌-◌, List, length, set, eqb, ltb}
 use Rattle.laws.specs.Choose.{pick}
 use Rattle.text.specs.Places.{seek, remark_at, ink_at}
 use Rattle.text.specs.Words.{word_at, words_in}
@@ -44,3 +44,8 @@ holding xs kind (suc n) at l left =
 -- a number of a kind is counted from 0 over all lines of that kind
 unfoldable pub line_with : List ℕ → ℕ → ℕ → ℕ
 line_with xs kind number = holding xs kind (length xs) 0 1 number
+
+-- lines count from 1: 0 is none
+abbrev pub line_or_none : ℕ → Option ℕ
+line_or_none zero = None
+line_or_none (suc l) = Some (suc l)

@@ -1,11 +1,13 @@
 -- Where the numbers of each kind of setting go. Assumes nothing.
-use Rattle.std.specs.Prelude.{ℕ, ◌+◌, ◌*◌, ◌-◌, ◌/◌, min, List, [], ◌∷◌, eqb}
+use Rattle.std.specs.Prelude.{ℕ, Option, None, Some, ◌+◌, ◌*◌, ◌-◌, ◌/◌, min, List, [], ◌∷◌, eqb}
 use Rattle.laws.specs.Choose.{pick}
 use Rattle.laws.specs.Loops.{each}
+use Rattle.settings.specs.declared.names.Destination.{Destination}
+use Rattle.settings.specs.declared.names.Destination.TheVariants.{Numbers, Shorts, Steps, Flags, Offsets, Tiles}
 use Rattle.settings.specs.declared.names.Rule.{Rule}
 
--- a list, the first place there, room for so many numbers from it on, and how many numbers a line has, 0 for any
-abbrev pub room : ℕ → ℕ → ℕ → ℕ → Rule
+-- a list, the first place there, room for so many numbers from it on, and how many numbers a line has, where that is settled
+abbrev pub room : Destination → ℕ → ℕ → Option ℕ → Rule
 room list from size each = record { list = list; from = from; end = from + size; each = each }
 
 -- how many numbers each sort of leaves has room for in a list of n short numbers: a third of what the 4096 qindex entries, the 2046 tile starts and the 4096 kept rectangles leave, 1048576 leaves at most
@@ -20,34 +22,34 @@ tiles_from n = 4096 + leaf_room n + leaf_room n + leaf_room n
 unfoldable pub keeps_from : ℕ → ℕ
 keeps_from n = tiles_from n + 1023 + 1023
 
--- The lists: 0 signed numbers, 1 short ones, 2 steps, 3 flags, 4 offsets, 5 short ones of a setting of one line. A kind that is none has no room.
+-- A kind that is none has no room.
 -- Of n short numbers 4096 are qindex entries, and then come the leaves of each sort, four numbers a leaf; sixteen places for the CCSO numbers of a plane.
 unfoldable pub rule_of : ℕ → ℕ → Rule
 rule_of n kind =
-    pick (eqb kind 1) (room 0 0 1 1)
-    (pick (eqb kind 2) (room 1 0 4096 0)
-    (pick (eqb kind 3) (room 2 0 352 0)
-    (pick (eqb kind 4) (room 1 4096 (leaf_room n) 4)
-    (pick (eqb kind 5) (room 1 (4096 + leaf_room n) (leaf_room n) 4)
-    (pick (eqb kind 6) (room 1 (4096 + leaf_room n + leaf_room n) (leaf_room n) 4)
-    (pick (eqb kind 7) (room 0 1 1 1)
-    (pick (eqb kind 8) (room 0 2 1 1)
-    (pick (eqb kind 9) (room 0 3 2 2)
-    (pick (eqb kind 10) (room 0 5 2 2)
-    (pick (eqb kind 11) (room 0 7 1 1)
-    (pick (eqb kind 12) (room 0 16 11 11)
-    (pick (eqb kind 13) (room 0 32 11 11)
-    (pick (eqb kind 14) (room 0 48 11 11)
-    (pick (eqb kind 15) (room 3 0 4096 0)
-    (pick (eqb kind 16) (room 3 4096 4096 0)
-    (pick (eqb kind 17) (room 3 8192 4096 0)
-    (pick (eqb kind 18) (room 4 0 128 0)
-    (pick (eqb kind 19) (room 4 128 128 0)
-    (pick (eqb kind 20) (room 4 256 128 0)
-    (pick (eqb kind 21) (room 5 (tiles_from n) 1023 0)
-    (pick (eqb kind 22) (room 5 (tiles_from n + 1023) 1023 0)
-    (pick (eqb kind 23) (room 1 (keeps_from n) 16384 4)
-    (room 0 0 0 0)))))))))))))))))))))))
+    pick (eqb kind 1) (room Numbers 0 1 (Some 1))
+    (pick (eqb kind 2) (room Shorts 0 4096 None)
+    (pick (eqb kind 3) (room Steps 0 352 None)
+    (pick (eqb kind 4) (room Shorts 4096 (leaf_room n) (Some 4))
+    (pick (eqb kind 5) (room Shorts (4096 + leaf_room n) (leaf_room n) (Some 4))
+    (pick (eqb kind 6) (room Shorts (4096 + leaf_room n + leaf_room n) (leaf_room n) (Some 4))
+    (pick (eqb kind 7) (room Numbers 1 1 (Some 1))
+    (pick (eqb kind 8) (room Numbers 2 1 (Some 1))
+    (pick (eqb kind 9) (room Numbers 3 2 (Some 2))
+    (pick (eqb kind 10) (room Numbers 5 2 (Some 2))
+    (pick (eqb kind 11) (room Numbers 7 1 (Some 1))
+    (pick (eqb kind 12) (room Numbers 16 11 (Some 11))
+    (pick (eqb kind 13) (room Numbers 32 11 (Some 11))
+    (pick (eqb kind 14) (room Numbers 48 11 (Some 11))
+    (pick (eqb kind 15) (room Flags 0 4096 None)
+    (pick (eqb kind 16) (room Flags 4096 4096 None)
+    (pick (eqb kind 17) (room Flags 8192 4096 None)
+    (pick (eqb kind 18) (room Offsets 0 128 None)
+    (pick (eqb kind 19) (room Offsets 128 128 None)
+    (pick (eqb kind 20) (room Offsets 256 128 None)
+    (pick (eqb kind 21) (room Tiles (tiles_from n) 1023 None)
+    (pick (eqb kind 22) (room Tiles (tiles_from n + 1023) 1023 None)
+    (pick (eqb kind 23) (room Shorts (keeps_from n) 16384 (Some 4))
+    (room Numbers 0 0 None)))))))))))))))))))))))
 
 -- the first places of the kinds 0 to 23, in this order
 unfoldable pub first_places : ℕ → List ℕ

@@ -1,14 +1,27 @@
 -- What a settings text says, line by line, up to the first line that is not as it should be. Assumes nothing.
-use Rattle.std.specs.Prelude.{ℕ, zero, suc, ◌+◌, ◌-◌, List, Bool, not, length, get_or, eqb, ltb}
+use Rattle.std.specs.Prelude.{ℕ, zero, suc, Result, Ok, Err, ◌+◌, ◌-◌, List, Bool, not, length, get_or, eqb, ltb}
 use Rattle.laws.specs.Choose.{pick, both}
 use Rattle.text.specs.Places.{seek, newline_at, remark_at}
 use Rattle.settings.specs.declared.file.Fault.{Fault}
+use Rattle.settings.specs.declared.file.Place.{Place}
+use Rattle.settings.specs.Kinds.{expected_number}
 use Rattle.settings.specs.Lines.{State, Said, line_of}
 
--- the lists and places, and the line with the kind that was expected there and the place where it starts
+-- a line, the number of what was expected there, 0 where nothing is amiss, and the place where it starts
+pub record Finding : Type 0 where
+  pub line : ℕ
+  pub kind : ℕ
+  pub at : ℕ
+
+-- what an answer says
+abbrev pub found : Result Place Fault → Finding
+found (Ok place) = record { line = place.line; kind = 0; at = place.at }
+found (Err fault) = record { line = fault.place.line; kind = expected_number fault.expected; at = fault.place.at }
+
+-- the lists and places, and the line with what was expected there
 pub record Parsed : Type 0 where
   pub state : State
-  pub fault : Fault
+  pub fault : Finding
 
 -- a plane's offsets were read, and its CCSO numbers were not: the one place moved on, the other did not
 unfoldable pub alone_of : ℕ → ℕ → ℕ → ℕ → Bool

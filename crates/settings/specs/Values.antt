@@ -6,12 +6,8 @@ use Rattle.text.specs.declared.number.Cursor.{Cursor}
 use Rattle.text.specs.declared.number.Number.{Number}
 use Rattle.text.specs.Numbers.{number_at}
 use Rattle.text.specs.Typed.{failed, unsigned_of, signed_of}
+use Rattle.settings.specs.declared.values.Read.{Read}
 use Rattle.settings.specs.declared.values.Taken.{Taken}
-
--- a number, and what is left of the line
-pub record Read (A : Type 0) : Type 0 where
-  pub value : A
-  pub rest : Cursor
 
 -- a list with numbers put there, and the place after the last one with what is left of the line
 pub record Put (A : Type 0) : Type 0 where

@@ -1,9 +1,8 @@
 // The numbers of one line, into a lent list from a place on.
-ghost use Rattle.std.specs.Prelude.{◌≡◌, ◌≤◌, leb, length};
+ghost use Rattle.std.specs.Prelude.{◌≡◌, ◌≤◌, ℕ, List, leb, length};
 ghost use Rattle.laws.specs.Choose.{pick};
 ghost use Rattle.settings.specs.Values.{read_signed, read_up_to, read_offset, below_of, above_of, offset_of, offset_rest, skipped, goes_on, taken_to};
 
-use laws::least;
 use text::place::spaces;
 use text::{Cursor, Number};
 
@@ -12,6 +11,90 @@ use text::{Cursor, Number};
 pub struct Taken {
     pub at: usize,
     pub rest: Cursor,
+}
+
+// A number, and what is left of the line.
+#[derive(Clone, Copy)]
+pub struct Read<T> {
+    pub value: T,
+    pub rest: Cursor,
+}
+
+// A sort of numbers, by the type that holds one.
+pub trait Sort: Copy {
+    ghost use Rattle.text.specs.declared.number.Cursor.{Cursor};
+    ghost use Rattle.settings.specs.declared.values.Read.{Read};
+
+    // What stands at a place of a line.
+    ghost read_of: { List ℕ → Cursor → Read Self };
+
+    fn read(text: &[u8], c: Cursor) -> Read<Self>
+        ensures { result ≡ read_of text.now c };
+}
+
+// A number with a sign.
+impl Sort for i32 {
+    ghost read_of = { read_signed };
+
+    fn read(text: &[u8], c: Cursor) -> Read<i32> {
+        let n = text::read_signed(text, c);
+        Read {
+            value: n.value,
+            rest: n.rest,
+        }
+    }
+}
+
+// A number of two bytes.
+impl Sort for u16 {
+    ghost read_of = { read_up_to 65535 };
+
+    fn read(text: &[u8], c: Cursor) -> Read<u16> {
+        let n = text::read_unsigned(text, c, 65535);
+        Read {
+            value: n.value as u16,
+            rest: n.rest,
+        }
+    }
+}
+
+// A number of four bytes.
+impl Sort for u32 {
+    ghost read_of = { read_up_to 4294967295 };
+
+    fn read(text: &[u8], c: Cursor) -> Read<u32> {
+        let n = text::read_unsigned(text, c, 4294967295);
+        Read {
+            value: n.value as u32,
+            rest: n.rest,
+        }
+    }
+}
+
+// A flag, 0 or 1.
+impl Sort for u8 {
+    ghost read_of = { read_up_to 1 };
+
+    fn read(text: &[u8], c: Cursor) -> Read<u8> {
+        let n = text::read_unsigned(text, c, 1);
+        Read {
+            value: n.value as u8,
+            rest: n.rest,
+        }
+    }
+}
+
+// An offset.
+impl Sort for i8 {
+    ghost read_of = { read_offset };
+
+    fn read(text: &[u8], c: Cursor) -> Read<i8> {
+        let n = text::next_number(text, c);
+        Read {
+            value: offset(n.negative, n.size),
+            rest: after_offset(n),
+        }
+    }
 }
 
 // The same place of a line after its spaces.
@@ -40,83 +123,7 @@ fn more(c: Cursor) -> bool
     c.good && c.at < c.end
 }
 
-// Numbers with a sign.
-pub fn signed(text: &[u8], c: Cursor, list: &mut [i32], from: usize, end: usize) -> Taken
-    ensures from_le_at { from ≤ result.at }
-    ensures list_len_unchanged { length list.new ≡ length list.old }
-    ensures result_value { record { list = list.new; left = result } ≡ taken_to text.now (read_signed text.now) list.old from end c }
-{
-    let stop = least(end, list.len());
-    let mut at = from;
-    let mut rest = skip(text, c);
-    while at < stop && more(rest) {
-        let n = text::read_signed(text, rest);
-        let v = n.value;
-        list[at] = v;
-        rest = skip(text, n.rest);
-        at += 1;
-    }
-    Taken { at, rest }
-}
-
-// Numbers of two bytes.
-pub fn shorts(text: &[u8], c: Cursor, list: &mut [u16], from: usize, end: usize) -> Taken
-    ensures from_le_at { from ≤ result.at }
-    ensures list_len_unchanged { length list.new ≡ length list.old }
-    ensures result_value { record { list = list.new; left = result } ≡ taken_to text.now (read_up_to 65535 text.now) list.old from end c }
-{
-    let stop = least(end, list.len());
-    let mut at = from;
-    let mut rest = skip(text, c);
-    while at < stop && more(rest) {
-        let n = text::read_unsigned(text, rest, 65535);
-        let v = n.value;
-        list[at] = v as u16;
-        rest = skip(text, n.rest);
-        at += 1;
-    }
-    Taken { at, rest }
-}
-
-// Numbers of four bytes.
-pub fn steps(text: &[u8], c: Cursor, list: &mut [u32], from: usize, end: usize) -> Taken
-    ensures from_le_at { from ≤ result.at }
-    ensures list_len_unchanged { length list.new ≡ length list.old }
-    ensures result_value { record { list = list.new; left = result } ≡ taken_to text.now (read_up_to 4294967295 text.now) list.old from end c }
-{
-    let stop = least(end, list.len());
-    let mut at = from;
-    let mut rest = skip(text, c);
-    while at < stop && more(rest) {
-        let n = text::read_unsigned(text, rest, 4294967295);
-        let v = n.value;
-        list[at] = v as u32;
-        rest = skip(text, n.rest);
-        at += 1;
-    }
-    Taken { at, rest }
-}
-
-// Flags, 0 or 1.
-pub fn flags(text: &[u8], c: Cursor, list: &mut [u8], from: usize, end: usize) -> Taken
-    ensures from_le_at { from ≤ result.at }
-    ensures list_len_unchanged { length list.new ≡ length list.old }
-    ensures result_value { record { list = list.new; left = result } ≡ taken_to text.now (read_up_to 1 text.now) list.old from end c }
-{
-    let stop = least(end, list.len());
-    let mut at = from;
-    let mut rest = skip(text, c);
-    while at < stop && more(rest) {
-        let n = text::read_unsigned(text, rest, 1);
-        let v = n.value;
-        list[at] = v as u8;
-        rest = skip(text, n.rest);
-        at += 1;
-    }
-    Taken { at, rest }
-}
-
-// An offset below zero; what is below -10 is none, and stands as the lowest number.
+// An offset below zero. What is below -10 is none, and stands as the lowest number, as `below_of` says of the lent list.
 fn below(size: usize) -> i8
     ensures { result ≡ below_of size }
 {
@@ -172,21 +179,24 @@ fn after_offset(n: Number) -> Cursor
     }
 }
 
-// Offsets.
-pub fn offsets(text: &[u8], c: Cursor, list: &mut [i8], from: usize, end: usize) -> Taken
+// The numbers of a line, into a list from a place on.
+pub fn put<T: Sort>(text: &[u8], c: Cursor, list: &mut [T], from: usize, end: usize) -> Taken
     ensures from_le_at { from ≤ result.at }
     ensures list_len_unchanged { length list.new ≡ length list.old }
-    ensures result_value { record { list = list.new; left = result } ≡ taken_to text.now (read_offset text.now) list.old from end c }
+    ensures result_value { record { list = list.new; left = result } ≡ taken_to text.now (T.read_of text.now) list.old from end c }
 {
-    let stop = least(end, list.len());
-    let mut at = from;
+    let stop = end.min(list.len());
     let mut rest = skip(text, c);
-    while at < stop && more(rest) {
-        let n = text::next_number(text, rest);
-        let v = offset(n.negative, n.size);
-        list[at] = v;
-        rest = skip(text, after_offset(n));
-        at += 1;
+    for at in from..stop {
+        if !more(rest) {
+            return Taken { at, rest };
+        }
+        let n = T::read(text, rest);
+        list[at] = n.value;
+        rest = skip(text, n.rest);
     }
-    Taken { at, rest }
+    Taken {
+        at: stop.max(from),
+        rest,
+    }
 }

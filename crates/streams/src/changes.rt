@@ -4,10 +4,8 @@ ghost use Rattle.pictures.specs.Shapes.{ShapeFits};
 ghost use Rattle.streams.specs.Shaped.{Shaped};
 
 use crate::job::Job;
-use laws::least;
-use pictures::planes;
-use pictures::planes::Shape;
-use std::num::wrapping_add_usize;
+use crate::planes::Planes;
+use pictures::planes::{Shape, area, copy, differing, pack};
 
 // Room for the planes of a frame of 512 by 512 at most.
 pub fn small_room() -> [u16; 786432] {
@@ -24,47 +22,48 @@ fn end_of(from: usize, s: Shape, n: usize) -> usize
     requires { ShapeFits s × (from ≤ n) }
     ensures { result ≤ n }
 {
-    from + least(planes::area(s.width, s.height), n - from)
+    from + area(s.width, s.height).min(n - from)
 }
 
 // A plane as it is, without its padding.
 fn keep_plane(plane: &[u16], was: &mut [u16], s: Shape)
     requires { ShapeFits s }
 {
-    planes::copy(plane, was);
-    planes::pack(was, s);
+    copy(plane, was);
+    pack(was, s);
 }
 
 // The planes as they are, without their padding.
-pub fn keep(y: &[u16], u: &[u16], v: &[u16], was: &mut [u16], j: Job<'_>)
+pub fn keep(frame: &Planes<'_>, was: &mut [u16], j: Job<'_>)
     requires { Shaped j }
 {
     let a = end_of(0, j.l, was.len());
     let b = end_of(a, j.c, was.len());
-    keep_plane(y, was, j.l);
-    keep_plane(u, &mut was[a..], j.c);
-    keep_plane(v, &mut was[b..], j.c);
+    keep_plane(&*frame.y, was, j.l);
+    keep_plane(&*frame.u, &mut was[a..], j.c);
+    keep_plane(&*frame.v, &mut was[b..], j.c);
 }
 
 // How many samples of a plane are not as they were.
 fn changed_in(plane: &[u16], was: &[u16], s: Shape) -> usize
     requires { ShapeFits s }
 {
-    planes::differing(plane, was, planes::area(s.width, s.height))
+    differing(plane, was, area(s.width, s.height))
 }
 
 // How many samples of a frame are not as they were.
-pub fn changed(y: &[u16], u: &[u16], v: &[u16], was: &[u16], j: Job<'_>) -> usize
+pub fn changed(frame: &Planes<'_>, was: &[u16], j: Job<'_>) -> usize
     requires { Shaped j }
 {
     let h = j.h;
     let layout = h.layout;
     let a = end_of(0, j.l, was.len());
     let b = end_of(a, j.c, was.len());
-    let n = changed_in(y, was, j.l);
+    let n = changed_in(&*frame.y, was, j.l);
     if !layout.chroma {
         return n;
     }
-    let m = wrapping_add_usize(changed_in(u, &was[a..], j.c), changed_in(v, &was[b..], j.c));
-    wrapping_add_usize(n, m)
+    let u = changed_in(&*frame.u, &was[a..], j.c);
+    let v = changed_in(&*frame.v, &was[b..], j.c);
+    n.wrapping_add(u).wrapping_add(v)
 }

@@ -16,8 +16,14 @@ pub mod take;
 // The cells that the settings keep.
 pub mod kept;
 
+// The planes of a frame.
+pub mod planes;
+
 // What is the same for every frame.
 pub mod job;
+
+// What deblocking stored and changed.
+pub mod counts;
 
 // A frame's line and its planes from the file.
 pub mod read;

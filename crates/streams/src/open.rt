@@ -1,131 +1,88 @@
 // The picture's file, and whether its header is good.
-ghost use Rattle.std.specs.Prelude.{◌≤◌, length};
+ghost use Rattle.std.specs.Prelude.{◌≤◌, length, IfOk};
 
-use crate::say;
+use crate::say::{Answered, cannot, expected};
 use pictures::files;
 use pictures::outside::twice;
 use std::fs::File;
 use std::rt::Files;
 use system::files::{Ends, Source, Target};
-use y4m::format::Layout;
 use y4m::header::{Header, read_header};
 
-// A line's length, 0 where it fills its buffer.
-fn short_of(n: usize, room: usize) -> usize
-    ensures { result ≤ n }
-{
-    if n == room { 0 } else { n }
-}
-
-// Whether a header's values are there; else after the answer that says what was expected.
-fn values_good(told: &Target, name: &[u8], h: Header) -> bool {
+// What a header's values lack.
+fn lacking(h: Header) -> Option<&'static [u8]> {
     let layout = h.layout;
     if !h.opens {
-        say::expected(told, name, 1, b"'YUV4MPEG2'");
-        return false;
+        return Some(b"'YUV4MPEG2'");
     }
     if h.width == 0 {
-        say::expected(told, name, 1, b"a width from 1 to 4096 after W");
-        return false;
+        return Some(b"a width from 1 to 4096 after W");
     }
     if h.height == 0 {
-        say::expected(told, name, 1, b"a height from 1 to 4096 after H");
-        return false;
+        return Some(b"a height from 1 to 4096 after H");
     }
     if layout.depth == 0 {
-        say::expected(
-            told,
-            name,
-            1,
-            b"420, 422, 444 or mono after C, of depth 8, 10 or 12",
-        );
-        return false;
+        return Some(b"420, 422, 444 or mono after C, of depth 8, 10 or 12");
     }
-    true
+    None
 }
 
-// Whether a line has no value twice; else after the answer.
-fn once_each(told: &Target, name: &[u8], head: &[u8]) -> bool {
+// Whether a line has a value twice.
+fn has_twice(head: &[u8]) -> bool {
     let n = head.len();
     if n == 0 {
-        return true;
+        return false;
     }
     let last = n - 1;
-    if twice(head, 87, last) || twice(head, 72, last) || twice(head, 67, last) {
-        say::expected(told, name, 1, b"one width, one height and one format");
-        return false;
-    }
-    true
+    twice(head, 87, last) || twice(head, 72, last) || twice(head, 67, last)
 }
 
-// What stands for a header that is bad.
-fn none() -> Header {
-    Header {
-        opens: false,
-        width: 0,
-        height: 0,
-        layout: Layout {
-            ssx: 0,
-            ssy: 0,
-            chroma: false,
-            depth: 0,
-        },
+// The header of a line; an error after the answer that says what was expected.
+fn header_of(told: &Target, name: &[u8], head: &[u8]) -> Result<Header, Answered>
+    requires { 1 ≤ length head.now }
+{
+    let h = read_header(head, head.len());
+    if let Some(what) = lacking(h) {
+        return Err(expected(told, name, 1, what));
     }
+    if has_twice(head) {
+        return Err(expected(told, name, 1, b"one width, one height and one format"));
+    }
+    Ok(h)
 }
 
-// The header of a line; one that does not open is bad, after the answer.
-fn header_of(told: &Target, name: &[u8], head: &[u8]) -> Header {
-    let n = head.len();
-    if n == 0 {
-        say::expected(
-            told,
-            name,
-            1,
-            b"'YUV4MPEG2' and a header of fewer than 1024 bytes",
-        );
-        return none();
-    }
-    let h = read_header(head, n);
-    if values_good(told, name, h) && once_each(told, name, head) {
-        return h;
-    }
-    none()
-}
-
-// A picture's file where it is open, the length of its first line, and its header.
+// A picture's file, the length of its first line, and its header.
 #[derive(Drop)]
 pub struct Opened {
-    pub from: Option<Source>,
+    pub from: Source,
     pub n: usize,
     pub h: Header,
 }
 
-// Opens a picture and reads its first line; its header does not open after the answer that says why. One that is too long counts as none.
+// Opens a picture and reads its first line; an error after the answer that says why not. A line that is empty or too long is none.
 pub fn open<R: Files<File = File>>(
     rt: &R,
     ends: Ends,
     told: &Target,
     name: &[u8],
     head: &mut [u8],
-) -> Opened
-    ensures { result.n ≤ length head.new }
+) -> Result<Opened, Answered>
+    ensures { IfOk result (λ p. p.n ≤ length head.new) }
 {
     let Some(from) = files::open_in(rt, ends, name) else {
-        say::cannot(told, name, b"the picture can't be read");
-        return Opened {
-            from: None,
-            n: 0,
-            h: none(),
-        };
+        return Err(cannot(told, name, b"the picture can't be read"));
     };
-    let line = files::read_line(&from, head);
-    let n = short_of(line.n, head.len());
-    let h = header_of(told, name, &head[..n]);
-    Opened {
-        from: Some(from),
-        n,
-        h,
+    let n = files::read_line(&from, head).unwrap_or(0);
+    if n == 0 {
+        return Err(expected(
+            told,
+            name,
+            1,
+            b"'YUV4MPEG2' and a header of fewer than 1024 bytes",
+        ));
     }
+    let h = header_of(told, name, &head[..n])?;
+    Ok(Opened { from, n, h })
 }
 
 // Whether no plane has more than 512 rows, or samples in a row.

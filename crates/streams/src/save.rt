@@ -2,71 +2,61 @@
 ghost use Rattle.streams.specs.Shaped.{Shaped};
 
 use crate::job::Job;
-use crate::say;
+use crate::planes::Planes;
+use crate::say::{Answered, unwritten};
 use pictures::planes;
+use std::io;
 use system::files::{Target, write_all};
 
 // Takes the padding out of the planes.
-pub fn pack(y: &mut [u16], u: &mut [u16], v: &mut [u16], j: Job<'_>)
+pub fn pack(frame: &mut Planes<'_>, j: Job<'_>)
     requires { Shaped j }
 {
-    planes::pack(y, j.l);
-    planes::pack(u, j.c);
-    planes::pack(v, j.c);
+    planes::pack(frame.y, j.l);
+    planes::pack(frame.u, j.c);
+    planes::pack(frame.v, j.c);
 }
 
 // A line and its newline to a file.
-pub fn write_line(to: &Target, line: &[u8]) -> bool {
-    write_all(to, line) && write_all(to, b"\n")
+pub fn write_line(to: &Target, line: &[u8]) -> io::Result<()> {
+    write_all(to, line)?;
+    write_all(to, b"\n")
 }
 
 // The planes to the file.
-fn write_planes(j: Job<'_>, y: &[u16], u: &[u16], v: &[u16]) -> bool
+fn write_planes(frame: &Planes<'_>, j: Job<'_>) -> io::Result<()>
     requires { Shaped j }
 {
     let h = j.h;
     let layout = h.layout;
     let wide = 8 < layout.depth;
-    if !planes::write_plane(j.to, y, j.l, wide) {
-        return false;
+    planes::write_plane(j.to, &*frame.y, j.l, wide)?;
+    if layout.chroma {
+        planes::write_plane(j.to, &*frame.u, j.c, wide)?;
+        planes::write_plane(j.to, &*frame.v, j.c, wide)?;
     }
-    if !layout.chroma {
-        return true;
-    }
-    if !planes::write_plane(j.to, u, j.c, wide) {
-        return false;
-    }
-    planes::write_plane(j.to, v, j.c, wide)
+    Ok(())
 }
 
-// The lines and the planes of frame k; the first one has the header before it.
-fn write_frame(
-    head: &[u8],
-    mark: &[u8],
-    j: Job<'_>,
-    k: usize,
-    y: &[u16],
-    u: &[u16],
-    v: &[u16],
-) -> bool
-    requires { Shaped j }
-{
-    if k == 0 && !write_line(j.to, head) {
-        return false;
+// The line of frame k; the first one has the header's before it.
+pub fn write_mark(mark: &[u8], j: Job<'_>, k: usize) -> io::Result<()> {
+    if k == 0 {
+        write_line(j.to, j.head)?;
     }
-    if !write_line(j.to, mark) {
-        return false;
-    }
-    write_planes(j, y, u, v)
+    write_line(j.to, mark)
 }
 
-// Writes frame k; false after the answer that it could not.
-pub fn save(head: &[u8], mark: &[u8], j: Job<'_>, k: usize, y: &[u16], u: &[u16], v: &[u16]) -> bool
+// The line and the planes of frame k.
+fn write_frame(frame: &Planes<'_>, mark: &[u8], j: Job<'_>, k: usize) -> io::Result<()>
     requires { Shaped j }
 {
-    if write_frame(head, mark, j, k, y, u, v) {
-        return true;
-    }
-    say::unwritten(j.told);
-    false
+    write_mark(mark, j, k)?;
+    write_planes(frame, j)
+}
+
+// Writes frame k; an error after the answer that it could not.
+pub fn save(frame: &Planes<'_>, mark: &[u8], j: Job<'_>, k: usize) -> Result<(), Answered>
+    requires { Shaped j }
+{
+    write_frame(frame, mark, j, k).map_err(|_| unwritten(j.told))
 }

@@ -1,14 +1,16 @@
 // The settings' text from its file into the lists of its numbers, and what is said of a line that is not as it should be.
 ghost use Rattle.std.specs.Prelude.{◌≤◌, length};
+ghost use Rattle.settings.specs.Lines.{Kept, Lent, lent};
 
-use crate::say::{at_line, words};
+use crate::say::{Answered, at_line, words};
 use crate::table::entry;
-use settings::file::{Fault, parse};
+use settings::file::{Fault, Settings, parse};
+use settings::kinds::{Expected, Kind};
 use system::files::{Source, Target, read_full};
 use text::place::{line_end, spaces, word_end};
 
 // A setting by its name.
-pub fn setting(told: &Target, kind: usize) {
+pub fn setting(told: &Target, kind: Kind) {
     entry(
         told,
         b"
@@ -35,29 +37,29 @@ offset_v
 tiles_y
 tiles_uv
 keep",
-        kind,
+        usize::from(kind),
     );
 }
 
 // Which numbers a setting has: a line of the table of `numbers_of`.
-fn sort_of(kind: usize) -> usize {
+fn sort_of(kind: Kind) -> usize {
     match kind {
-        2 => 0,
-        3 => 1,
-        4 | 5 | 6 => 2,
-        7 | 8 => 3,
-        9 | 10 => 4,
-        11 => 5,
-        12 | 13 | 14 => 6,
-        15 | 16 | 17 => 7,
-        21 | 22 => 9,
-        23 => 10,
+        Kind::Qindex => 0,
+        Kind::Steps => 1,
+        Kind::Leaf | Kind::LeafUv | Kind::Skip => 2,
+        Kind::DeltaY | Kind::DeltaUv => 3,
+        Kind::CapY | Kind::CapUv => 4,
+        Kind::Chroma => 5,
+        Kind::CcsoY | Kind::CcsoU | Kind::CcsoV => 6,
+        Kind::FlagsY | Kind::FlagsU | Kind::FlagsV => 7,
+        Kind::TilesY | Kind::TilesUv => 9,
+        Kind::Keep => 10,
         _ => 8,
     }
 }
 
 // The numbers of a setting.
-fn numbers_of(told: &Target, kind: usize) {
+fn numbers_of(told: &Target, kind: Kind) {
     entry(
         told,
         b"numbers from 0 to 65535, one for each superblock, 4096 at most
@@ -96,11 +98,11 @@ fn say_unknown(told: &Target, name: &[u8], text: &[u8], at: usize, line: usize) 
 }
 
 // What the settings file should have said.
-fn expected_setting(told: &Target, name: &[u8], line: usize, kind: usize) {
+fn expected_setting(told: &Target, name: &[u8], line: usize, kind: Kind) {
     at_line(told, name, line);
     words(told, b"'");
     setting(told, kind);
-    if kind == 1 {
+    if kind == Kind::Version {
         words(told, b" 1' before any other setting\n");
         return;
     }
@@ -109,33 +111,25 @@ fn expected_setting(told: &Target, name: &[u8], line: usize, kind: usize) {
     words(told, b"\n");
 }
 
-// Whether a text has no fault; else after the answer that says what is wrong.
-fn faultless(told: &Target, name: &[u8], text: &[u8], fault: Fault) -> bool {
-    if fault.kind == 0 {
-        return true;
+// The answer on a line that is not as it should be.
+fn say_fault(told: &Target, name: &[u8], text: &[u8], fault: Fault) -> Answered {
+    let place = fault.place;
+    match fault.expected {
+        Expected::Name => say_unknown(told, name, text, place.at, place.line),
+        Expected::Setting(kind) => expected_setting(told, name, place.line, kind),
     }
-    if fault.kind == 24 {
-        say_unknown(told, name, text, fault.at, fault.line);
-    } else {
-        expected_setting(told, name, fault.line, fault.kind);
-    }
-    false
+    Answered
 }
 
-// A text into the lists; false after the answer that says what is wrong.
-pub fn take(
-    told: &Target,
-    name: &[u8],
-    text: &[u8],
-    numbers: &mut [i32],
-    shorts: &mut [u16],
-    steps: &mut [u32],
-    flags: &mut [u8],
-    offsets: &mut [i8],
-    places: &mut [usize; 24],
-) -> bool {
-    let fault = parse(text, numbers, shorts, steps, flags, offsets, places);
-    faultless(told, name, text, fault)
+// A text into the lists; an error after the answer that says what is wrong.
+pub fn take(told: &Target, name: &[u8], text: &[u8], s: &mut Settings<'_>) -> Result<(), Answered>
+    ensures lent { Lent s.old s.new }
+    ensures kept { Kept (lent s.old).lists (lent s.new).lists }
+{
+    match parse(text, s) {
+        Ok(_) => Ok(()),
+        Err(fault) => Err(say_fault(told, name, text, fault)),
+    }
 }
 
 // The front of a text to where it is to stand; how long it is.

@@ -34,17 +34,10 @@ pub enum Target {
     Shut,
 }
 
-fn read_input(input: Stdin, buf: &mut [u8]) -> io::Result<usize>
+fn read_by<R: Read + Copy>(from: R, buf: &mut [u8]) -> io::Result<usize>
     ensures { ReadsAtMost result buf.new }
 {
-    let mut from = input;
-    from.read(buf)
-}
-
-fn read_file(file: &File, buf: &mut [u8]) -> io::Result<usize>
-    ensures { ReadsAtMost result buf.new }
-{
-    let mut from = file;
+    let mut from = from;
     from.read(buf)
 }
 
@@ -52,29 +45,15 @@ fn read_source(from: &Source, buf: &mut [u8]) -> io::Result<usize>
     ensures { ReadsAtMost result buf.new }
 {
     match from {
-        Source::Input(input) => read_input(*input, buf),
-        Source::File(file) => read_file(file, buf),
+        Source::Input(input) => read_by(*input, buf),
+        Source::File(file) => read_by(file, buf),
     }
 }
 
-fn write_output(output: Stdout, bytes: &[u8]) -> io::Result<usize>
+fn write_by<W: Write + Copy>(to: W, bytes: &[u8]) -> io::Result<usize>
     ensures { WritesAtMost result bytes.now }
 {
-    let mut to = output;
-    to.write(bytes)
-}
-
-fn write_errors(errors: Stderr, bytes: &[u8]) -> io::Result<usize>
-    ensures { WritesAtMost result bytes.now }
-{
-    let mut to = errors;
-    to.write(bytes)
-}
-
-fn write_file(file: &File, bytes: &[u8]) -> io::Result<usize>
-    ensures { WritesAtMost result bytes.now }
-{
-    let mut to = file;
+    let mut to = to;
     to.write(bytes)
 }
 
@@ -82,9 +61,9 @@ fn write_target(to: &Target, bytes: &[u8]) -> io::Result<usize>
     ensures { WritesAtMost result bytes.now }
 {
     match to {
-        Target::Output(output) => write_output(*output, bytes),
-        Target::Errors(errors) => write_errors(*errors, bytes),
-        Target::File(file) => write_file(file, bytes),
+        Target::Output(output) => write_by(*output, bytes),
+        Target::Errors(errors) => write_by(*errors, bytes),
+        Target::File(file) => write_by(file, bytes),
         Target::Shut => Err(io::Error::from(io::ErrorKind::NotFound)),
     }
 }
@@ -114,35 +93,26 @@ pub fn read_full(from: &Source, buf: &mut [u8]) -> usize
     bytes::read_full(&mut source, buf)
 }
 
-// Writes all of some bytes; false where they can't be written whole.
-pub fn write_all(to: &Target, text: &[u8]) -> bool {
+// Writes all of some bytes; an error where they can't be written whole.
+pub fn write_all(to: &Target, text: &[u8]) -> io::Result<()> {
     let mut target = to;
     bytes::write_all(&mut target, text)
 }
 
-// Writes a number's decimal digits; false where they can't be written whole.
-pub fn print_decimal(to: &Target, n: u64) -> bool {
+// Writes a number's decimal digits; an error where they can't be written whole.
+pub fn print_decimal(to: &Target, n: u64) -> io::Result<()> {
     let mut target = to;
     bytes::print_decimal(&mut target, n)
 }
 
 // A file by its name, opened so; none where it can't be opened, or where its name is no text.
 fn by_name<R: Files<File = File>>(rt: &R, how: &OpenOptions, name: &[u8]) -> Option<File> {
-    let Ok(path) = from_utf8(name) else {
-        return None;
-    };
-    match how.open(rt, path) {
-        Ok(file) => Some(file),
-        Err(_) => None,
-    }
+    how.open(rt, from_utf8(name).ok()?).ok()
 }
 
 // Whether a name is '-', which stands for what is open already.
 fn is_dash(name: &[u8]) -> bool {
-    if name.len() != 1 {
-        return false;
-    }
-    name[0] == 45
+    name == b"-".as_slice()
 }
 
 // A file to read: standard input for '-'.
@@ -181,31 +151,30 @@ pub fn answers<R: Files<File = File>>(rt: &R, ends: Ends, out: &[u8]) -> Target 
     }
 }
 
-// Whether all that was written to a regular file is on its disk; what is none has no disk.
-fn is_kept(file: &File) -> bool {
-    match file.metadata() {
-        Ok(m) => !m.is_file() || file.sync_data().is_ok(),
-        Err(_) => false,
+// Brings all that was written to a regular file to its disk; what is none has no disk.
+fn keep_file(file: &File) -> io::Result<()> {
+    if file.metadata()?.is_file() {
+        file.sync_data()?;
     }
+    Ok(())
 }
 
-// Whether all that was written is kept: a regular file's on its disk.
-pub fn kept(to: &Target) -> bool {
+// Brings all that was written to where it is kept: a regular file's to its disk.
+pub fn keep(to: &Target) -> io::Result<()> {
     match to {
-        Target::Output(_) | Target::Errors(_) => true,
-        Target::File(file) => is_kept(file),
-        Target::Shut => false,
+        Target::Output(_) | Target::Errors(_) => Ok(()),
+        Target::File(file) => keep_file(file),
+        Target::Shut => Err(io::Error::from(io::ErrorKind::NotFound)),
     }
 }
 
-// Word k that the program was started with, to the front of a buffer; how long it is, 0 where there is none or it does not fit.
-pub fn word<R: Env>(rt: &R, k: usize, buf: &mut [u8]) -> usize
-    ensures { result ≤ length buf.new }
-{
-    match rt.arg(k, buf) {
-        Ok(n) => n,
-        Err(_) => 0,
+// Word k that the program was started with, at the front of a buffer; none where there is none, it is empty or it does not fit.
+pub fn word<'b, R: Env>(rt: &R, k: usize, buf: &'b mut [u8]) -> Option<&'b [u8]> {
+    let n = rt.arg(k, buf).ok()?;
+    if n == 0 {
+        return None;
     }
+    Some(&buf[..n])
 }
 
 // Whether standard error is a terminal.

@@ -1,10 +1,14 @@
 -- How a count's parts, as the code finds them, make the count. Assumes nothing.
 use Rattle.std.proofs.Common.{◌≡◌, ℕ, ◌<◌, ◌≤◌, Bool, true, false, not, eqb, ltb, get_or, set, sym, refl, ap, ◌∙◌, rules}
+use mathlib.Core.Logic.{◌⊎◌, inl, inr}
 use borrow.Author.Tests.{not-true, not-false}
-use Rattle.laws.specs.Choose.{pick_yes, pick_no, both_bad, both_ok, is_lt, not_lt, is_eq, not_eq}
+use Rattle.laws.specs.Choose.{both, pick_yes, pick_no, both_bad, both_ok, is_lt, not_lt, is_eq, not_eq}
 use Rattle.rules.specs.Refusals.{number_of, place_refused}
 use Rattle.rules.specs.declared.refusals.Refusal.{Refusal}
-use Rattle.rules.specs.declared.refusals.PlaneAnswer.{PlaneAnswer}
+use Rattle.std.specs.declared.result.Result.{Result}
+use Rattle.rules.specs.declared.counts.Counts.{Counts}
+use Rattle.rules.specs.Refusals.{Answer}
+use Rattle.std.specs.declared.result.Result.TheVariants.{Ok, Err}
 use Rattle.tally.specs.declared.Tally.{Tally}
 use Rattle.tally.specs.Counts.{next_of, bumped, counts, unread_more, no_case, different_more, number_more, case_more, width_more, is_refusal, is_answer, is_counted}
 
@@ -12,13 +16,13 @@ pub unread_counted : (t : Tally) (v : ℕ) → v ≡ next_of t.unread → counts
 unfolding unread_more
 unread_counted t v e = ap (λ (x : ℕ). counts t.numbers t.widths t.different x) e
 
-pub line_read : (t : Tally) (b : Bool) → b ≡ true → t ≡ no_case t b
+pub line_read : (t : Tally) (b : Bool) → not b ≡ false → t ≡ no_case t b
 unfolding no_case
-line_read t b e = pick_yes _ _ _ _ (sym e) refl
+line_read t b e = pick_yes _ _ _ _ (sym (not-false b e)) refl
 
-pub line_unread : (t r : Tally) (b : Bool) → b ≡ false → r ≡ unread_more t → r ≡ no_case t b
+pub line_unread : (t r : Tally) (b : Bool) → not b ≡ true → r ≡ unread_more t → r ≡ no_case t b
 unfolding no_case
-line_unread t r b e f = pick_no _ _ _ _ (sym e) f
+line_unread t r b e f = pick_no _ _ _ _ (sym (not-true b e)) f
 
 pub number_counted : (t : Tally) (n v : ℕ) → n < 21 → v ≡ next_of (get_or t.numbers n 0)
     → counts (set t.numbers n v) t.widths t.different t.unread ≡ number_more t n
@@ -61,18 +65,31 @@ pub refusal_placed : (r : Refusal) (m n p k : ℕ) → m ≡ number_of r → m �
 unfolding is_refusal
 refusal_placed r m n p k e f g = both_ok _ _ _ (is_eq (number_of r) n (sym e ∙ f)) (ap (λ (x : ℕ). eqb x k) g)
 
--- another count, and both counts: then the answer decides
-pub stored_other : (a : PlaneAnswer) (n k s t : ℕ) → (a.stored ≡ s → ⊥) → false ≡ is_counted a n k s t
-unfolding is_counted
-stored_other a n k s t h = both_bad _ _ (not_eq a.stored s h)
+-- both counts: then the answer decides; and another count
+both_counts : (a : Answer) (x y n k s t : ℕ) {b : Bool} → (x ≡ s) × (y ≡ t) → b ≡ is_answer a n k → b ≡ both (eqb x s) (both (eqb y t) (is_answer a n k))
+both_counts a x y n k s t p e = both_ok _ _ _ (is_eq x s p.0) (both_ok _ _ _ (is_eq y t p.1) e)
 
-pub changed_other : (a : PlaneAnswer) (n k s t : ℕ) → a.stored ≡ s → (a.changed ≡ t → ⊥) → false ≡ is_counted a n k s t
-unfolding is_counted
-changed_other a n k s t e h = both_ok _ _ _ (is_eq a.stored s e) (both_bad _ _ (not_eq a.changed t h))
+other_count : (a : Answer) (x y n k s t : ℕ) {b : Bool} → b ≡ false → ((x ≡ s) × (y ≡ t → ⊥)) ⊎ (x ≡ s → ⊥) → b ≡ both (eqb x s) (both (eqb y t) (is_answer a n k))
+other_count a x y n k s t off (inl p) = off ∙ both_ok _ _ _ (is_eq x s p.0) (both_bad _ _ (not_eq y t p.1))
+other_count a x y n k s t off (inr h) = off ∙ both_bad _ _ (not_eq x s h)
 
-pub counts_same : (a : PlaneAnswer) (n k s t : ℕ) (b : Bool) → a.stored ≡ s → a.changed ≡ t → b ≡ is_answer a.answer n k → b ≡ is_counted a n k s t
-unfolding is_counted
-counts_same a n k s t b e f h = both_ok _ _ _ (is_eq a.stored s e) (both_ok _ _ _ (is_eq a.changed t f) h)
+module _ {a : Result Counts Refusal} (n k s t : ℕ) {b : Bool} where
+  pub accepted_same : {c : Counts} → a ≡ Ok c → (c.stored ≡ s) × (c.changed ≡ t) → b ≡ eqb n 0 → b ≡ is_counted a n k s t
+  unfolding is_counted is_answer
+  accepted_same {c} e p h = rw e (both_counts (Ok tt) c.stored c.changed n k s t p h)
+
+  pub accepted_other : {c : Counts} → a ≡ Ok c → b ≡ false → ((c.stored ≡ s) × (c.changed ≡ t → ⊥)) ⊎ (c.stored ≡ s → ⊥) → b ≡ is_counted a n k s t
+  unfolding is_counted
+  accepted_other {c} e off h = rw e (other_count (Ok tt) c.stored c.changed n k s t off h)
+
+  pub refused_same : {r : Refusal} → a ≡ Err r → (s ≡ 0) × (t ≡ 0) → b ≡ is_refusal r n k → b ≡ is_counted a n k s t
+  unfolding is_counted is_answer
+  refused_same {r} e p h = rw e (both_counts (Err r) 0 0 n k s t (sym p.0, sym p.1) h)
+
+  pub refused_other : {r : Refusal} → a ≡ Err r → b ≡ false → ((s ≡ 0) × (t ≡ 0 → ⊥)) ⊎ (s ≡ 0 → ⊥) → b ≡ is_counted a n k s t
+  unfolding is_counted
+  refused_other {r} e off (inl p) = rw e (other_count (Err r) 0 0 n k s t off (inl (sym p.0, λ h. p.1 (sym h))))
+  refused_other {r} e off (inr h) = rw e (other_count (Err r) 0 0 n k s t off (inr (λ e. h (sym e))))
 
 pub ruleset counting =
-    (rules, unread_counted, line_read, line_unread, number_counted, number_unknown, case_same, case_different, width_counted, width_unknown, refusal_other, refusal_placed, stored_other, changed_other, counts_same)
+    (rules, unread_counted, line_read, line_unread, number_counted, number_unknown, case_same, case_different, width_counted, width_unknown, refusal_other, refusal_placed)

@@ -1,12 +1,14 @@
 -- What is counted of a case, and when an answer is the stream's. Assumes nothing.
-use Rattle.std.specs.Prelude.{ℕ, ◌+◌, ◌%◌, ◌^◌, Bool, List, [], ◌∷◌, ◌==◌, nat_lt, slice_index, slice_set}
+use Rattle.std.specs.Prelude.{ℕ, ◌+◌, ◌%◌, ◌^◌, Bool, List, [], ◌∷◌, ◌==◌, Option, None, Some, nat_lt, slice_index, slice_set}
 use Rattle.laws.specs.Choose.{pick, both}
 use Rattle.rules.specs.Refusals.{number_of, place_refused}
 use Rattle.rules.specs.declared.refusals.Refusal.{Refusal}
-use Rattle.rules.specs.declared.refusals.Answer.{Answer}
-use Rattle.rules.specs.declared.refusals.Answer.TheVariants.{Accepted, Refused}
-use Rattle.rules.specs.declared.refusals.PlaneAnswer.{PlaneAnswer}
+use Rattle.rules.specs.Refusals.{Answer, answered, stored_in, changed_in}
+use Rattle.std.specs.declared.result.Result.TheVariants.{Ok, Err}
+use Rattle.std.specs.declared.result.Result.{Result}
+use Rattle.rules.specs.declared.counts.Counts.{Counts}
 use Rattle.tally.specs.declared.Tally.{Tally}
+use Rattle.tally.specs.declared.Outcome.{Outcome}
 
 -- a count and one more, as 64 bits hold it
 unfoldable pub next_of : ℕ → ℕ
@@ -42,15 +44,25 @@ case_more t n same = pick same (number_more t n) (different_more (number_more t 
 unfoldable pub width_more : Tally → ℕ → Tally
 width_more t w = pick (nat_lt w 9) (counts t.numbers (bumped t.widths w) t.different t.unread) t
 
+-- a width more, where there is one
+unfoldable pub some_width_more : Tally → Option ℕ → Tally
+some_width_more t None = t
+some_width_more t (Some w) = width_more t w
+
+-- a line more, and how its case came out if it could be read
+unfoldable pub line_more : Tally → Option Outcome → Tally
+line_more t None = unread_more t
+line_more t (Some o) = some_width_more (case_more t o.number o.same) o.width
+
 -- a refusal has this number and this place
 unfoldable pub is_refusal : Refusal → ℕ → ℕ → Bool
 is_refusal r n k = both (number_of r == n) (place_refused r == k)
 
 -- an answer is what the stream says: accepted where the number is 0
 unfoldable pub is_answer : Answer → ℕ → ℕ → Bool
-is_answer Accepted n k = n == 0
-is_answer (Refused r) n k = is_refusal r n k
+is_answer (Ok tt) n k = n == 0
+is_answer (Err r) n k = is_refusal r n k
 
 -- an answer with its counts is what the stream says
-unfoldable pub is_counted : PlaneAnswer → ℕ → ℕ → ℕ → ℕ → Bool
-is_counted a n k stored changed = both (a.stored == stored) (both (a.changed == changed) (is_answer a.answer n k))
+unfoldable pub is_counted : Result Counts Refusal → ℕ → ℕ → ℕ → ℕ → Bool
+is_counted a n k stored changed = both (stored_in a == stored) (both (changed_in a == changed) (is_answer (answered a) n k))

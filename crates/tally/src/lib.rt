@@ -1,14 +1,13 @@
 // What a replay of recorded cases counts, and what it prints: the programs run_* speak through it, and oracle/compare reads it.
 #![tactic(auto)]
 
-ghost use Rattle.std.specs.Prelude.{◌≡◌};
-ghost use Rattle.tally.specs.Counts.{next_of, no_counts, unread_more, no_case, number_more, case_more, width_more, is_refusal, is_answer, is_counted};
+ghost use Rattle.std.specs.Prelude.{◌≡◌, IsNone};
+ghost use Rattle.tally.specs.Counts.{next_of, no_counts, unread_more, no_case, number_more, case_more, width_more, line_more, is_refusal, is_answer, is_counted};
 
+use rules::counts::Counts;
 use rules::refusals;
-use rules::refusals::{Answer, PlaneAnswer, Refusal};
-use std::io::Write;
-use std::num::wrapping_add_u64;
-use system::bytes::{print_decimal, write_all};
+use rules::refusals::Refusal;
+use std::fmt;
 
 // Cases by the refusal number that the stream gives them, 0 for none; accepted segments by their width; cases that differ; lines that can't be read.
 #[derive(Clone, Copy)]
@@ -19,14 +18,27 @@ pub struct Tally {
     pub unread: u64,
 }
 
-pub fn none() -> Tally
-    ensures { result ≡ no_counts }
-{
-    Tally {
-        numbers: [0; 21],
-        widths: [0; 9],
-        different: 0,
-        unread: 0,
+// How a case came out: the refusal's number that the stream gives it, 0 for none; whether its answer and its lists were the stream's; the width of an accepted segment.
+// The number stays one: it is the stream's own, and `case_more` counts by it.
+#[derive(Clone, Copy)]
+pub struct Outcome {
+    pub number: usize,
+    pub same: bool,
+    pub width: Option<usize>,
+}
+
+impl Outcome {
+    // How a case came out that has no width.
+    pub fn new(number: usize, same: bool) -> Outcome
+        ensures number { result.number ≡ number }
+        ensures same { result.same ≡ same }
+        ensures width { IsNone result.width }
+    {
+        Outcome {
+            number,
+            same,
+            width: None,
+        }
     }
 }
 
@@ -34,60 +46,82 @@ pub fn none() -> Tally
 fn next(n: u64) -> u64
     ensures { result ≡ next_of n }
 {
-    wrapping_add_u64(n, 1)
+    n.wrapping_add(1)
 }
 
-// A line more that can't be read.
-pub fn unread(before: Tally) -> Tally
-    ensures { result ≡ unread_more before }
-{
-    let mut t = before;
-    t.unread = next(t.unread);
-    t
-}
-
-// A line that is no case: it counts where it can't be read.
-pub fn no_case(before: Tally, read: bool) -> Tally
-    ensures { result ≡ no_case before read }
-{
-    if read {
-        return before;
+impl Tally {
+    pub fn new() -> Tally
+        ensures { result ≡ no_counts }
+    {
+        Tally {
+            numbers: [0; 21],
+            widths: [0; 9],
+            different: 0,
+            unread: 0,
+        }
     }
-    unread(before)
-}
 
-// One case more, by its refusal's number, 0 for none.
-fn count(before: Tally, number: usize) -> Tally
-    ensures { result ≡ number_more before number }
-{
-    let mut t = before;
-    if number < 21 {
-        t.numbers[number] = next(t.numbers[number]);
-        return t;
+    // A line more that can't be read.
+    pub fn count_unread(&mut self)
+        ensures { self.new ≡ unread_more self.old }
+    {
+        self.unread = next(self.unread);
     }
-    unread(t)
-}
 
-// One case more, and whether its answer and its lists were the stream's.
-pub fn case(before: Tally, number: usize, same: bool) -> Tally
-    ensures { result ≡ case_more before number same }
-{
-    let mut t = count(before, number);
-    if !same {
-        t.different = next(t.different);
+    // A line that is no case: it counts where it can't be read.
+    pub fn count_no_case(&mut self, read: bool)
+        ensures { self.new ≡ no_case self.old read }
+    {
+        if !read {
+            self.count_unread();
+        }
     }
-    t
-}
 
-// The width of an accepted segment.
-pub fn width(before: Tally, samples: usize) -> Tally
-    ensures { result ≡ width_more before samples }
-{
-    let mut t = before;
-    if samples < 9 {
-        t.widths[samples] = next(t.widths[samples]);
+    // One case more, by its refusal's number, 0 for none.
+    fn count_number(&mut self, number: usize)
+        ensures { self.new ≡ number_more self.old number }
+    {
+        if number < 21 {
+            self.numbers[number] = next(self.numbers[number]);
+        } else {
+            self.count_unread();
+        }
     }
-    t
+
+    // One case more, and whether its answer and its lists were the stream's.
+    pub fn count_case(&mut self, number: usize, same: bool)
+        ensures { self.new ≡ case_more self.old number same }
+    {
+        self.count_number(number);
+        if !same {
+            self.different = next(self.different);
+        }
+    }
+
+    // The width of an accepted segment.
+    pub fn count_width(&mut self, samples: usize)
+        ensures { self.new ≡ width_more self.old samples }
+    {
+        if samples < 9 {
+            self.widths[samples] = next(self.widths[samples]);
+        }
+    }
+
+    // One line more: how its case came out, if it could be read.
+    pub fn count(&mut self, line: Option<Outcome>)
+        ensures { self.new ≡ line_more self.old line }
+    {
+        match line {
+            None => self.count_unread(),
+            Some(o) => {
+                self.count_case(o.number, o.same);
+                match o.width {
+                    None => {}
+                    Some(samples) => self.count_width(samples),
+                }
+            }
+        }
+    }
 }
 
 // Whether a refusal has this number and place.
@@ -101,18 +135,18 @@ pub fn refused(r: Refusal, number: usize, place: usize) -> bool
 }
 
 // Whether an answer is the refusal of this number and place, or accepts where the number is 0.
-pub fn same(answer: Answer, number: usize, place: usize) -> bool
+pub fn same(answer: Result<(), Refusal>, number: usize, place: usize) -> bool
     ensures { result ≡ is_answer answer number place }
 {
     match answer {
-        Answer::Accepted => number == 0,
-        Answer::Refused(r) => refused(r, number, place),
+        Ok(()) => number == 0,
+        Err(r) => refused(r, number, place),
     }
 }
 
 // Whether a plane's or a frame's answer is this one, with both counts.
 pub fn same_counted(
-    a: PlaneAnswer,
+    a: Result<Counts, Refusal>,
     number: usize,
     place: usize,
     stored: usize,
@@ -120,59 +154,40 @@ pub fn same_counted(
 ) -> bool
     ensures { result ≡ is_counted a number place stored changed }
 {
-    let answer = a.answer;
-    if a.stored != stored {
-        return false;
-    }
-    if a.changed != changed {
-        return false;
-    }
-    same(answer, number, place)
-}
-
-// A number after its name.
-fn part<W: Write>(to: &mut W, name: &[u8], value: u64) {
-    write_all(to, name);
-    print_decimal(to, value);
-}
-
-// A refusal number and its count: document 01's always, a ticket's where it was given.
-fn print_number<W: Write>(to: &mut W, k: usize, n: u64) {
-    if 9 < k && n == 0 {
-        return;
-    }
-    part(to, b", by ", k as u64);
-    part(to, b": ", n);
-}
-
-fn print_numbers<W: Write>(to: &mut W, n: [u64; 21]) {
-    part(to, b"accepted ", n[0]);
-    part(to, b", refused by 1: ", n[1]);
-    for k in 2..21 {
-        print_number(to, k, n[k]);
+    match a {
+        Ok(n) => n.stored == stored && n.changed == changed && number == 0,
+        Err(r) => stored == 0 && changed == 0 && refused(r, number, place),
     }
 }
 
-// How the cases came out, in one line.
-pub fn print<W: Write>(to: &mut W, t: Tally) {
-    let n = t.numbers;
-    print_numbers(to, n);
-    part(to, b"; different ", t.different);
-    part(to, b", unread ", t.unread);
-    write_all(to, b"\n");
+// How the cases came out: of document 01's refusals each number and its count, of a ticket's where it was given.
+impl fmt::Display for Tally {
+    fn fmt<W: fmt::Write>(&self, f: &mut fmt::Formatter<W>) -> fmt::Result {
+        let n = &self.numbers;
+        write!(f, "accepted {}, refused by 1: {}", n[0], n[1])?;
+        // by index, since the first two are printed otherwise and a ticket's only where there are any
+        for k in 2..21 {
+            if k < 10 || n[k] != 0 {
+                write!(f, ", by {k}: {}", n[k])?;
+            }
+        }
+        write!(f, "; different {}, unread {}", self.different, self.unread)
+    }
 }
 
-// How often each width was reached, in one line.
-pub fn print_widths<W: Write>(to: &mut W, t: Tally) {
-    let w = t.widths;
-    part(to, b"width 0: ", w[0]);
-    part(to, b", 1: ", w[1]);
-    part(to, b", 2: ", w[2]);
-    part(to, b", 3: ", w[3]);
-    part(to, b", 4: ", w[4]);
-    part(to, b", 5: ", w[5]);
-    part(to, b", 6: ", w[6]);
-    part(to, b", 7: ", w[7]);
-    part(to, b", 8: ", w[8]);
-    write_all(to, b"\n");
+// How often each width was reached.
+#[derive(Clone, Copy)]
+pub struct Widths {
+    pub counts: [u64; 9],
+}
+
+impl fmt::Display for Widths {
+    fn fmt<W: fmt::Write>(&self, f: &mut fmt::Formatter<W>) -> fmt::Result {
+        write!(f, "width 0: {}", self.counts[0])?;
+        // by index, since the first is printed otherwise
+        for k in 1..9 {
+            write!(f, ", {k}: {}", self.counts[k])?;
+        }
+        Ok(())
+    }
 }

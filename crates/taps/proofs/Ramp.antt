@@ -1,15 +1,14 @@
 -- Demand 3 is a law of the taps: each W lies near 256/(2s+1), within e.
 -- Assumes nothing.
-use Rattle.std.proofs.Common.{◌≡◌, ℕ, zero, suc, ◌+◌, ◌-◌, ◌*◌, ◌/◌, ◌<◌, ◌≤◌, min, Bool, T, leb, length, get_or, ℤ, pos, negsuc, ◌+ℤ◌, ◌-ℤ◌, ◌*ℤ◌, nat_abs, sym, refl, ap, ◌∙◌, subst, mul_assoc, mul_comm, mul-le-mul_left, mul-zero, mul-add, mul_left_comm, arith, leb→le}
+use Rattle.std.proofs.Common.{◌≡◌, ℕ, suc, ◌+◌, ◌-◌, ◌*◌, ◌/◌, ◌<◌, ◌≤◌, min, ℤ, pos, negsuc, ◌∙◌, mul_assoc, mul_comm, mul-le-mul_left, mul-zero, mul-add, mul_left_comm, arith, leb→le}
 use native.Mathlib.Decide.{dec_le}
-use lib.IntN.{sub_ℕ}
-use Rattle.laws.specs.Whole.{Is, recast, self, over, under, count, limit_is, limit}
-use Rattle.laws.proofs.Operations.{minus, plus, times, limit_plus, limit_minus}
+use Rattle.laws.specs.Whole.{Is, self, count, limit_is}
+use Rattle.laws.proofs.Operations.{minus, plus, times}
 use Rattle.laws.specs.Table.{at}
-use Rattle.rules.specs.Taps.{weights, weight_of, move, before, after}
+use Rattle.rules.specs.Taps.{weights, weight_of, before, after}
 use Rattle.taps.proofs.Signs.{before_count, after_count}
 use Rattle.taps.specs.Weights.{near_unit}
-use Rattle.rules.specs.Ramp.{apart, errors, error_of, unit, ramp_before, ramp_after, Near}
+use Rattle.rules.specs.Ramp.{apart, error_of, unit, ramp_before, ramp_after, Near}
 
 -- each W times 2s+1 is within e of 256: one computed test
 pub weights_near : (s : ℕ) → 1 ≤ s → s ≤ 8 → apart (weight_of s * (2 * s + 1)) 256 ≤ error_of s

@@ -1,10 +1,10 @@
 -- D and the moves as counts: what the code computes, and that it is what rules' limited, before and after say.
 -- Assumes nothing.
-use Rattle.std.proofs.Common.{◌≡◌, ℕ, zero, suc, ◌+◌, ◌-◌, ◌*◌, ◌/◌, ◌<◌, ◌≤◌, min, Bool, true, false, ltb, ℤ, pos, negsuc, ◌+ℤ◌, ◌-ℤ◌, ◌*ℤ◌, neg_ℤ, sym, refl, ap, ◌∙◌, mul_assoc, arith, rules, ltb-false, ltb-true}
+use Rattle.std.proofs.Common.{◌≡◌, ℕ, ◌+◌, ◌-◌, ◌*◌, ◌/◌, ◌<◌, ◌≤◌, min, Bool, true, false, not, ltb, ℤ, pos, ◌+ℤ◌, ◌-ℤ◌, ◌*ℤ◌, sym, refl, ap, ◌∙◌, mul_assoc, arith, ltb-false, ltb-true}
 use Rattle.laws.specs.Whole.{Is, same, recast, count, neg, within, limit}
 use Rattle.laws.proofs.Operations.{minus, plus, scale, times, within_is, limit_plus, limit_minus}
 use Rattle.rules.specs.Taps.{weight_of, difference, rounded, before, after}
-use Rattle.taps.specs.Signed.{signed, along, against}
+use Rattle.taps.specs.Signed.{signed, along, against, size_of, shift_of}
 
 -- ---- a sign and a size as a difference of counts
 pub plus_is : (n : ℕ) → Is (signed true n) n 0
@@ -92,18 +92,30 @@ module _ (top x s i : ℕ) (d : ℤ) {u v : ℕ} (h : Is d u v) where
   pub after_count : after top x d s i ≡ min ((2048 * x + 1023 + v * (weight_of s * (s - i)) - u * (weight_of s * (s - i))) / 2048) top
   after_count = limit_minus top x _ (plus _ _ (times d (weight_of s * (s - i)) h) (count 1024)) ∙ omega arith
 
--- ---- the four arms of the code
-module _ (top x n : ℕ) {m r : ℕ} {b : Bool} where
-  pub up_before : b ≡ true → m ≡ (1024 + n) / 2048 → r ≡ min (x + m) top → r ≡ along top x b n
-  up_before t e h = rw (t, along_plus top x n) (omega arith)
+-- ---- the code's sample: the size of the move, rounded, then up or down
+pub along_shift : (top x n : ℕ) (b : Bool) {m r : ℕ} → m ≡ size_of b n → r ≡ shift_of top x b m → r ≡ along top x b n
+unfolding size_of shift_of
+along_shift top x n true e h = rw (along_plus top x n) (omega arith)
+along_shift top x n false e h = rw (along_minus top x n) (omega arith)
 
-  pub down_before : b ≡ false → m ≡ (1023 + n) / 2048 → r ≡ min (x - m) top → r ≡ along top x b n
-  down_before t e h = rw (t, along_minus top x n) (omega arith)
+pub against_shift : (top x n : ℕ) (b : Bool) {m r : ℕ} → m ≡ size_of b n → r ≡ shift_of top x (not b) m → r ≡ against top x b n
+unfolding size_of shift_of
+against_shift top x n true e h = rw (against_plus top x n) (omega arith)
+against_shift top x n false e h = rw (against_minus top x n) (omega arith)
 
-  pub down_after : b ≡ true → m ≡ (1024 + n) / 2048 → r ≡ min (x - m) top → r ≡ against top x b n
-  down_after t e h = rw (t, against_plus top x n) (omega arith)
+-- by which way a test of the sign says
+pub raised : (top x m : ℕ) {b : Bool} {r : ℕ} → b ≡ true → r ≡ min (x + m) top → r ≡ shift_of top x b m
+unfolding shift_of
+raised top x m t h = rw t h
 
-  pub up_after : b ≡ false → m ≡ (1023 + n) / 2048 → r ≡ min (x + m) top → r ≡ against top x b n
-  up_after t e h = rw (t, against_minus top x n) (omega arith)
+pub lowered : (top x m : ℕ) {b : Bool} {r : ℕ} → b ≡ false → r ≡ min (x - m) top → r ≡ shift_of top x b m
+unfolding shift_of
+lowered top x m t h = rw t h
 
-pub ruleset signs = (rules, up_before, down_before, down_after, up_after)
+pub half_up : (n : ℕ) {b : Bool} → b ≡ true → (1024 + n) / 2048 ≡ size_of b n
+unfolding size_of
+half_up n t = rw t
+
+pub half_down : (n : ℕ) {b : Bool} → b ≡ false → (1023 + n) / 2048 ≡ size_of b n
+unfolding size_of
+half_down n t = rw t

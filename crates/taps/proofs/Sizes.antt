@@ -1,6 +1,6 @@
 -- How large M and W are, each by one computed test, and with them D and what it is multiplied by.
 -- Assumes nothing.
-use Rattle.std.proofs.Common.{ℕ, ◌-◌, ◌*◌, ◌<◌, ◌≤◌, Bool, leb, mul-le-mul, arith, leb→le, rules}
+use Rattle.std.proofs.Common.{ℕ, ◌-◌, ◌*◌, ◌≤◌, Bool, leb, mul-le-mul, arith, leb→le}
 use Rattle.laws.specs.Table.{at}
 use Rattle.rules.specs.Taps.{most, weights, most_of, weight_of}
 

@@ -12,10 +12,10 @@ use Rattle.laws.specs.Lists.{front}
 use Rattle.laws.specs.Loops.{filled, filled_more}
 use Rattle.text.specs.declared.number.Cursor.{Cursor}
 use Rattle.text.specs.declared.lists.Listed.{Listed}
-use Rattle.text.specs.declared.lists.Reading.{Reading}
+use Rattle.text.specs.declared.typed.Unsigned.{Unsigned}
 use Rattle.text.specs.Numbers.{number_at, whole_line}
 use Rattle.text.specs.Typed.{unsigned_of}
-use Rattle.text.specs.Lists.{EntryOn, listed_of, Fills, Reads, ReadsTwo, two_at, after_entries, entry_at, length_at, listed_at, list_at, steps_at}
+use Rattle.text.specs.Lists.{Fills, Reads, ReadsTwo, two_at, after_entries, entry_at, length_at, listed_at, list_at, steps_at}
 
 pub fronted : {A : Type 0} (n : ℕ) (before after : List A) → length after ≡ length before → n ≤ length before → Fills n before after
 fronted n before after e h = record { kept = e; within = omega arith; front = front n after (omega arith) }
@@ -24,52 +24,49 @@ pub ruleset fillings = (rules, fronted)
 
 -- ---- one entry after the other
 
--- the first i of n entries stand at the front of the list; l is what was read so far, first what was read of the length
-pub record SoFar (most : ℕ) (text before : List ℕ) (first : Reading) (n i : ℕ) (list : List ℕ) (l : Reading) : Type 0 where
+-- the first i of n entries stand at the front of the list, and rest follows them; first is where they begin
+pub record SoFar {A : Type 0} (of : ℕ → A) (most : ℕ) (text : List ℕ) (before : List A) (first : Cursor) (n i : ℕ) (list : List A) (rest : Cursor) : Type 0 where
   pub within : i ≤ n
   pub room : n ≤ length before
   pub kept : length list ≡ length before
-  pub first_length : first.length ≡ n
-  pub counted : l.length ≡ n
-  pub filling : list ≡ filled before (entry_at most text first.rest) i
-  pub follows : l.rest ≡ after_entries most text first.rest i
+  pub filling : list ≡ filled before (λ k. of (entry_at most text first k)) i
+  pub follows : rest ≡ after_entries most text first i
 
-module _ (most : ℕ) (text before : List ℕ) (first : Reading) where
-  pub so_none : first.length ≤ length before → SoFar most text before first first.length 0 before first
+module _ {A : Type 0} (of : ℕ → A) (most : ℕ) (text : List ℕ) (before : List A) (first : Cursor) (n : ℕ) where
+  pub so_none : n ≤ length before → SoFar of most text before first n 0 before first
   unfolding after_entries filled
-  so_none h = record { within = omega arith; room = h; kept = refl; first_length = refl; counted = refl; filling = refl; follows = refl }
+  so_none h = record { within = omega arith; room = h; kept = refl; filling = refl; follows = refl }
 
-  module _ (n i : ℕ) (list : List ℕ) (l : Reading) (so : SoFar most text before first n i list l) where
-    pub so_more : (r : Reading) → i < n → EntryOn most text l r → SoFar most text before first n (i + 1) (set list i r.entry) r
+  module _ (i : ℕ) (list : List A) (rest : Cursor) (so : SoFar of most text before first n i list rest) where
+    pub so_more : (m : ℕ) (e : Unsigned) (x : A) → i < n → m ≡ most → e ≡ unsigned_of m (number_at text rest) → x ≡ of e.value → SoFar of most text before first n (i + 1) (set list i x) e.rest
     unfolding after_entries entry_at
-    so_more r h e = record {
+    so_more m e x h s t p = let d : e ≡ unsigned_of most (number_at text rest) = rw s at t in record {
       within = omega arith;
       room = so.room;
-      kept = length-set list i r.entry ∙ so.kept;
-      first_length = so.first_length;
-      counted = e.same ∙ so.counted;
-      filling = filled_more before (entry_at most text first.rest) i so.filling (ap (λ (v : ℕ). set list i v) (e.entry ∙ ap (λ (k : Cursor). (unsigned_of most (number_at text k)).value) so.follows));
-      follows = e.rest ∙ ap (λ (k : Cursor). (unsigned_of most (number_at text k)).rest) so.follows ∙ ap (after_entries most text first.rest) (sym (add-one i));
+      kept = length-set list i x ∙ so.kept;
+      filling = filled_more before (λ k. of (entry_at most text first k)) i so.filling (ap (λ (v : A). set list i v) (p ∙ ap (λ (u : Unsigned). of u.value) (d ∙ ap (λ (k : Cursor). unsigned_of most (number_at text k)) so.follows)));
+      follows = ap (λ (u : Unsigned). u.rest) (d ∙ ap (λ (k : Cursor). unsigned_of most (number_at text k)) so.follows) ∙ ap (after_entries most text first) (sym (add-one i));
     }
 
     -- all of them
-    pub so_read : (c : Cursor) (r : Listed) → n ≤ i → (first.length ≤ length before) × (first.length ≡ (length_at text c (length before)).value) × (first.rest ≡ (length_at text c (length before)).rest) → r ≡ listed_of l → Reads most text c before list r
-    unfolding listed_at list_at
-    so_read c r b e g =
-        let m : i ≡ n = le_antisymm so.within b in
-        let x : l.length ≡ (length_at text c (length before)).value = so.counted ∙ sym so.first_length ∙ e.1 in
-        let y : i ≡ (length_at text c (length before)).value = m ∙ sym so.first_length ∙ e.1 in
-        let q : l.rest ≡ after_entries most text (length_at text c (length before)).rest (length_at text c (length before)).value = rw (e.2, y) at so.follows in
+    pub so_read : (c : Cursor) (l : Unsigned) → l ≡ unsigned_of (length before) (number_at text c) → n ≡ l.value → first ≡ l.rest → n ≤ i → Reads of most text c before list (record { length = n; rest = rest })
+    unfolding length_at listed_at list_at
+    so_read c l e a b h =
+        let m : i ≡ n = le_antisymm so.within h in
+        let x : n ≡ (length_at text c (length before)).value = a ∙ ap (λ (u : Unsigned). u.value) e in
+        let y : first ≡ (length_at text c (length before)).rest = b ∙ ap (λ (u : Unsigned). u.rest) e in
+        let z : i ≡ (length_at text c (length before)).value = m ∙ x in
+        let q : rest ≡ after_entries most text (length_at text c (length before)).rest (length_at text c (length before)).value = rw (y, z) at so.follows in
         record {
-          fills = rw (g, so.counted) (fronted n before list so.kept so.room);
-          listed = rw (g, x, q);
-          list = rw (e.2, y) at so.filling;
+          fills = fronted n before list so.kept so.room;
+          listed = rw (x, q);
+          list = rw (y, z) at so.filling;
         }
 
 pub ruleset entering = (rules, so_none, so_more, so_read)
 
 -- two lists, the second where the first ends
-pub two_read : (text : List ℕ) (c : Cursor) (a b a' b' : List ℕ) {x y : Listed} → Reads 255 text c a a' x → Reads 255 text x.rest b b' y → ReadsTwo text c a b a' b' (record { a = x.length; b = y.length; rest = y.rest })
+pub two_read : (text : List ℕ) (c : Cursor) (a b a' b' : List ℕ) {x y : Listed} → Reads (λ n. n) 255 text c a a' x → Reads (λ n. n) 255 text x.rest b b' y → ReadsTwo text c a b a' b' (record { a = x.length; b = y.length; rest = y.rest })
 unfolding two_at
 two_read text c a b a' b' one two = record {
   a_fits = omega (arith, one.fills.within, one.fills.kept);

@@ -1,12 +1,13 @@
 -- How a list is held against the entries of a line, one at a time. Assumes nothing.
-use mathlib.Core.Path.{◌≡◌, refl, sym, ap, ◌∙◌}
-use mathlib.Core.Bool.{Bool, true, false, not}
+use mathlib.Core.Path.{◌≡◌, ap, ◌∙◌}
+use mathlib.Core.Bool.{true, false, not}
 use mathlib.Core.List.{List}
 use Prim.Native.Nat.{ℕ, ◌+◌, ◌≤◌, ◌<◌}
 use native.Mathlib.Omega.{arith}
 use borrow.Author.Rules.{rules}
 use borrow.Author.Tests.{eq-eqb, ne_eqb, not-true, not-false}
 use lib.ListN.{length, get_or}
+use Rattle.std.proofs.lemmas.List.{get_or_default}
 use Rattle.laws.specs.Choose.{pick}
 use Rattle.laws.specs.Loops.{turns, turns_none, turns_more, turns_end}
 use Rattle.text.specs.declared.number.Cursor.{Cursor}
@@ -31,30 +32,26 @@ module _ (most : ℕ) (text : List ℕ) (v : ℕ) (h : Held) where
     unfolding held_on pick
     held_differs q = let y : h.same ≡ true = not-false _ so in rw (y, ← is, ne_eqb _ _ q)
 
-pub ruleset entry_held = (rules, held_off, held_same, held_differs)
-
--- the first i of n entries were held against the list
-pub record HeldTo (most : ℕ) (text list : List ℕ) (first : Held) (n i : ℕ) (h : Held) : Type 0 where
-  pub within : i ≤ n
-  pub all : n ≡ length list
+-- the first i entries were held against the list
+pub record HeldTo {A : Type 0} (number : A → ℕ) (none : A) (most : ℕ) (text : List ℕ) (c : Cursor) (list : List A) (i : ℕ) (h : Held) : Type 0 where
+  pub within : i ≤ length list
   pub place : h.place ≤ i
-  pub held : h ≡ turns i (λ k x. held_on most text (get_or list k 0) x) first
+  pub held : h ≡ turns i (λ k x. held_on most text (number (get_or list k none)) x) (none_held c)
 
-module _ (most : ℕ) (text list : List ℕ) (first : Held) where
-  pub held_none : (c : Cursor) → first ≡ none_held c → HeldTo most text list first (length list) 0 first
-  held_none c e = record { within = omega arith; all = refl; place = rw e (omega arith); held = turns_none (λ k x. held_on most text (get_or list k 0) x) first }
+module _ {A : Type 0} (number : A → ℕ) (none : A) (most : ℕ) (text : List ℕ) (c : Cursor) (list : List A) where
+  pub held_first : HeldTo number none most text c list 0 (none_held c)
+  held_first = record { within = omega arith; place = omega arith; held = turns_none (λ k x. held_on most text (number (get_or list k none)) x) (none_held c) }
 
-  module _ (n i : ℕ) (h : Held) (so : HeldTo most text list first n i h) where
-    pub held_more : (w : ℕ) (g : Held) → i < n → w ≡ get_or list i 0 → (g ≡ held_on most text w h) × (g.place ≤ h.place + 1) → HeldTo most text list first n (i + 1) g
-    held_more w g b e r = record {
+  module _ (i : ℕ) (h : Held) (so : HeldTo number none most text c list i h) where
+    pub held_more : (m : ℕ) (x : A) (w : ℕ) (g : Held) → i < length list → m ≡ most → x ≡ get_or list i x → w ≡ number x → (g ≡ held_on m text w h) × (g.place ≤ h.place + 1) → HeldTo number none most text c list (i + 1) g
+    held_more m x w g b s e d r = record {
       within = omega arith;
-      all = so.all;
       place = omega (arith, so.place, r.1);
-      held = turns_more (λ k x. held_on most text (get_or list k 0) x) first i so.held (r.0 ∙ ap (λ (x : ℕ). held_on most text x h) e);
+      held = turns_more (λ k y. held_on most text (number (get_or list k none)) y) (none_held c) i so.held (r.0 ∙ ap (λ (k : ℕ). held_on k text w h) s ∙ ap (λ (y : ℕ). held_on most text y h) (d ∙ ap number (e ∙ get_or_default list i x none b)));
     }
 
-    pub held_end : (c : Cursor) → n ≤ i → first ≡ none_held c → h ≡ held_at most text c list
+    pub held_end : length list ≤ i → h ≡ held_at number none most text c list
     unfolding held_at
-    held_end c b e = rw e at (turns_end (λ k x. held_on most text (get_or list k 0) x) first i (length list) so.held (omega (arith, so.within, so.all)) (omega (arith, so.all)))
+    held_end b = turns_end (λ k x. held_on most text (number (get_or list k none)) x) (none_held c) i (length list) so.held so.within b
 
-pub ruleset holding = (rules, held_none, held_more, held_end)
+pub ruleset holding = (rules, held_first, held_more, held_end)

@@ -1,16 +1,17 @@
 -- How a run of digits is read one digit at a time. Assumes nothing.
-use mathlib.Core.Path.{◌≡◌, refl, sym, ap, ◌∙◌, subst}
+use mathlib.Core.Path.{◌≡◌, refl, sym, ◌∙◌}
 use mathlib.Core.List.{List}
 use mathlib.Core.Bool.{Bool, true, false, not}
-use Prim.Native.Nat.{ℕ, zero, suc, ◌+◌, ◌-◌, ◌*◌, ◌≤◌, ◌<◌}
+use Prim.Native.Nat.{ℕ, suc, ◌+◌, ◌-◌, ◌*◌, ◌≤◌, ◌<◌}
 use native.Mathlib.Omega.{arith}
 use native.Mathlib.Numerals.{add-one}
 use borrow.Author.Rules.{rules}
-use borrow.Author.Tests.{ltb-true, ltb-false, not-true, not-false}
+use borrow.Author.Tests.{ltb-true, ltb-false, lt-ltb, le-ltb, not-true, not-false}
 use lib.ListN.{get_or}
 use lib.Dec.{ltb}
+use Rattle.std.proofs.Common.{◌⊎◌, inl, inr}
 use Rattle.text.specs.declared.number.Run.{Run}
-use Rattle.text.specs.Digits.{goes_on, read_digits, pick_run, both, opposite}
+use Rattle.text.specs.Digits.{goes_on, read_digits, both, opposite}
 
 -- what it is that goes on: a digit, with room for it
 pub record Goes (b value : ℕ) : Type 0 where
@@ -30,6 +31,16 @@ goes b value = go (ltb b 48) (ltb 57 b) (ltb value 100000000000000000) refl refl
     go false false false e f g h = no h
     go false true r e f g h = no h
     go true q r e f g h = no h
+
+-- a digit goes on where there is room, and nothing else does
+pub digit_yes : (b value : ℕ) → (48 ≤ b) × (b ≤ 57) → ltb value 100000000000000000 ≡ goes_on b value
+unfolding goes_on
+digit_yes b value h = rw (le-ltb _ _ h.0, le-ltb _ _ h.1)
+
+pub digit_no : (b value : ℕ) → (b < 48) ⊎ (57 < b) → false ≡ goes_on b value
+unfolding goes_on
+digit_no b value (inl h) = rw (lt-ltb _ _ h)
+digit_no b value (inr h) = let g : 48 ≤ b = omega arith in rw (le-ltb _ _ g, lt-ltb _ _ h)
 
 module _ (xs : List ℕ) (value at end : ℕ) where
   -- one more digit
@@ -55,8 +66,8 @@ module _ (xs : List ℕ) (value at end : ℕ) (whole : Run) (on : Bool) (asked :
   pub turn_stop : at < end → not on ≡ true → read_digits xs value at (end - at) ≡ whole → record { value = value; next = at } ≡ whole
   turn_stop h taken inv = sym (digits_stop xs value at end h (sym asked ∙ not-true on taken)) ∙ inv
 
-pub turn_end : (xs : List ℕ) (value at end : ℕ) (whole : Run) → end ≤ at → read_digits xs value at (end - at) ≡ whole → record { value = value; next = at } ≡ whole
-turn_end xs value at end whole h inv = sym (digits_end xs value at end h) ∙ inv
+pub turn_end : (xs : List ℕ) (value at end : ℕ) (whole : Run) → at ≤ end → end ≤ at → read_digits xs value at (end - at) ≡ whole → record { value = value; next = end } ≡ whole
+turn_end xs value at end whole g h inv = let e : end ≡ at = omega arith in rw e (sym (digits_end xs value at end h) ∙ inv)
 
 -- what a digit that goes on asks of its reader
 pub goes_asked : (b value : ℕ) (on : Bool) → on ≡ goes_on b value → not on ≡ false → goes_on b value ≡ true

@@ -1,16 +1,18 @@
 -- How the first place at which a test holds is found one place at a time. Assumes nothing.
-use mathlib.Core.Path.{◌≡◌, refl, sym, ap, ◌∙◌}
+use mathlib.Core.Path.{◌≡◌, refl, sym, ◌∙◌}
 use mathlib.Core.Bool.{Bool, true, false, not}
 use mathlib.Core.List.{List}
 use Prim.Native.Nat.{ℕ, zero, suc, ◌+◌, ◌-◌, ◌≤◌, ◌<◌}
 use native.Mathlib.Omega.{arith}
 use native.Mathlib.Numerals.{add-one}
-use borrow.Author.Rules.{rules}
-use borrow.Author.Tests.{eq-eqb, ne_eqb}
-use lib.ListN.{get_or}
-use lib.Dec.{eqb}
-use Rattle.laws.specs.Choose.{pick, tests}
-use Rattle.text.specs.Places.{seek, newline_at, remark, remark_at, blank_of, blank_at, ink_at}
+use lib.ListN.{get_or, length, take, drop}
+use Rattle.std.proofs.Common.{None, Some, Option, position}
+use Rattle.std.specs.List.{position_or_len}
+use Rattle.std.proofs.lemmas.Grind.{common_steps}
+use Rattle.std.proofs.lemmas.List.{drop_more}
+use Rattle.std.proofs.lemmas.List.Sums.{prefix_len-le-length}
+use Rattle.laws.specs.Choose.{pick}
+use Rattle.text.specs.Places.{seek}
 
 -- whole is what is found from the first place on
 module _ (q : ℕ → Bool) (at end whole : ℕ) where
@@ -38,38 +40,25 @@ module _ (q : ℕ → Bool) (at end whole : ℕ) where
       let g : seek q at (end - at) ≡ at = rw n in
       sym g ∙ inv
 
--- ---- the tests, by how the code's branch on a byte came out
+-- ---- as the library finds the place: among the n bytes from a place on
 
-pub is_newline : (xs : List ℕ) (k : ℕ) → get_or xs k 0 ≡ 10 → true ≡ newline_at xs k
-unfolding newline_at
-is_newline xs k e = sym (eq-eqb _ _ e)
+module _ (q : ℕ → Bool) (xs : List ℕ) where
+  seek_cut : (at n : ℕ) → at < length xs → (seek (λ k. q (get_or xs k 0)) (at + 1) n ≡ at + 1 + position_or_len q (take n (drop (at + 1) xs))) → (b : Bool) → q (get_or xs at 0) ≡ b → seek (λ k. q (get_or xs k 0)) at (suc n) ≡ at + position_or_len q (take (suc n) (drop at xs))
+  unfolding seek pick
+  seek_cut at n h f true e = let d = drop_more xs at 0 h in rw (d, e) (omega arith)
+  seek_cut at n h f false e = let d = drop_more xs at 0 h in rw (d, e, ← add-one at, f) (omega arith)
 
-pub no_newline : (xs : List ℕ) (k : ℕ) → (get_or xs k 0 ≡ 10 → ⊥) → false ≡ newline_at xs k
-unfolding newline_at
-no_newline xs k e = sym (ne_eqb _ _ e)
+  pub seek_len : (at n : ℕ) → at + n ≤ length xs → seek (λ k. q (get_or xs k 0)) at n ≡ at + position_or_len q (take n (drop at xs))
+  unfolding seek
+  seek_len at zero h = omega arith
+  seek_len at (suc n) h = seek_cut at n (omega arith) (seek_len (at + 1) n (omega arith)) (q (get_or xs at 0)) refl
 
-pub is_remark : (xs : List ℕ) (k : ℕ) (r : Bool) → r ≡ remark (get_or xs k 0) → r ≡ true → true ≡ remark_at xs k
-unfolding remark_at
-is_remark xs k r e f = sym f ∙ e
+  module _ (from end : ℕ) (o : Option ℕ) (p : o ≡ position q (take (end - from) (drop from xs))) (h : (from ≤ end) × (end ≤ length xs)) where
+    pub seek_found : (k : ℕ) → o ≡ Some k → from + k ≡ seek (λ j. q (get_or xs j 0)) from (end - from)
+    seek_found k e = let f = seek_len from (end - from) (omega (arith, h)) in grind (arith, common_steps, f, e, p)
 
-pub no_remark : (xs : List ℕ) (k : ℕ) (r : Bool) → r ≡ remark (get_or xs k 0) → r ≡ false → false ≡ remark_at xs k
-unfolding remark_at
-no_remark xs k r e f = sym f ∙ e
-
-pub is_ink : (xs : List ℕ) (k : ℕ) (r : Bool) → r ≡ blank_of (get_or xs k 0) → not r ≡ true → true ≡ ink_at xs k
-unfolding ink_at
-is_ink xs k r e f = sym f ∙ ap not e
-
-pub no_ink : (xs : List ℕ) (k : ℕ) (r : Bool) → r ≡ blank_of (get_or xs k 0) → not r ≡ false → false ≡ ink_at xs k
-unfolding ink_at
-no_ink xs k r e f = sym f ∙ ap not e
-
-pub is_blank : (xs : List ℕ) (k : ℕ) (r : Bool) → r ≡ blank_of (get_or xs k 0) → r ≡ true → true ≡ blank_at xs k
-unfolding blank_at
-is_blank xs k r e f = sym f ∙ e
-
-pub no_blank : (xs : List ℕ) (k : ℕ) (r : Bool) → r ≡ blank_of (get_or xs k 0) → r ≡ false → false ≡ blank_at xs k
-unfolding blank_at
-no_blank xs k r e f = sym f ∙ e
-
-pub ruleset seeking = (rules, seek_on, seek_here, seek_end, is_newline, no_newline, is_remark, no_remark, is_ink, no_ink, is_blank, no_blank)
+    pub seek_none : o ≡ None → end ≡ seek (λ j. q (get_or xs j 0)) from (end - from)
+    seek_none e =
+        let f = seek_len from (end - from) (omega (arith, h)) in
+        let m = prefix_len-le-length (λ x. not (q x)) (take (end - from) (drop from xs)) in
+        grind (arith, common_steps, f, e, p, m, h)

@@ -1,15 +1,15 @@
 -- How a word's letters are read one at a time. Assumes nothing.
-use mathlib.Core.Path.{◌≡◌, refl, sym, ◌∙◌}
+use mathlib.Core.Path.{◌≡◌, sym, ◌∙◌}
 use mathlib.Core.List.{List}
 use mathlib.Core.Bool.{Bool, true, false, not}
-use Prim.Native.Nat.{ℕ, zero, suc, ◌+◌, ◌-◌, ◌*◌, ◌≤◌, ◌<◌}
+use Prim.Native.Nat.{ℕ, suc, ◌+◌, ◌-◌, ◌*◌, ◌≤◌, ◌<◌}
 use native.Mathlib.Omega.{arith}
 use native.Mathlib.Numerals.{add-one}
 use borrow.Author.Rules.{rules}
 use borrow.Author.Tests.{ltb-true, lt-ltb, le-ltb, not-true, not-false}
 use lib.ListN.{get_or}
 use lib.Dec.{leb, ltb}
-use Rattle.laws.specs.Choose.{pick, both, both_parts}
+use Rattle.laws.specs.Choose.{pick, both_parts}
 use Rattle.text.specs.declared.spell.Word.{Word}
 use Rattle.text.specs.Places.{blank_of}
 use Rattle.text.specs.Words.{goes_on, read_letters, ended_at, word_at}
@@ -37,12 +37,13 @@ module _ (xs : List ℕ) (value at end : ℕ) (whole : Word) (on : Bool) (asked 
       let g : read_letters xs value at (end - at) ≡ record { value = value; next = at } = rw (n, t) in
       sym g ∙ inv
 
-pub turn_end : (xs : List ℕ) (value at end : ℕ) (whole : Word) → end ≤ at → read_letters xs value at (end - at) ≡ whole → record { value = value; next = at } ≡ whole
+pub turn_end : (xs : List ℕ) (value at end : ℕ) (whole : Word) → at ≤ end → end ≤ at → read_letters xs value at (end - at) ≡ whole → record { value = value; next = end } ≡ whole
 unfolding read_letters
-turn_end xs value at end whole h inv =
+turn_end xs value at end whole g h inv =
     let n : end - at ≡ 0 = omega arith in
-    let g : read_letters xs value at (end - at) ≡ record { value = value; next = at } = rw n in
-    sym g ∙ inv
+    let e : end ≡ at = omega arith in
+    let s : read_letters xs value at (end - at) ≡ record { value = value; next = end } = rw (n, e) in
+    sym s ∙ inv
 
 -- what a letter that goes on asks of its reader
 pub goes_asked : (b value : ℕ) (on : Bool) → on ≡ goes_on b value → not on ≡ false → goes_on b value ≡ true

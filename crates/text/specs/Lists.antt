@@ -7,7 +7,6 @@ use Rattle.text.specs.declared.number.Cursor.{Cursor}
 use Rattle.text.specs.declared.typed.Unsigned.{Unsigned}
 use Rattle.text.specs.declared.lists.Held.{Held}
 use Rattle.text.specs.declared.lists.Listed.{Listed}
-use Rattle.text.specs.declared.lists.Reading.{Reading}
 use Rattle.text.specs.declared.lists.Two.{Two}
 use Rattle.text.specs.declared.lists.Steps.{Steps}
 use Rattle.text.specs.Numbers.{number_at, whole_line}
@@ -20,17 +19,6 @@ pub record Fills {A : Type 0} (n : ℕ) (before after : List A) : Type 0 where
   pub front : n ≡ length (take n after)
 
 -- ---- entries of at most most
-
--- one more, where l is what was read so far
-pub record EntryOn (most : ℕ) (text : List ℕ) (l r : Reading) : Type 0 where
-  pub same : r.length ≡ l.length
-  pub entry : r.entry ≡ (unsigned_of most (number_at text l.rest)).value
-  pub rest : r.rest ≡ (unsigned_of most (number_at text l.rest)).rest
-  pub bound : r.entry ≤ most
-
--- what is said of it at the end
-abbrev pub listed_of : Reading → Listed
-listed_of l = record { length = l.length; rest = l.rest }
 
 -- what follows the first i of them
 unfoldable pub after_entries : ℕ → List ℕ → Cursor → ℕ → Cursor
@@ -52,15 +40,16 @@ unfoldable pub listed_at : ℕ → List ℕ → Cursor → ℕ → Listed
 listed_at most text c room =
     record { length = (length_at text c room).value; rest = after_entries most text (length_at text c room).rest (length_at text c room).value }
 
--- the lent list with its entries at the front
-unfoldable pub list_at : ℕ → List ℕ → Cursor → List ℕ → List ℕ
-list_at most text c lent = filled lent (entry_at most text (length_at text c (length lent)).rest) (length_at text c (length lent)).value
+-- the lent list with its entries at the front; of makes an entry of a number
+unfoldable pub list_at : {A : Type 0} → (ℕ → A) → ℕ → List ℕ → Cursor → List A → List A
+list_at of most text c lent =
+    filled lent (λ i. of (entry_at most text (length_at text c (length lent)).rest i)) (length_at text c (length lent)).value
 
 -- all that reading a list says
-pub record Reads (most : ℕ) (text : List ℕ) (c : Cursor) (before after : List ℕ) (r : Listed) : Type 0 where
+pub record Reads {A : Type 0} (of : ℕ → A) (most : ℕ) (text : List ℕ) (c : Cursor) (before after : List A) (r : Listed) : Type 0 where
   pub fills : Fills r.length before after
   pub listed : r ≡ listed_at most text c (length before)
-  pub list : after ≡ list_at most text c before
+  pub list : after ≡ list_at of most text c before
 
 -- ---- two lists of u8 entries, one after the other
 
@@ -74,8 +63,8 @@ pub record ReadsTwo (text : List ℕ) (c : Cursor) (a b a' b' : List ℕ) (r : T
   pub a_fits : r.a ≤ length a
   pub b_fits : r.b ≤ length b
   pub two : r ≡ two_at text c (length a) (length b)
-  pub a_list : a' ≡ list_at 255 text c a
-  pub b_list : b' ≡ list_at 255 text (listed_at 255 text c (length a)).rest b
+  pub a_list : a' ≡ list_at (λ n. n) 255 text c a
+  pub b_list : b' ≡ list_at (λ n. n) 255 text (listed_at 255 text c (length a)).rest b
 
 -- ---- a line that sets the step table
 
@@ -85,7 +74,7 @@ steps_at text c room = record { length = (listed_at 4294967295 text c room).leng
 pub record SetsSteps (text : List ℕ) (c : Cursor) (before after : List ℕ) (r : Steps) : Type 0 where
   pub kept : length after ≡ length before
   pub steps : r ≡ steps_at text c (length before)
-  pub list : after ≡ list_at 4294967295 text c before
+  pub list : after ≡ list_at (λ n. n) 4294967295 text c before
 
 -- ---- the next entries held against those of a list
 
@@ -101,5 +90,6 @@ held_on most text v h =
     (record { same = false; place = h.place; rest = (unsigned_of most (number_at text h.rest)).rest }))
     h
 
-unfoldable pub held_at : ℕ → List ℕ → Cursor → List ℕ → Held
-held_at most text c list = turns (length list) (λ i h. held_on most text (get_or list i 0) h) (none_held c)
+-- number is an entry's number, none what stands beyond the list
+unfoldable pub held_at : {A : Type 0} → (A → ℕ) → A → ℕ → List ℕ → Cursor → List A → Held
+held_at number none most text c list = turns (length list) (λ i h. held_on most text (number (get_or list i none)) h) (none_held c)

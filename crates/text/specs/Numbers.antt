@@ -4,6 +4,7 @@ use Rattle.text.specs.declared.number.Cursor.{Cursor}
 use Rattle.text.specs.declared.number.Number.{Number}
 use Rattle.text.specs.declared.number.Run.{Run}
 use Rattle.text.specs.Digits.{read_digits}
+use Rattle.text.specs.Places.{blank_of}
 
 -- the first where the test holds, else the second
 abbrev pub pick : {A : Type 0} → Bool → A → A → A
@@ -17,10 +18,6 @@ nothing end = record { negative = false; size = 0; rest = record { at = end; end
 -- the place after byte b where it stands, else the same place
 unfoldable pub past : List ℕ → ℕ → ℕ → ℕ → ℕ
 past xs at end b = pick (ltb at end) (pick (eqb (get_or xs at 0) b) (at + 1) at) at
-
--- a space or a tab
-unfoldable pub blank_of : ℕ → Bool
-blank_of b = pick (eqb b 32) true (eqb b 9)
 
 -- the line ends here, or a space or a tab stands here
 unfoldable pub ends : List ℕ → ℕ → ℕ → Bool

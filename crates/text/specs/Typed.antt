@@ -1,5 +1,5 @@
 -- A number as a type of its own: what is read where it fits, and that the line is given up where it does not. Assumes nothing.
-use Rattle.std.specs.Prelude.{ℕ, List, pos, neg_ℤ, ltb, false}
+use Rattle.std.specs.Prelude.{ℕ, ℤ, Bool, List, pos, neg_ℤ, ltb, false}
 use Rattle.text.specs.declared.number.Cursor.{Cursor}
 use Rattle.text.specs.declared.number.Number.{Number}
 use Rattle.text.specs.declared.typed.Unsigned.{Unsigned}
@@ -16,6 +16,10 @@ unfoldable pub unsigned_of : ℕ → Number → Unsigned
 unsigned_of most n =
     pick n.negative (record { value = 0; rest = failed n.rest })
     (pick (ltb most n.size) (record { value = 0; rest = failed n.rest }) (record { value = n.size; rest = n.rest }))
+
+-- a sign and a size as a number
+abbrev pub signed : Bool → ℕ → ℤ
+signed negative size = pick negative (neg_ℤ (pos size)) (pos size)
 
 -- no i32 where it is below -2147483648
 unfoldable pub below_zero : ℕ → Cursor → Signed

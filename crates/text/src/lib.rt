@@ -18,13 +18,14 @@ mod number;
 // A number as a type of its own: unsigned up to a limit, or an i32; an answer's numbers.
 mod typed;
 
+// What the lists of a line are made of.
+mod entry;
+
 // Lists of numbers, into lent lists or held against them.
 mod lists;
 
-pub use lists::{
-    Held, Listed, Steps, Two, hold_u8s, hold_u16s, read_i32s, read_two, read_u8s, read_u16s,
-    read_u32s, set_steps,
-};
+pub use entry::Entry;
+pub use lists::{Held, Listed, Steps, Two, hold_list, read_i32s, read_list, read_two, set_steps};
 pub use number::{Cursor, Number, ended, next_number};
 pub use typed::{
     Answered, Signed, Unsigned, read_answer, read_counted, read_signed, read_unsigned,

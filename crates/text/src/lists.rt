@@ -1,19 +1,10 @@
 // Lists of a line, their length first: read into lent lists, or held against lists that are there.
-ghost use Rattle.std.specs.Prelude.{◌≡◌, ◌+◌, ◌≤◌, ◌<◌, length};
-ghost use Rattle.text.specs.Numbers.{number_at};
-ghost use Rattle.text.specs.Typed.{unsigned_of};
-ghost use Rattle.text.specs.Lists.{EntryOn, listed_of, none_held, held_on, held_at, Fills, Reads, ReadsTwo, SetsSteps, length_at};
+ghost use Rattle.std.specs.Prelude.{◌≡◌, ◌+◌, ◌≤◌, ◌<◌};
+ghost use Rattle.text.specs.Lists.{held_on, held_at, Fills, Reads, ReadsTwo, SetsSteps};
 
+use crate::entry::Entry;
 use crate::number::{Cursor, ended};
 use crate::typed::{read_signed, read_unsigned};
-
-// A list that is being read: its length, the entry that was read last, and what follows it.
-#[derive(Clone, Copy)]
-pub struct Reading {
-    pub length: usize,
-    pub entry: usize,
-    pub rest: Cursor,
-}
 
 // How many entries a list has, and what follows it.
 #[derive(Clone, Copy)]
@@ -31,13 +22,15 @@ pub struct Two {
 }
 
 // How many steps a line sets, and whether it was read whole.
+// A flag and no Option: the steps that were read stand in the list even where the line goes on (`SetsSteps`).
 #[derive(Clone, Copy)]
 pub struct Steps {
     pub length: usize,
     pub whole: bool,
 }
 
-// Whether the next entries are those of a list, the first place that differs, and what follows.
+// Whether the next entries are those of a list, how many of them before one that differs, and what follows.
+// A flag and no Option: the count holds either way, and callers ask for the flag alone.
 #[derive(Clone, Copy)]
 pub struct Held {
     pub same: bool,
@@ -45,77 +38,33 @@ pub struct Held {
     pub rest: Cursor,
 }
 
-// A list's length, where that many entries fit; else none, and the line is given up.
-fn read_length(text: &[u8], c: Cursor, most: usize) -> Reading
-    ensures { (result.length ≤ most) × (result.length ≡ (length_at text.now c most).value) × (result.rest ≡ (length_at text.now c most).rest) }
+// A list of entries, to the front of a lent list.
+pub fn read_list<T: Entry>(text: &[u8], c: Cursor, list: &mut [T]) -> Listed
+    ensures { Reads T.entry_of T.MOST text.now c list.old list.new result }
 {
-    let n = read_unsigned(text, c, most);
-    let rest = n.rest;
-    Reading {
-        length: n.value,
-        entry: 0,
-        rest,
+    let n = read_unsigned(text, c, list.len());
+    let mut rest = n.rest;
+    for i in 0..n.value {
+        let e = read_unsigned(text, rest, T::MOST);
+        list[i] = T::entry(e.value);
+        rest = e.rest;
     }
-}
-
-// The next entry, of at most most.
-fn next_entry(text: &[u8], l: Reading, most: usize) -> Reading
-    ensures { EntryOn most text.now l result }
-{
-    let e = read_unsigned(text, l.rest, most);
-    let rest = e.rest;
-    Reading {
-        length: l.length,
-        entry: e.value,
-        rest,
-    }
-}
-
-// The list once it was read.
-fn all_read(l: Reading) -> Listed
-    ensures { result ≡ listed_of l }
-{
-    let rest = l.rest;
     Listed {
-        length: l.length,
+        length: n.value,
         rest,
     }
-}
-
-// A list of u8 entries, to the front of a lent list.
-pub fn read_u8s(text: &[u8], c: Cursor, list: &mut [u8]) -> Listed
-    ensures { Reads 255 text.now c list.old list.new result }
-{
-    let mut l = read_length(text, c, list.len());
-    for i in 0..l.length {
-        l = next_entry(text, l, 255);
-        list[i] = l.entry as u8;
-    }
-    all_read(l)
 }
 
 // Two lists of u8 entries, each to the front of its own lent list.
 pub fn read_two(text: &[u8], c: Cursor, a: &mut [u8], b: &mut [u8]) -> Two
     ensures { ReadsTwo text.now c a.old b.old a.new b.new result }
 {
-    let x = read_u8s(text, c, a);
-    let y = read_u8s(text, x.rest, b);
-    let rest = y.rest;
+    let x = read_list(text, c, a);
+    let y = read_list(text, x.rest, b);
     Two {
         a: x.length,
         b: y.length,
-        rest,
-    }
-}
-
-// No entry is held yet.
-fn none_held(c: Cursor) -> Held
-    ensures { result ≡ none_held c }
-{
-    Held {
-        same: true,
-        place: 0,
-        rest: c,
+        rest: y.rest,
     }
 }
 
@@ -128,112 +77,60 @@ fn hold(text: &[u8], h: Held, most: usize, v: usize) -> Held
         return h;
     }
     let e = read_unsigned(text, h.rest, most);
-    let rest = e.rest;
     if e.value != v {
         return Held {
             same: false,
             place: h.place,
-            rest,
+            rest: e.rest,
         };
     }
     Held {
         same: true,
         place: h.place + 1,
-        rest,
+        rest: e.rest,
     }
 }
 
 // Holds the next entries against those of a list, up to the first that differs.
-pub fn hold_u8s(text: &[u8], c: Cursor, list: &[u8]) -> Held
-    ensures { result ≡ held_at 255 text.now c list.now }
+pub fn hold_list<T: Entry>(text: &[u8], c: Cursor, list: &[T]) -> Held
+    ensures { result ≡ held_at T.number_of (T.entry_of 0) T.MOST text.now c list.now }
 {
-    let mut h = none_held(c);
-    for i in 0..list.len() {
-        h = hold(text, h, 255, wide_u8(list[i]));
+    let mut h = Held {
+        same: true,
+        place: 0,
+        rest: c,
+    };
+    for v in list {
+        h = hold(text, h, T::MOST, v.number());
     }
     h
-}
-
-fn wide_u8(v: u8) -> usize
-    ensures { result ≡ v }
-{
-    v as usize
-}
-
-// A list of u16 entries, to the front of a lent list.
-pub fn read_u16s(text: &[u8], c: Cursor, list: &mut [u16]) -> Listed
-    ensures { Reads 65535 text.now c list.old list.new result }
-{
-    let mut l = read_length(text, c, list.len());
-    for i in 0..l.length {
-        l = next_entry(text, l, 65535);
-        list[i] = l.entry as u16;
-    }
-    all_read(l)
-}
-
-// Holds the next entries against those of a list, up to the first that differs.
-pub fn hold_u16s(text: &[u8], c: Cursor, list: &[u16]) -> Held
-    ensures { result ≡ held_at 65535 text.now c list.now }
-{
-    let mut h = none_held(c);
-    for i in 0..list.len() {
-        h = hold(text, h, 65535, wide_u16(list[i]));
-    }
-    h
-}
-
-fn wide_u16(v: u16) -> usize
-    ensures { result ≡ v }
-{
-    v as usize
-}
-
-// A list of u32 entries, to the front of a lent list.
-pub fn read_u32s(text: &[u8], c: Cursor, list: &mut [u32]) -> Listed
-    ensures { Reads 4294967295 text.now c list.old list.new result }
-{
-    let mut l = read_length(text, c, list.len());
-    for i in 0..l.length {
-        l = next_entry(text, l, 4294967295);
-        list[i] = l.entry as u32;
-    }
-    all_read(l)
 }
 
 // A line that sets the step table: its steps, to the front of a lent list.
 pub fn set_steps(text: &[u8], c: Cursor, list: &mut [u32]) -> Steps
     ensures { SetsSteps text.now c list.old list.new result }
 {
-    let l = read_u32s(text, c, list);
-    let length = l.length;
+    let l = read_list(text, c, list);
     let whole = ended(l.rest);
-    Steps { length, whole }
-}
-
-// The next n entries, an i32 each.
-fn fill_i32s(text: &[u8], c: Cursor, list: &mut [i32], n: usize) -> Cursor
-    requires { n ≤ length list.old }
-    ensures { length list.new ≡ length list.old }
-{
-    let mut at = c;
-    let mut i = 0;
-    while i < n {
-        let e = read_signed(text, at);
-        let v = e.value;
-        list[i] = v;
-        at = e.rest;
-        i += 1;
+    Steps {
+        length: l.length,
+        whole,
     }
-    at
 }
 
 // A list of i32 entries, to the front of a lent list.
 pub fn read_i32s(text: &[u8], c: Cursor, list: &mut [i32]) -> Listed
     ensures { Fills result.length list.old list.new }
 {
-    let n = read_length(text, c, list.len());
-    let length = n.length;
-    let rest = fill_i32s(text, n.rest, list, length);
-    Listed { length, rest }
+    let n = read_unsigned(text, c, list.len());
+    let mut rest = n.rest;
+    for i in 0..n.value {
+        let e = read_signed(text, rest);
+        list[i] = e.value;
+        rest = e.rest;
+    }
+    Listed {
+        length: n.value,
+        rest,
+    }
 }

@@ -1,9 +1,12 @@
 // One number of a line: its digits, its sign, and where the next one stands.
 ghost use Rattle.std.specs.Prelude.{◌≡◌, true, ◌+◌, ◌-◌, ◌*◌, ◌≤◌, ◌<◌, length};
 ghost use Rattle.text.specs.Digits.{goes_on, read_digits};
-ghost use Rattle.text.specs.Numbers.{nothing, past, blank_of, ends, closed, signed_at, whole_line, number_at};
+ghost use Rattle.text.specs.Numbers.{nothing, past, ends, closed, signed_at, whole_line, number_at};
+
+use crate::place::blank;
 
 // A place in a line: its next byte, the line's end, and whether every number so far was there.
+// A flag and no Option: a program reads a whole line and looks once, at its end.
 #[derive(Clone, Copy)]
 pub struct Cursor {
     pub at: usize,
@@ -33,13 +36,7 @@ const ROOM: usize = 100000000000000000;
 fn goes_on(b: u8, value: usize) -> bool
     ensures { result ≡ goes_on b value }
 {
-    if b < 48 {
-        return false;
-    }
-    if 57 < b {
-        return false;
-    }
-    value < ROOM
+    b.is_ascii_digit() && value < ROOM
 }
 
 // A value with one digit more.
@@ -47,7 +44,7 @@ fn one_more(value: usize, b: u8) -> usize
     requires { goes_on b value ≡ true }
     ensures { (result ≡ 10 * value + (b - 48)) × (result < 1000000000000000000) }
 {
-    10 * value + (b - 48) as usize
+    10 * value + usize::from(b - b'0')
 }
 
 // The digits from a place on, up to the first byte that is none.
@@ -56,17 +53,15 @@ fn digits(text: &[u8], from: usize, end: usize) -> Run
     ensures value { result ≡ read_digits text.now 0 from (end - from) }
     ensures from_le_next { (from ≤ result.next) × (result.next ≤ end) }
 {
-    let mut value: usize = 0;
-    let mut at = from;
-    while at < end {
+    let mut value = 0;
+    for at in from..end {
         let b = text[at];
         if !goes_on(b, value) {
             return Run { value, next: at };
         }
         value = one_more(value, b);
-        at += 1;
     }
-    Run { value, next: at }
+    Run { value, next: end }
 }
 
 // No number: the line is given up.
@@ -90,22 +85,10 @@ fn past_byte(text: &[u8], at: usize, end: usize, b: u8) -> usize
     ensures value { result ≡ past text.now at end b }
     ensures lower_bound { (at ≤ result) × (result ≤ end) }
 {
-    if at < end {
-        if text[at] == b {
-            return at + 1;
-        }
+    if at < end && text[at] == b {
+        return at + 1;
     }
     at
-}
-
-// A space or a tab.
-fn blank(b: u8) -> bool
-    ensures { result ≡ blank_of b }
-{
-    if b == 32 {
-        return true;
-    }
-    b == 9
 }
 
 // The line's end, a space or a tab follows a number.
@@ -113,10 +96,7 @@ fn ends_here(text: &[u8], at: usize, end: usize) -> bool
     requires { end ≤ length text.now }
     ensures { result ≡ ends text.now at end }
 {
-    if at < end {
-        return blank(text[at]);
-    }
-    true
+    end <= at || blank(text[at])
 }
 
 // A number of at least one digit that ends where it should, or none.
@@ -125,16 +105,12 @@ fn close_number(text: &[u8], negative: bool, first: usize, run: Run, end: usize)
     ensures { result ≡ closed text.now negative first run end }
 {
     let next = run.next;
-    let size = run.value;
-    if next <= first {
-        return no_number(end);
-    }
-    if !ends_here(text, next, end) {
+    if next <= first || !ends_here(text, next, end) {
         return no_number(end);
     }
     Number {
         negative,
-        size,
+        size: run.value,
         rest: Cursor {
             at: next,
             end,
@@ -148,7 +124,7 @@ fn signed_number(text: &[u8], start: usize, end: usize) -> Number
     requires { (start ≤ end) × (end ≤ length text.now) }
     ensures { result ≡ signed_at text.now start end }
 {
-    let first = past_byte(text, start, end, 45);
+    let first = past_byte(text, start, end, b'-');
     let run = digits(text, first, end);
     close_number(text, start < first, first, run, end)
 }
@@ -157,27 +133,17 @@ fn signed_number(text: &[u8], start: usize, end: usize) -> Number
 pub fn ended(c: Cursor) -> bool
     ensures { result ≡ whole_line c }
 {
-    if !c.good {
-        return false;
-    }
-    c.at == c.end
+    c.good && c.at == c.end
 }
 
 // The next number of a line.
 pub fn next_number(text: &[u8], c: Cursor) -> Number
     ensures { result ≡ number_at text.now c }
 {
-    let at = c.at;
-    let end = c.end;
-    if !c.good {
+    let Cursor { at, end, good } = c;
+    if !good || text.len() < end || end < at {
         return no_number(end);
     }
-    if text.len() < end {
-        return no_number(end);
-    }
-    if end < at {
-        return no_number(end);
-    }
-    let start = past_byte(text, at, end, 32);
+    let start = past_byte(text, at, end, b' ');
     signed_number(text, start, end)
 }

@@ -1,6 +1,22 @@
 // Places of a text: each the first from a place on at which a test holds, or the end of what is looked at.
-ghost use Rattle.std.specs.Prelude.{◌≡◌, ◌-◌, ◌≤◌, length};
-ghost use Rattle.text.specs.Places.{seek, newline_at, remark, remark_at, blank_of, blank_at, ink_at};
+ghost use Rattle.std.specs.Prelude.{◌≡◌, ◌-◌, ◌≤◌, ℕ, Bool, length, get_or};
+ghost use Rattle.text.specs.Places.{seek, newline_at, remark_at, blank_of, blank_at, ink_at};
+
+// The first place whose byte passes a test.
+// By places of the whole text and no slice of it: the definitions of `settings` and `y4m` count each place from the text's start (`seek`).
+fn first<F: Fn(u8) -> bool>(text: &[u8], from: usize, end: usize, test: F) -> usize
+    requires within { (from ≤ end) × (end ≤ length text.now) }
+    requires callable { F.IsAlwaysCallable test }
+    ensures value { (q : ℕ → Bool)
+        → ((b : ℕ) (r : Bool) → F.post test b r → r ≡ q b)
+        → result ≡ seek (λ k. q (get_or text.now k 0)) from (end - from) }
+    ensures lower_bound { (from ≤ result) × (result ≤ end) }
+{
+    match text[from..end].iter().position(|&b| test(b)) {
+        Some(k) => from + k,
+        None => end,
+    }
+}
 
 // The newline that ends a line.
 pub fn line_end(text: &[u8], from: usize, end: usize) -> usize
@@ -8,14 +24,7 @@ pub fn line_end(text: &[u8], from: usize, end: usize) -> usize
     ensures value { result ≡ seek (newline_at text.now) from (end - from) }
     ensures lower_bound { (from ≤ result) × (result ≤ end) }
 {
-    let mut at = from;
-    while at < end {
-        if text[at] == 10 {
-            return at;
-        }
-        at += 1;
-    }
-    at
+    first(text, from, end, |b| b == b'\n')
 }
 
 // The number sign or carriage return that ends what a line says.
@@ -24,33 +33,14 @@ pub fn content_end(text: &[u8], from: usize, end: usize) -> usize
     ensures value { result ≡ seek (remark_at text.now) from (end - from) }
     ensures lower_bound { (from ≤ result) × (result ≤ end) }
 {
-    let mut at = from;
-    while at < end {
-        if ends_content(text[at]) {
-            return at;
-        }
-        at += 1;
-    }
-    at
-}
-
-fn ends_content(b: u8) -> bool
-    ensures { result ≡ remark b }
-{
-    if b == 35 {
-        return true;
-    }
-    b == 13
+    first(text, from, end, |b| b == b'#' || b == b'\r')
 }
 
 // A space or a tab.
 pub fn blank(b: u8) -> bool
     ensures { result ≡ blank_of b }
 {
-    if b == 32 {
-        return true;
-    }
-    b == 9
+    b == b' ' || b == b'\t'
 }
 
 // The first byte that is neither a space nor a tab.
@@ -59,14 +49,7 @@ pub fn spaces(text: &[u8], from: usize, end: usize) -> usize
     ensures value { result ≡ seek (ink_at text.now) from (end - from) }
     ensures lower_bound { (from ≤ result) × (result ≤ end) }
 {
-    let mut at = from;
-    while at < end {
-        if !blank(text[at]) {
-            return at;
-        }
-        at += 1;
-    }
-    at
+    first(text, from, end, |b| !blank(b))
 }
 
 // The space or tab that ends a word.
@@ -75,12 +58,5 @@ pub fn word_end(text: &[u8], from: usize, end: usize) -> usize
     ensures value { result ≡ seek (blank_at text.now) from (end - from) }
     ensures lower_bound { (from ≤ result) × (result ≤ end) }
 {
-    let mut at = from;
-    while at < end {
-        if blank(text[at]) {
-            return at;
-        }
-        at += 1;
-    }
-    at
+    first(text, from, end, blank)
 }

@@ -18,10 +18,7 @@ const ROOM: usize = 72057594037927936;
 fn goes_on(b: u8, value: usize) -> bool
     ensures { result ≡ goes_on b value }
 {
-    if b <= 32 {
-        return false;
-    }
-    value < ROOM
+    b > b' ' && value < ROOM
 }
 
 // A value with one letter more.
@@ -29,7 +26,7 @@ fn one_more(value: usize, b: u8) -> usize
     requires { goes_on b value ≡ true }
     ensures { result ≡ 256 * value + b }
 {
-    256 * value + b as usize
+    256 * value + usize::from(b)
 }
 
 // The letters from a place on, up to the first byte that is none, or to the eighth.
@@ -38,20 +35,19 @@ fn letters(text: &[u8], from: usize, end: usize) -> Word
     ensures value { result ≡ read_letters text.now 0 from (end - from) }
     ensures from_le_next { (from ≤ result.next) × (result.next ≤ end) }
 {
-    let mut value: usize = 0;
-    let mut at = from;
-    while at < end {
+    let mut value = 0;
+    for at in from..end {
         let b = text[at];
         if !goes_on(b, value) {
             return Word { value, next: at };
         }
         value = one_more(value, b);
-        at += 1;
     }
-    Word { value, next: at }
+    Word { value, next: end }
 }
 
 // The word at a place, 0 where something else than a space or a tab follows it.
+// 0 and no Option: the definitions of `settings` and `y4m` hold the value against a name's (`word_at`), and no name is 0.
 pub fn read_word(text: &[u8], from: usize, end: usize) -> Word
     requires { (from ≤ end) × (end ≤ length text.now) }
     ensures value { result ≡ word_at text.now from end }
@@ -59,10 +55,8 @@ pub fn read_word(text: &[u8], from: usize, end: usize) -> Word
 {
     let w = letters(text, from, end);
     let next = w.next;
-    if next < end {
-        if !blank(text[next]) {
-            return Word { value: 0, next };
-        }
+    if next < end && !blank(text[next]) {
+        return Word { value: 0, next };
     }
     w
 }

@@ -1,10 +1,12 @@
 // The next number of a line as a type of its own, and the numbers of an answer.
-ghost use Rattle.std.specs.Prelude.{◌≡◌, ◌≤◌, ◌<◌, pos, neg_ℤ};
+ghost use Rattle.std.specs.Prelude.{◌≡◌, ◌≤◌, ◌<◌, SomeIff, FitsSigned};
+ghost use Rattle.std.specs.Int.{w32};
 ghost use Rattle.text.specs.Numbers.{number_at};
-ghost use Rattle.text.specs.Typed.{failed, unsigned_of, below_zero, from_zero, signed_of, answered_at, counted_at};
+ghost use Rattle.text.specs.Typed.{failed, unsigned_of, signed, signed_of, answered_at, counted_at};
 
 use crate::number::{Cursor, next_number};
 
+// A number that is missing is no None: its line is given up in `rest`, and a program looks once, at the line's end.
 #[derive(Clone, Copy)]
 pub struct Unsigned {
     pub value: usize,
@@ -18,6 +20,7 @@ pub struct Signed {
 }
 
 // The answer that a line gives its case: the refusal's number, 0 for none, its place, and how many samples are stored and changed, 0 where the line counts none.
+// A refusal is its number here, as the stream writes it, and the tally counts by that number.
 #[derive(Clone, Copy)]
 pub struct Answered {
     pub number: usize,
@@ -46,74 +49,24 @@ pub fn read_unsigned(text: &[u8], c: Cursor, most: usize) -> Unsigned
 {
     let n = next_number(text, c);
     let rest = n.rest;
-    let size = n.size;
-    if n.negative {
-        let stop = give_up(rest);
+    if n.negative || most < n.size {
         return Unsigned {
             value: 0,
-            rest: stop,
+            rest: give_up(rest),
         };
     }
-    if most < size {
-        let stop = give_up(rest);
-        return Unsigned {
-            value: 0,
-            rest: stop,
-        };
-    }
-    Unsigned { value: size, rest }
-}
-
-// A count below zero.
-fn minus(size: usize) -> i32
-    requires { size ≤ 2147483648 }
-    ensures { result ≡ neg_ℤ (pos size) }
-{
-    if size == 0 {
-        return 0;
-    }
-    -1 - (size - 1) as i32
-}
-
-fn plus(size: usize) -> i32
-    requires { size ≤ 2147483647 }
-    ensures { result ≡ pos size }
-{
-    size as i32
-}
-
-// A number below zero, where it is an i32.
-fn below_zero(size: usize, rest: Cursor) -> Signed
-    ensures { result ≡ below_zero size rest }
-{
-    if 2147483648 < size {
-        let stop = give_up(rest);
-        return Signed {
-            value: 0,
-            rest: stop,
-        };
-    }
-    Signed {
-        value: minus(size),
+    Unsigned {
+        value: n.size,
         rest,
     }
 }
 
-// A number from zero on, where it is an i32.
-fn from_zero(size: usize, rest: Cursor) -> Signed
-    ensures { result ≡ from_zero size rest }
+// A sign and a size as an i32, where they are one.
+fn narrow(negative: bool, size: usize) -> Option<i32>
+    ensures { SomeIff result (FitsSigned w32 (signed negative size)) (signed negative size) }
 {
-    if 2147483647 < size {
-        let stop = give_up(rest);
-        return Signed {
-            value: 0,
-            rest: stop,
-        };
-    }
-    Signed {
-        value: plus(size),
-        rest,
-    }
+    let size = i64::try_from(size).ok()?;
+    i32::try_from(if negative { -size } else { size }).ok()
 }
 
 // The next number, where it is an i32.
@@ -122,11 +75,13 @@ pub fn read_signed(text: &[u8], c: Cursor) -> Signed
 {
     let n = next_number(text, c);
     let rest = n.rest;
-    let size = n.size;
-    if n.negative {
-        return below_zero(size, rest);
+    match narrow(n.negative, n.size) {
+        Some(value) => Signed { value, rest },
+        None => Signed {
+            value: 0,
+            rest: give_up(rest),
+        },
     }
-    from_zero(size, rest)
 }
 
 // The answer that a line gives.
@@ -135,13 +90,12 @@ pub fn read_answer(text: &[u8], c: Cursor) -> Answered
 {
     let number = read_unsigned(text, c, 20);
     let place = read_unsigned(text, number.rest, 4294967295);
-    let rest = place.rest;
     Answered {
         number: number.value,
         place: place.value,
         stored: 0,
         changed: 0,
-        rest,
+        rest: place.rest,
     }
 }
 
@@ -152,12 +106,10 @@ pub fn read_counted(text: &[u8], c: Cursor) -> Answered
     let t = read_answer(text, c);
     let stored = read_unsigned(text, t.rest, 4294967295);
     let changed = read_unsigned(text, stored.rest, 4294967295);
-    let rest = changed.rest;
     Answered {
-        number: t.number,
-        place: t.place,
         stored: stored.value,
         changed: changed.value,
-        rest,
+        rest: changed.rest,
+        ..t
     }
 }

@@ -13,7 +13,7 @@ use Rattle.laws.specs.Loops.{filled, filled_at, filled_beyond}
 use Rattle.laws.specs.Whole.{Is, over, under, self, count, between, between_is}
 use Rattle.laws.proofs.Operations.{plus, minus, scale}
 use Rattle.laws.specs.declared.whole.Gap.{Gap}
-use Rattle.rules.specs.declared.refusals.Answer.TheVariants.{Accepted}
+use Rattle.std.specs.declared.result.Result.TheVariants.{Ok}
 use Rattle.rules.specs.Numbers.{depth_ok, delta_ok, highest_of, offset_of}
 use Rattle.rules.proofs.Depths.{by_depth}
 use Rattle.rules.specs.Thresholds.{index_of, is_zero, step_of, quant_of, lowered, side_of, both_of, steps_check, q_threshold, side_threshold}
@@ -105,7 +105,7 @@ packed_is d steps deltaq deltaside qindex e f i j p s =
     rw (q', s')
 
 -- taken apart
-module _ (d : ℕ) (steps : List ℕ) (deltaq deltaside : ℤ) (ok : depth_ok d ≡ true) (good : steps_check steps ≡ Accepted) where
+module _ (d : ℕ) (steps : List ℕ) (deltaq deltaside : ℤ) (ok : depth_ok d ≡ true) (good : steps_check steps ≡ Ok tt) where
   packed_q : (qindex : ℕ) → packed_of d steps deltaq deltaside qindex / 65536 ≡ quant_of (step_of d steps (index_of qindex deltaq))
   unfolding packed_of
   packed_q qindex = omega (arith, side_most d (index_of qindex deltaside) ok)

@@ -11,7 +11,7 @@ use lib.IntN.{ℤ, pos, negsuc}
 use Rattle.laws.specs.Choose.{pick}
 use Rattle.laws.specs.Whole.{Is, between}
 use Rattle.laws.specs.declared.whole.Gap.{Gap}
-use Rattle.rules.specs.declared.refusals.Answer.TheVariants.{Accepted}
+use Rattle.std.specs.declared.result.Result.TheVariants.{Ok}
 use Rattle.rules.specs.Numbers.{depth_ok, highest_of}
 use Rattle.rules.specs.Thresholds.{is_zero, step_of, quant_of, steps_check}
 use Rattle.rules.proofs.Depths.{by_depth}
@@ -50,7 +50,7 @@ pub place_within : (d : ℕ) (g : Gap) {low h k : ℕ} → low ≤ 1 → depth_o
 place_within d g {low} {h} l ok p q = let m = highest d ok in omega (arith, between_high low h (whole g) (omega arith))
 
 -- every step of a good table, and so every q threshold, is limited
-pub step_most : (d : ℕ) (steps : List ℕ) (z : ℤ) → depth_ok d ≡ true → steps_check steps ≡ Accepted → step_of d steps z ≤ 1048576
+pub step_most : (d : ℕ) (steps : List ℕ) (z : ℤ) → depth_ok d ≡ true → steps_check steps ≡ Ok tt → step_of d steps z ≤ 1048576
 unfolding step_of pick
 step_most d steps z ok good = either (is_zero z)
   where
@@ -66,8 +66,8 @@ unfolding quant_of
 quant_most a h = omega arith
 
 -- "q ≤ 2048": of any index
-pub q_most : (d : ℕ) (steps : List ℕ) (z : ℤ) → depth_ok d ≡ true → steps_check steps ≡ Accepted → quant_of (step_of d steps z) ≤ 2048
+pub q_most : (d : ℕ) (steps : List ℕ) (z : ℤ) → depth_ok d ≡ true → steps_check steps ≡ Ok tt → quant_of (step_of d steps z) ≤ 2048
 q_most d steps z ok good = quant_most (step_of d steps z) (step_most d steps z ok good)
 
-pub q_small : (d : ℕ) (steps : List ℕ) (z : ℤ) → depth_ok d ≡ true → steps_check steps ≡ Accepted → {a : ℕ} → a ≡ quant_of (step_of d steps z) → a ≤ 65535
+pub q_small : (d : ℕ) (steps : List ℕ) (z : ℤ) → depth_ok d ≡ true → steps_check steps ≡ Ok tt → {a : ℕ} → a ≡ quant_of (step_of d steps z) → a ≤ 65535
 q_small d steps z ok good e = omega (arith, q_most d steps z ok good)

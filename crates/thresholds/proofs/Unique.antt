@@ -5,7 +5,9 @@ use mathlib.Core.Bool.{true}
 use mathlib.Core.List.{List}
 use Prim.Native.Nat.{ℕ, ◌≤◌}
 use lib.IntN.{ℤ}
-use Rattle.rules.specs.declared.refusals.Answer.TheVariants.{Accepted}
+use Rattle.std.specs.declared.result.Result.TheVariants.{Ok}
+use Rattle.std.specs.declared.result.Result.{Result}
+use Rattle.rules.specs.declared.refusals.Refusal.{Refusal}
 use Rattle.rules.specs.declared.refusals.Thresholds.{Thresholds}
 use Rattle.rules.specs.Numbers.{depth_ok}
 use Rattle.rules.specs.Thresholds.{index_of, steps_check, q_threshold, side_threshold, thresholds_of}
@@ -13,12 +15,12 @@ use Rattle.thresholds.proofs.Quants.{q_most}
 use Rattle.thresholds.proofs.Sides.{side_most}
 use Rattle.thresholds.proofs.TwoBlocks.{both_most}
 
-pub unique : (curr prev depth : ℕ) (deltaq deltaside : ℤ) (steps : List ℕ) (r r' : Thresholds) → r ≡ thresholds_of curr prev deltaq deltaside depth steps → r' ≡ thresholds_of curr prev deltaq deltaside depth steps → r ≡ r'
+pub unique : (curr prev depth : ℕ) (deltaq deltaside : ℤ) (steps : List ℕ) (r r' : Result Thresholds Refusal) → r ≡ thresholds_of curr prev deltaq deltaside depth steps → r' ≡ thresholds_of curr prev deltaq deltaside depth steps → r ≡ r'
 unique curr prev depth deltaq deltaside steps r r' e f = e ∙ sym f
 
 -- "q 0..2048, side 0..839"
 module _ (depth curr prev : ℕ) (delta : ℤ) (ok : depth_ok depth ≡ true) where
-  pub q_range : (steps : List ℕ) → steps_check steps ≡ Accepted → q_threshold depth steps curr prev delta ≤ 2048
+  pub q_range : (steps : List ℕ) → steps_check steps ≡ Ok tt → q_threshold depth steps curr prev delta ≤ 2048
   unfolding q_threshold
   q_range steps good =
       both_most

@@ -2,10 +2,6 @@
 -- Assumes nothing.
 use Rattle.std.specs.Prelude.{List, [], ◌∷◌, ℕ, ℤ}
 use Rattle.laws.specs.Choose.{both}
-use Rattle.rules.specs.declared.refusals.Answer.{Answer}
-use Rattle.rules.specs.declared.refusals.Answer.TheVariants.{Accepted, Refused}
-use Rattle.rules.specs.declared.refusals.Thresholds.{Thresholds}
-use Rattle.rules.specs.declared.refusals.Thresholds.TheVariants.{Both, Refused as «NoThresholds»}
 use Rattle.rules.specs.Numbers.{depth_ok, delta_ok}
 use Rattle.rules.specs.Thresholds.{bad_step}
 use Rattle.checks.specs.Exactly.{ask, seek, Check, check}
@@ -13,8 +9,3 @@ use Rattle.checks.specs.Exactly.{ask, seek, Check, check}
 abbrev pub tests : ℕ → List ℕ → ℤ → ℤ → List Check
 tests depth steps deltaq deltaside =
     check 1 (ask (depth_ok depth)) ∷ check 4 (seek (bad_step steps)) ∷ check 5 (ask (both (delta_ok deltaq) (delta_ok deltaside))) ∷ []
-
--- whether there are thresholds, and if not why
-abbrev pub answered : Thresholds → Answer
-answered (Both q side) = Accepted
-answered («NoThresholds» r) = Refused r

@@ -1,6 +1,6 @@
 // The thresholds of an edge, from those of its two blocks: the public entry, and what it is made of.
 ghost use Rattle.std.specs.Prelude.{◌≡◌, true, ◌≤◌};
-ghost use Rattle.rules.specs.declared.refusals.Answer.TheVariants.{Accepted};
+ghost use Rattle.std.specs.declared.result.Result.TheVariants.{Ok};
 ghost use Rattle.rules.specs.Numbers.{depth_ok, delta_ok};
 ghost use Rattle.rules.specs.Thresholds.{steps_check, both_of, q_threshold, side_threshold, thresholds_of};
 
@@ -9,7 +9,7 @@ use crate::side::df_side_from_qindex;
 use crate::steps::df_quant_from_qindex;
 use crate::tests::thresholds_check;
 use rules::depth::Depth;
-use rules::refusals::{Answer, Thresholds};
+use rules::refusals::{Refusal, Thresholds};
 
 // One threshold of two blocks.
 pub fn both(a: u32, b: u32) -> u32
@@ -27,7 +27,7 @@ pub fn both(a: u32, b: u32) -> u32
 
 // The q threshold of an edge.
 pub fn q_threshold(curr: u16, prev: u16, delta: i32, depth: Depth, steps: &[u32]) -> u32
-    requires { (depth_ok depth.bits ≡ true) × (delta_ok delta ≡ true) × (steps_check steps.now ≡ Accepted) }
+    requires { (depth_ok depth.bits ≡ true) × (delta_ok delta ≡ true) × (steps_check steps.now ≡ Ok tt) }
     ensures { result ≡ q_threshold depth.bits steps.now curr prev delta }
 {
     let a = df_quant_from_qindex(index(curr, delta), depth, steps);
@@ -53,15 +53,12 @@ pub fn combine_thresholds(
     deltaside: i32,
     depth: u32,
     steps: &[u32],
-) -> Thresholds
+) -> Result<Thresholds, Refusal>
     ensures { result ≡ thresholds_of curr prev deltaq deltaside depth steps.now }
 {
-    let checked = thresholds_check(depth, steps, deltaq, deltaside);
-    if let Answer::Refused(r) = checked {
-        return Thresholds::Refused(r);
-    }
+    thresholds_check(depth, steps, deltaq, deltaside)?;
     let known = Depth { bits: depth };
     let q = q_threshold(curr, prev, deltaq, known, steps);
     let side = side_threshold(curr, prev, deltaside, known);
-    Thresholds::Both(q, side)
+    Ok(Thresholds { q, side })
 }

@@ -4,14 +4,14 @@ ghost use Rattle.laws.specs.Whole.{between};
 ghost use Rattle.rules.specs.Numbers.{delta_ok};
 ghost use Rattle.thresholds.specs.Index.{whole, IndexIs};
 
-use laws::{Gap, split};
+use laws::Gap;
 
 // The index i of a block.
 pub fn index(qindex: u16, delta: i32) -> Gap
     requires { delta_ok delta ≡ true }
     ensures { IndexIs qindex delta result }
 {
-    let d = split(delta);
+    let d = Gap::from(delta);
     Gap {
         up: qindex as u32 + 8 * d.up,
         down: 8 * d.down,

@@ -7,7 +7,7 @@ ghost use Rattle.thresholds.specs.Index.{whole};
 
 use crate::index::limited;
 use crate::side_table::{SIDE_THRESHOLDS, side_entry};
-use laws::{Gap, split16};
+use laws::Gap;
 use rules::depth::Depth;
 
 // The divisor that brings an entry down to the depth.
@@ -41,7 +41,7 @@ pub fn side_by(sides: &[i16; 296], i: Gap, depth: Depth) -> u32
         down: i.down + depth.offset() as u32,
     };
     let k = limited(lifted, 0, 295);
-    lower(split16(side_entry(sides, k)), depth)
+    lower(Gap::from(i32::from(side_entry(sides, k))), depth)
 }
 
 // The side threshold of an index.

@@ -4,7 +4,7 @@ ghost use Rattle.rules.specs.Numbers.{delta_ok};
 ghost use Rattle.rules.specs.Thresholds.{step_good, bad_step, steps_check, deltas_check, thresholds_check};
 
 use rules::depth::Depth;
-use rules::refusals::{Answer, Found, Refusal};
+use rules::refusals::Refusal;
 
 // Whether an entry of the step table is good.
 fn step_good(steps: &[u32], k: usize) -> bool
@@ -22,29 +22,29 @@ fn step_good(steps: &[u32], k: usize) -> bool
 }
 
 // The first bad entry of the step table, and 0 where its length is not 352.
-fn bad_step(steps: &[u32]) -> Found
+fn bad_step(steps: &[u32]) -> Option<usize>
     ensures { result ≡ bad_step steps.now }
 {
     if steps.len() != 352 {
-        return Found::At(0);
+        return Some(0);
     }
     for k in 0..352 {
         if !step_good(steps, k) {
-            return Found::At(k);
+            return Some(k);
         }
     }
-    Found::Nothing
+    None
 }
 
 // Refusal 4.
-pub fn steps_check(steps: &[u32]) -> Answer
+pub fn steps_check(steps: &[u32]) -> Result<(), Refusal>
     ensures { result ≡ steps_check steps.now }
 {
     let bad = bad_step(steps);
-    if let Found::At(k) = bad {
-        return Answer::Refused(Refusal::Steps(k));
+    if let Some(k) = bad {
+        return Err(Refusal::Steps(k));
     }
-    Answer::Accepted
+    Ok(())
 }
 
 // Whether a delta is in -128..127.
@@ -61,28 +61,30 @@ pub fn delta_ok(delta: i32) -> bool
 }
 
 // Refusal 5.
-pub fn deltas_check(deltaq: i32, deltaside: i32) -> Answer
+pub fn deltas_check(deltaq: i32, deltaside: i32) -> Result<(), Refusal>
     ensures { result ≡ deltas_check deltaq deltaside }
 {
     if !delta_ok(deltaq) {
-        return Answer::Refused(Refusal::Setting);
+        return Err(Refusal::Setting);
     }
     if !delta_ok(deltaside) {
-        return Answer::Refused(Refusal::Setting);
+        return Err(Refusal::Setting);
     }
-    Answer::Accepted
+    Ok(())
 }
 
 // The checks in their order: 1, 4, 5.
-pub fn thresholds_check(depth: u32, steps: &[u32], deltaq: i32, deltaside: i32) -> Answer
+pub fn thresholds_check(
+    depth: u32,
+    steps: &[u32],
+    deltaq: i32,
+    deltaside: i32,
+) -> Result<(), Refusal>
     ensures { result ≡ thresholds_check depth steps.now deltaq deltaside }
 {
     if !Depth::is(depth) {
-        return Answer::Refused(Refusal::Depth);
+        return Err(Refusal::Depth);
     }
-    let table = steps_check(steps);
-    if let Answer::Refused(r) = table {
-        return Answer::Refused(r);
-    }
+    steps_check(steps)?;
     deltas_check(deltaq, deltaside)
 }

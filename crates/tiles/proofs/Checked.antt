@@ -11,7 +11,7 @@ use lib.Dec.{leb}
 use borrow.Author.Tests.{leb-true, eqb-true}
 use Rattle.laws.specs.Choose.{both_parts, either_parts}
 use Rattle.rules.specs.declared.settings.TuGrid.{TuGrid}
-use Rattle.rules.specs.declared.refusals.Found.TheVariants.{Nothing}
+use Rattle.std.specs.declared.option.Option.TheVariants.{None}
 use Rattle.rules.specs.Numbers.{subsampling_ok}
 use Rattle.rules.specs.Refusals.{found_unless}
 use Rattle.rules.specs.TuGrid.{cells_ok, cap_ok, leaf_good_at, bad_leaf}
@@ -61,7 +61,7 @@ cut_of s e a b = record { ssx_most = ssx_most _ _ e; ssy_most = ssy_most _ _ e; 
 -- ---- leaves
 
 -- a list in which no leaf is bad
-pub all_good : (skip : Bool) (ls : List ℕ) → bad_leaf skip ls ≡ Nothing → AllGood ls
+pub all_good : (skip : Bool) (ls : List ℕ) → bad_leaf skip ls ≡ None → AllGood ls
 unfolding bad_leaf leaf_good_at
 all_good skip ls e =
     record { each = λ k h. leaf_good_holds skip _ _ _ _ (unless_nothing _ k (nothing_all (λ j. found_unless (leaf_good_at skip ls j) j) (length ls / 4) e k h)) }

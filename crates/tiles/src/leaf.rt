@@ -3,8 +3,6 @@ ghost use Rattle.std.specs.Prelude.{◌≡◌, ◌<◌, ◌/◌, length};
 ghost use Rattle.rules.specs.TuGrid.{flag_of, bare_of, is_size, leaf_good, leaf_good_at, bad_leaf};
 ghost use Rattle.tiles.specs.Fit.{size_good};
 
-use rules::refusals::Found;
-
 // Bit 4096 of a number.
 pub fn flag(w: u16) -> bool
     ensures { result ≡ flag_of w }
@@ -83,14 +81,14 @@ fn good_at(leaves: &[u16], skip: bool, k: usize) -> bool
 }
 
 // The first leaf of a list that is bad.
-pub fn bad_leaf(leaves: &[u16], skip: bool) -> Found
+pub fn bad_leaf(leaves: &[u16], skip: bool) -> Option<usize>
     ensures { result ≡ bad_leaf skip leaves.now }
 {
     let n = leaves.len() / 4;
     for k in 0..n {
         if !good_at(leaves, skip, k) {
-            return Found::At(k);
+            return Some(k);
         }
     }
-    Found::Nothing
+    None
 }

@@ -27,27 +27,31 @@ pub said_not : (u v z : ℕ) (r t : Bool) → r ≡ t → r ≡ false → z ≡ 
 unfolding pick
 said_not u v z r t e y f = rw (← e, y) f
 
--- ---- one test or another
+-- ---- one test or another, by how the first came out
+pub or_first : (s t : Bool) → s ≡ true → s ≡ either s t
+unfolding either
+or_first s t e = rw e
+
+pub or_second : (s t : Bool) {z : Bool} → s ≡ false → z ≡ t → z ≡ either s t
+unfolding either
+or_second s t e f = rw e f
+
 module _ (a b : ℕ) (t : Bool) where
-  pub or_eq : a ≡ b → true ≡ either (eqb a b) t
-  unfolding either
-  or_eq e = rw (eq-eqb _ _ e)
+  pub or_eq : a ≡ b → eqb a b ≡ either (eqb a b) t
+  or_eq e = or_first _ _ (eq-eqb _ _ e)
 
   pub or_ne : {z : Bool} → (a ≡ b → ⊥) → z ≡ t → z ≡ either (eqb a b) t
-  unfolding either
-  or_ne e f = rw (ne_eqb _ _ e) f
+  or_ne e f = or_second _ _ (ne_eqb _ _ e) f
 
-  pub or_lt : a < b → true ≡ either (ltb a b) t
-  unfolding either
-  or_lt e = rw (lt-ltb _ _ e)
+  pub or_lt : a < b → ltb a b ≡ either (ltb a b) t
+  or_lt e = or_first _ _ (lt-ltb _ _ e)
 
   pub or_ge : {z : Bool} → b ≤ a → z ≡ t → z ≡ either (ltb a b) t
-  unfolding either
-  or_ge e f = rw (le-ltb _ _ e) f
+  or_ge e f = or_second _ _ (le-ltb _ _ e) f
 
   -- the number tested is what a call answered
-  pub or_under : {r : ℕ} → r ≡ a → r < b → true ≡ either (ltb a b) t
-  or_under e h = or_lt (rw e at h)
+  pub or_under : {r : ℕ} → r ≡ a → r < b → ltb r b ≡ either (ltb a b) t
+  or_under e h = rw e (or_lt (rw e at h))
 
   pub or_over : {r : ℕ} {z : Bool} → r ≡ a → b ≤ r → z ≡ t → z ≡ either (ltb a b) t
   or_over e h f = or_ge (rw e at h) f

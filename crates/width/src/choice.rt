@@ -1,5 +1,6 @@
 // The width choice: how many samples after the edge are filtered.
-ghost use Rattle.std.specs.Prelude.{◌≡◌, false, ◌≤◌};
+ghost use Rattle.std.specs.Prelude.{◌≡◌, false, ltb, ◌≤◌};
+ghost use Rattle.laws.specs.Choose.{either};
 ghost use Rattle.rules.specs.Width.{width_of};
 ghost use Rattle.width.specs.Tests.{off_of, one_of, two_of};
 ghost use Rattle.width.specs.Ends.{ends};
@@ -13,24 +14,22 @@ use rules::edge::Line;
 pub fn off(q: u32, side: u32) -> bool
     ensures { result ≡ off_of q side }
 {
-    if q == 0 {
-        return true;
-    }
-    side == 0
+    q == 0 || side == 0
 }
 
-// Whether one sample is the most, or the bends allow no more; e is the larger of dm2 and d1, g is dm1 + d0.
+// Whether the bends are over what a width allows; e is the larger of dm2 and d1, g is dm1 + d0.
+fn bent(e: u32, g: u32, e_most: u32, g_most: u32) -> bool
+    ensures { result ≡ either (ltb e_most e) (ltb g_most g) }
+{
+    e_most < e || g_most < g
+}
+
+// Whether one sample is the most, or the bends allow no more.
 fn one_wide(p: usize, q: u32, side: u32, e: u32, g: u32) -> bool
     requires { q ≤ 2048 }
     ensures { result ≡ one_of p q side e g }
 {
-    if p == 1 {
-        return true;
-    }
-    if side / 4 < e {
-        return true;
-    }
-    4 * q < g
+    p == 1 || bent(e, g, side / 4, 4 * q)
 }
 
 // Whether the bends allow no more than two samples.
@@ -38,10 +37,7 @@ fn two_wide(q: u32, side: u32, e: u32, g: u32) -> bool
     requires { q ≤ 2048 }
     ensures { result ≡ two_of q side e g }
 {
-    if side / 8 < e {
-        return true;
-    }
-    3 * q < g
+    bent(e, g, side / 8, 3 * q)
 }
 
 // The width by lines 0 and 3; a function of its own, so that what it calls is inlined.

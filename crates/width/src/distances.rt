@@ -55,10 +55,7 @@ fn fails(a: Line, b: Line, n: usize, q: u32, side: u32, g: u32, d: usize) -> boo
     requires { (q ≤ 2048) × (side ≤ 839) × (g ≤ 262140) × Distance d }
     ensures { result ≡ fails_of (ends a b) n q side g d }
 {
-    if q_limit(q, d) < 16 * g {
-        return true;
-    }
-    steep(a, b, n, ramp_at(d), ramp_limit(side, d))
+    q_limit(q, d) < 16 * g || steep(a, b, n, ramp_at(d), ramp_limit(side, d))
 }
 
 // The width by these tests, of at most p samples after the edge.
@@ -66,6 +63,7 @@ pub fn far(a: Line, b: Line, n: usize, p: usize, q: u32, side: u32, g: u32) -> u
     requires { (p ≤ 8) × (q ≤ 2048) × (side ≤ 839) × (g ≤ 262140) }
     ensures { result ≡ far_of (ends a b) n p q side g }
 {
+    // A loop that breaks with the width, and no `for`: at 8 it breaks in either case, and `for` would want a value after its last turn.
     let mut d: usize = 4;
     loop {
         if fails(a, b, n, q, side, g, d) {

@@ -1,9 +1,6 @@
 // Document 01's "Width choice": how many samples of an edge are filtered.
 #![tactic(auto)]
 
-// Distances between two numbers, and the larger of them.
-pub mod sizes;
-
 // How far three samples in a row are from a straight line: dm2, d1, dm1 and d0.
 pub mod bends;
 

@@ -4,7 +4,6 @@ ghost use Rattle.laws.specs.Choose.{pick};
 ghost use Rattle.rules.specs.Width.{slope_of, steep_of};
 ghost use Rattle.width.specs.Ends.{ends, slopes_of};
 
-use crate::sizes::{apart, larger};
 use rules::edge::Line;
 
 // |(a0 - ak) - k(a0 - a1)|
@@ -12,30 +11,15 @@ fn slope(k: u32, a0: u16, a1: u16, ak: u16) -> u32
     requires { k ≤ 8 }
     ensures { (result ≡ slope_of k a0 a1 ak) × (result ≤ 589815) }
 {
-    apart(a0 as u32 + k * (a1 as u32), ak as u32 + k * (a0 as u32))
+    (a0 as u32 + k * (a1 as u32)).abs_diff(ak as u32 + k * (a0 as u32))
 }
 
-// Both lines: twice the ramp, but for the rounding.
-fn slopes(k: u32, a0: u16, a1: u16, ak: u16, b0: u16, b1: u16, bk: u16) -> u32
+// One side of both lines: twice the ramp, but for the rounding.
+fn slopes(a: [u16; 9], b: [u16; 9], k: usize) -> u32
     requires { k ≤ 8 }
-    ensures { result ≡ slope_of k a0 a1 ak + slope_of k b0 b1 bk }
+    ensures { (result ≡ slopes_of k a b) × (result ≤ 1179630) }
 {
-    slope(k, a0, a1, ak) + slope(k, b0, b1, bk)
-}
-
-// Twice the ramp before the edge, and after it.
-fn slopes_before(a: Line, b: Line, k: usize) -> u32
-    requires { k ≤ 8 }
-    ensures { result ≡ slopes_of k a.p b.p }
-{
-    slopes(k as u32, a.p[0], a.p[1], a.p[k], b.p[0], b.p[1], b.p[k])
-}
-
-fn slopes_after(a: Line, b: Line, k: usize) -> u32
-    requires { k ≤ 8 }
-    ensures { result ≡ slopes_of k a.q b.q }
-{
-    slopes(k as u32, a.q[0], a.q[1], a.q[k], b.q[0], b.q[1], b.q[k])
+    slope(k as u32, a[0], a[1], a[k]) + slope(k as u32, b[0], b[1], b[k])
 }
 
 // The one before the edge, which counts only if n >= k. It is worked out in either case, so that no arms meet before the next test: the
@@ -44,7 +28,7 @@ fn slopes_counted(a: Line, b: Line, n: usize, k: usize) -> u32
     requires { k ≤ 8 }
     ensures { result ≡ pick (leb k n) (slopes_of k a.p b.p) 0 }
 {
-    let x = slopes_before(a, b, k);
+    let x = slopes(a.p, b.p, k);
     if n < k { 0 } else { x }
 }
 
@@ -53,5 +37,5 @@ pub fn steep(a: Line, b: Line, n: usize, k: usize, limit: u32) -> bool
     requires { (k ≤ 8) × (limit ≤ 839) }
     ensures { result ≡ steep_of (ends a b) n k limit }
 {
-    2 * limit < larger(slopes_after(a, b, k), slopes_counted(a, b, n, k))
+    2 * limit < slopes(a.q, b.q, k).max(slopes_counted(a, b, n, k))
 }

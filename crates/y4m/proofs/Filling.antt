@@ -6,7 +6,7 @@ use Prim.Native.Nat.{ℕ, ◌+◌, ◌-◌, ◌*◌, ◌/◌, ◌%◌, ◌≤◌
 use native.Mathlib.Omega.{arith}
 use lib.ListN.{length, get_or, get_or-eq_default}
 use lib.Dec.{ltb}
-use Rattle.laws.specs.Choose.{pick, tests, pick_yes, pick_no, is_lt, not_lt}
+use Rattle.laws.specs.Choose.{pick, pick_yes, pick_no, is_lt, not_lt}
 use Rattle.laws.proofs.Loops.{loops}
 use Rattle.low_first.specs.Bytes.{number_in, low_first, byte_at}
 use Rattle.low_first.proofs.RoundTrip.{read_two}

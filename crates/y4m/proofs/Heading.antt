@@ -1,5 +1,5 @@
 -- A header line's parts, by the answers of those that read them. Assumes nothing.
-use mathlib.Core.Path.{◌≡◌, refl, sym, ap, ◌∙◌}
+use mathlib.Core.Path.{◌≡◌, sym, ap, ◌∙◌}
 use mathlib.Core.Bool.{Bool, true, false}
 use mathlib.Core.List.{List}
 use Prim.Native.Nat.{ℕ, ◌+◌, ◌-◌, ◌≤◌, ◌<◌}
@@ -75,3 +75,10 @@ pub tag_start : (q : ℕ → Bool) (n : ℕ) → seek q 0 (n - 0) ≡ seek q 0 n
 tag_start q n = ap (λ (k : ℕ). seek q 0 k) (omega arith)
 
 pub ruleset tagging = (rules, tag_start, seek_on, seek_here, seek_end, is_tag, no_tag)
+
+-- past the last turn
+pub tag_over : (q : ℕ → Bool) (at n : ℕ) → seek q at (n - at) ≡ seek q 0 n → at ≡ n → n ≡ seek q 0 n
+unfolding seek
+tag_over q at n inv e =
+    let m : n - at ≡ 0 = omega arith in
+    sym e ∙ (let s : at ≡ seek q at (n - at) = rw m in s) ∙ inv

@@ -2,7 +2,7 @@
 ghost use Rattle.std.specs.Prelude.{◌≡◌};
 ghost use Rattle.y4m.specs.Formats.{form, layout_of};
 
-// Subsampling each way, whether there is chroma, and the depth; a depth of 0 is no format.
+// Subsampling each way, whether there is chroma, and the depth. A depth of 0 is no format, as `header_of` says of `read_header` (docs/ENTRIES.md).
 #[derive(Clone, Copy)]
 pub struct Layout {
     pub ssx: usize,
@@ -23,7 +23,7 @@ fn lay_out(ssx: usize, ssy: usize, chroma: bool, depth: u32) -> Layout
     }
 }
 
-// The format of a name.
+// The format of a name. By numbers: `read_word` gives a word as one number of its bytes.
 pub fn named(name: usize) -> Layout
     ensures { result ≡ layout_of name }
 {

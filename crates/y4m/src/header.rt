@@ -8,7 +8,7 @@ use crate::format::{Layout, named};
 use text::Cursor;
 use text::spell::read_word;
 
-// What a header line says; a size of 0 is missing, bad or above 4096.
+// What a header line says. A size of 0 is missing, bad or above 4096, as `header_of` says of `read_header` (docs/ENTRIES.md).
 #[derive(Clone, Copy)]
 pub struct Header {
     pub opens: bool,
@@ -22,10 +22,7 @@ pub fn is_tag(text: &[u8], k: usize, letter: u8) -> bool
     requires { k + 1 < length text.now }
     ensures { result ≡ tag_at text.now letter k }
 {
-    if text[k] != 32 {
-        return false;
-    }
-    text[k + 1] == letter
+    text[k] == b' ' && text[k + 1] == letter
 }
 
 // The space before the first such letter of a line, or the place of its last byte.
@@ -34,14 +31,12 @@ fn tag(text: &[u8], last: usize, letter: u8) -> usize
     ensures value { result ≡ seek (tag_at text.now letter) 0 last }
     ensures upper_bound { result ≤ last }
 {
-    let mut at = 0;
-    while at < last {
+    for at in 0..last {
         if is_tag(text, at, letter) {
             return at;
         }
-        at += 1;
     }
-    at
+    last
 }
 
 // A number from 1 to 4096 that starts here with a digit, else 0.
@@ -52,7 +47,7 @@ fn size(text: &[u8], at: usize, end: usize) -> usize
     if end <= at {
         return 0;
     }
-    if text[at] < 48 {
+    if text[at] < b'0' {
         return 0;
     }
     let n = text::read_unsigned(
@@ -84,7 +79,7 @@ fn is_opening(text: &[u8], end: usize) -> bool
     requires { (1 ≤ end) × (end ≤ length text.now) }
     ensures { result ≡ opens_at text.now end }
 {
-    if text[0] != 89 {
+    if text[0] != b'Y' {
         return false;
     }
     let w = read_word(text, 1, end);
@@ -105,9 +100,9 @@ pub fn read_header(text: &[u8], end: usize) -> Header
     ensures { result ≡ header_of text.now end }
 {
     let last = end - 1;
-    let w = tag(text, last, 87);
-    let h = tag(text, last, 72);
-    let c = tag(text, last, 67);
+    let w = tag(text, last, b'W');
+    let h = tag(text, last, b'H');
+    let c = tag(text, last, b'C');
     let layout = format(text, c, end);
     Header {
         opens: is_opening(text, end),

@@ -10,20 +10,14 @@ use low_first::{low, two};
 fn byte_at(bytes: &[u8], at: usize) -> u8
     ensures { result ≡ get_or bytes.now at 0 }
 {
-    if at < bytes.len() {
-        return bytes[at];
-    }
-    0
+    bytes.get(at).copied().unwrap_or(0)
 }
 
 // A sample of a list, 0 beyond its end.
 fn sample_at(row: &[u16], at: usize) -> u16
     ensures { result ≡ get_or row.now at 0 }
 {
-    if at < row.len() {
-        return row[at];
-    }
-    0
+    row.get(at).copied().unwrap_or(0)
 }
 
 // Sample k of two bytes.
@@ -61,11 +55,8 @@ pub fn to_samples(bytes: &[u8], row: &mut [u16], width: usize, wide: bool)
     requires { (1 ≤ width) × (width ≤ 4096) }
     ensures { row.new ≡ filled row.old (λ k. padded_at wide width bytes.now k) (length row.old) }
 {
-    let n = row.len();
-    let mut k: usize = 0;
-    while k < n {
+    for k in 0..row.len() {
         row[k] = padded(bytes, k, width, wide);
-        k += 1;
     }
 }
 
@@ -94,10 +85,7 @@ fn byte(row: &[u16], i: usize, wide: bool) -> u8
 pub fn to_bytes(row: &[u16], bytes: &mut [u8], wide: bool)
     ensures { bytes.new ≡ filled bytes.old (λ i. byte_of wide row.now i) (length bytes.old) }
 {
-    let n = bytes.len();
-    let mut i: usize = 0;
-    while i < n {
+    for i in 0..bytes.len() {
         bytes[i] = byte(row, i, wide);
-        i += 1;
     }
 }

@@ -1,10 +1,6 @@
 -- `put_steps` fills a list's front with the table. Assumes nothing.
-use mathlib.Core.Path.{◌≡◌}
-use Prim.Native.Nat.{◌-◌, ◌≤◌}
 use native.Mathlib.Omega.{arith}
-use lib.ListN.{length}
-use Rattle.laws.specs.Loops.{filled}
-use Rattle.ac_steps.specs.Steps.{step_at, tabled}
+use Rattle.ac_steps.specs.Steps.{tabled}
 use Rattle.ac_steps.proofs.Following.{following as needs, filled_right}
 use Rattle.ac_steps.proofs.put_steps.Goals as goal
 

@@ -2,7 +2,6 @@
 use Prim.Native.Nat.{ℕ}
 use lib.ListN.{replicate, length-replicate}
 use Rattle.ac_steps.proofs.Following.{whole}
-use borrow.Author.Rules.{rules}
 use Rattle.ac_steps.proofs.steps.Goals as goal
 
 pub returns : goal.returns

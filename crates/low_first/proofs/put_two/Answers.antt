@@ -1,9 +1,7 @@
 -- `put_two` puts two bytes, low first. Assumes nothing.
-use native.Mathlib.Omega.{arith}
-use lib.ListN.{length-set}
-use Rattle.low_first.proofs.RoundTrip.{put_two}
-use borrow.Author.Rules.{rules}
+use mathlib.Core.Path.{◌∙◌}
+use Rattle.low_first.proofs.RoundTrip.{length_low_first, low_first_two, put_part}
 use Rattle.low_first.proofs.put_two.Goals as goal
 
 pub returns : goal.returns
-returns c = put_two _ _ _ c.low.ensures c.low-2.ensures
+returns c = put_part 2 _ _ _ c.args.at (c.copy_from_slice.ensures.after ∙ c.to_le_bytes.ensures ∙ low_first_two c.args.v) (length_low_first 2 c.args.v) c.requires

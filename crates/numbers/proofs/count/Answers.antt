@@ -1,6 +1,5 @@
 -- `count` is a number of the list as a count. Assumes nothing.
 use Rattle.numbers.proofs.Listed.{count_read}
-use borrow.Author.Rules.{rules}
 use Rattle.numbers.proofs.count.Goals as goal
 
 pub returns : goal.returns

@@ -1,6 +1,5 @@
 -- `number` is a number of the list. Assumes nothing.
 use Rattle.numbers.proofs.Listed.{listed}
-use borrow.Author.Rules.{rules}
 use Rattle.numbers.proofs.number.Goals as goal
 
 pub returns : goal.returns

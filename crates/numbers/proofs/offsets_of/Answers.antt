@@ -1,7 +1,6 @@
 -- `offsets_of` is CCSO's settings, number by number. Assumes nothing.
 use Rattle.numbers.specs.Settings.{offsets_of}
 use Rattle.numbers.proofs.Listed.{number_kept}
-use borrow.Author.Rules.{rules}
 use Rattle.numbers.proofs.offsets_of.Goals as goal
 
 pub returns : goal.returns

@@ -1,7 +1,6 @@
 -- `plane_of` is a plane's settings, number by number. Assumes nothing.
 use Rattle.numbers.specs.Settings.{plane_of}
 use Rattle.numbers.proofs.Listed.{number_kept}
-use borrow.Author.Rules.{rules}
 use Rattle.numbers.proofs.plane_of.Goals as goal
 
 pub returns : goal.returns

@@ -1,6 +1,5 @@
 -- `qindex_grid_of` is a qindex grid's settings, number by number. Assumes nothing.
 use Rattle.numbers.specs.Settings.{qindex_grid_of}
-use borrow.Author.Rules.{rules}
 use Rattle.numbers.proofs.qindex_grid_of.Goals as goal
 
 pub returns : goal.returns

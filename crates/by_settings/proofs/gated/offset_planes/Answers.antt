@@ -3,11 +3,11 @@ use Rattle.by_settings.proofs.Gating.{planewise}
 use borrow.Author.Rules.{rules}
 use Rattle.by_settings.proofs.gated.offset_planes.Goals as goal
 
-pub returns-in-Refused : goal.returns-in-Refused
-returns-in-Refused c = search planewise
+pub returns-in-Err : goal.returns-in-Err
+returns-in-Err c = search planewise
 
-pub returns-in-Refused-b : goal.returns-in-Refused-b
-returns-in-Refused-b c = search planewise
+pub returns-in-Err-b : goal.returns-in-Err-b
+returns-in-Err-b c = search planewise
 
 pub returns : goal.returns
 returns c = search planewise

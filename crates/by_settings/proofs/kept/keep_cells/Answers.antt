@@ -12,7 +12,7 @@ pub loop-i-init : goal.loop-i-init
 loop-i-init c = search needs
 
 pub loop-i-preserved : goal.loop-i-preserved
-loop-i-preserved c = (search needs, keep_more _ _ _ _ c.loop-i.invariant.1 c.rectangle_at.ensures c.keep_rectangle.ensures.marks, c.keep_rectangle.auto.keep ∙ c.loop-i.invariant.2)
+loop-i-preserved c = (keep_more _ _ _ _ c.loop-i.invariant.0 c.rectangle_at.ensures c.keep_rectangle.ensures.marks, c.keep_rectangle.auto.keep ∙ c.loop-i.invariant.1)
 
 pub returns : goal.returns
 unfolding kept_by

@@ -1,6 +1,5 @@
 -- `keep_cells`'s loop: the rectangles passed so far are marked. Assumes nothing.
 use mathlib.Core.Path.{◌≡◌, ◌∙◌}
-use Prim.Native.Nat.{◌-◌, ◌≤◌}
 use lib.ListN.{length}
 use Rattle.laws.specs.Loops.{turns}
 use Rattle.rules.specs.Keep.{keep_after}
@@ -9,7 +8,4 @@ use Rattle.by_settings.proofs.Keeping.{keeping as needs, keep_more}
 use Rattle.by_settings.proofs.kept.keep_cells.Given as goal
 
 abbrev pub invariant-loop-i : goal.invariant-loop-i
-invariant-loop-i l = (l.i ≤ l.n) × (l.keep ≡ turns l.i (λ k. keep_after (rectangle_of l.s l.rectangles k)) l.initial.keep) × (length l.keep ≡ length l.initial.keep)
-
-abbrev pub decreases-loop-i : goal.decreases-loop-i
-decreases-loop-i l = l.n - l.i
+invariant-loop-i l = (l.keep ≡ turns l.i (λ k. keep_after (rectangle_of l.s l.rectangles k)) l.initial.keep) × (length l.keep ≡ length l.initial.keep)

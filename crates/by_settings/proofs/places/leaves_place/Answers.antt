@@ -4,13 +4,13 @@ use Rattle.by_settings.proofs.Placing.{placing}
 use borrow.Author.Rules.{rules}
 use Rattle.by_settings.proofs.places.leaves_place.Goals as goal
 
-pub returns-in-At : goal.returns-in-At
+pub returns-in-Some : goal.returns-in-Some
 unfolding leaves_place
-returns-in-At c = search placing
+returns-in-Some c = search placing
 
-pub returns-in-At-b : goal.returns-in-At-b
+pub returns-in-Some-b : goal.returns-in-Some-b
 unfolding leaves_place
-returns-in-At-b c = search placing
+returns-in-Some-b c = search placing
 
 pub returns : goal.returns
 unfolding leaves_place

@@ -1,12 +1,9 @@
 -- `steps` are all 352 of the table. Assumes nothing.
-use native.Mathlib.Omega.{arith}
 use Prim.Native.Nat.{◌-◌, ◌*◌, ◌≤◌}
 use mathlib.Core.Path.{◌≡◌}
 use lib.ListN.{length}
 use Rattle.laws.specs.Loops.{filled}
 use Rattle.low_first.specs.Bytes.{number_in}
-use Rattle.rules.specs.CSide.{steps_in}
-use Rattle.low_first.proofs.Fills.{fills as needs, whole_end}
 use Rattle.byte_lists.proofs.table.steps.Given as goal
 
 abbrev pub invariant-loop-k : goal.invariant-loop-k

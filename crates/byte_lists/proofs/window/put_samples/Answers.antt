@@ -1,11 +1,8 @@
 -- `put_samples` puts the window's samples back, one after the other. Assumes nothing.
-use mathlib.Core.Path.{◌≡◌, refl}
-use mathlib.Core.List.{◌++◌}
-use Prim.Native.Nat.{◌+◌, ◌-◌, ◌*◌, ◌≤◌}
+use mathlib.Core.Path.{refl}
+use Prim.Native.Nat.{◌+◌, ◌*◌}
 use native.Mathlib.Omega.{arith}
-use lib.ListN.{length, get_or, drop}
-use Rattle.laws.specs.Loops.{each}
-use Rattle.low_first.specs.Bytes.{low_first}
+use lib.ListN.{get_or}
 use Rattle.low_first.proofs.RoundTrip.{putting as needs, puts_more, puts_end}
 use Rattle.rules.specs.CSide.{bytes_of}
 use Rattle.byte_lists.proofs.window.put_samples.Goals as goal

@@ -1,13 +1,10 @@
 -- `put_samples` puts the window's samples back, one after the other. Assumes nothing.
-use mathlib.Core.Path.{◌≡◌, refl}
+use mathlib.Core.Path.{◌≡◌}
 use mathlib.Core.List.{◌++◌}
-use Prim.Native.Nat.{◌+◌, ◌-◌, ◌*◌, ◌≤◌}
-use native.Mathlib.Omega.{arith}
+use Prim.Native.Nat.{◌-◌, ◌*◌, ◌≤◌}
 use lib.ListN.{length, get_or, drop}
 use Rattle.laws.specs.Loops.{each}
 use Rattle.low_first.specs.Bytes.{low_first}
-use Rattle.low_first.proofs.RoundTrip.{putting as needs, puts_more, puts_end}
-use Rattle.rules.specs.CSide.{bytes_of}
 use Rattle.byte_lists.proofs.window.put_samples.Given as goal
 
 abbrev pub invariant-loop-k : goal.invariant-loop-k

@@ -1,9 +1,6 @@
 -- `samples` are all 72 of the window. Assumes nothing.
 use native.Mathlib.Omega.{arith}
-use Prim.Native.Nat.{◌-◌, ◌*◌, ◌≤◌}
-use mathlib.Core.Path.{◌≡◌}
-use lib.ListN.{length}
-use Rattle.laws.specs.Loops.{filled}
+use Prim.Native.Nat.{◌*◌}
 use Rattle.low_first.specs.Bytes.{number_in}
 use Rattle.rules.specs.CSide.{samples_in}
 use Rattle.low_first.proofs.Fills.{fills as needs, whole_end}

@@ -1,9 +1,4 @@
 -- `bad_offset`'s loop: no offset so far is bad. Assumes nothing.
-use mathlib.Core.Path.{◌≡◌}
-use Prim.Native.Nat.{ℕ, ◌+◌, ◌-◌, ◌≤◌}
-use Rattle.rules.specs.declared.refusals.Found.TheVariants.{Nothing}
-use Rattle.rules.specs.Refusals.{first, found_unless}
-use Rattle.rules.specs.Ccso.{offset_ok}
 use Rattle.ccso.proofs.Lengths.{offsets_first as needs}
 use Rattle.ccso.proofs.check.bad_offset.Goals as goal
 

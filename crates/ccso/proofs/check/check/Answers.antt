@@ -1,6 +1,6 @@
 -- `check` leaves at the first check that fails. Assumes nothing.
+use Rattle.rules.specs.Ccso.{ccso_check}
 use Rattle.ccso.proofs.Accepted.{answers, admitted, passed_yes, luma_there, target_there, offsets_there}
-use borrow.Author.Rules.{rules}
 use Rattle.ccso.proofs.check.check.Goals as goal
 
 pub returns-then-not-is : goal.returns-then-not-is
@@ -21,8 +21,9 @@ count_of-requires c = search admitted
 pub bad_offset-requires : goal.bad_offset-requires
 bad_offset-requires c = offsets_there _ _ _ _ _ (passed_yes _ _ c.lengths_ok.ensures c.if-not-lengths_ok.false-raw) _ (passed_yes _ _ c.settings_ok.ensures c.if-not-settings_ok.false-raw) c.count_of.ensures
 
-pub returns-in-At : goal.returns-in-At
-returns-in-At c = search answers
+pub returns-then-is_some : goal.returns-then-is_some
+unfolding ccso_check
+returns-then-is_some c = search answers
 
 pub samples_ok-requires : goal.samples_ok-requires
 samples_ok-requires c =
@@ -34,4 +35,5 @@ samples_ok-requires c =
     )
 
 pub returns : goal.returns
+unfolding ccso_check
 returns c = search answers

@@ -3,7 +3,6 @@ use Rattle.ccso.proofs.Ranged.{range_yes, range_no, order_told}
 use Rattle.ccso.specs.Checks.{cuts_ok}
 use Rattle.rules.specs.Numbers.{in_range}
 use Rattle.laws.specs.Choose.{all_bad, all_ok, all_last, both_bad, both_ok, both_later, is_le, not_le}
-use borrow.Author.Rules.{rules}
 use Rattle.ccso.proofs.check.cuts_ok.Goals as goal
 
 pub returns-then-s-lt1 : goal.returns-then-s-lt1

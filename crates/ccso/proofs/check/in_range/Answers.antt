@@ -1,12 +1,9 @@
 -- `in_range` tests a signed number by its two counts. Assumes nothing.
 use Rattle.ccso.proofs.Ranged.{split_below, split_above}
-use Rattle.checks.proofs.Ranges.{range_below, range_above}
-use native.Mathlib.Omega.{arith}
-use borrow.Author.Rules.{rules}
 use Rattle.ccso.proofs.check.in_range.Goals as goal
 
 pub returns-then-low-g : goal.returns-then-low-g
-returns-then-low-g c = split_below _ _ _ c.ranges.v _ c.split-g.ensures.1 c.if-low-g.true
+returns-then-low-g c = split_below _ _ _ c.ranges.v _ c.from-g.ensures.1 c.if-low-g.true
 
 pub returns : goal.returns
-returns c = split_above _ _ _ c.ranges.v _ c.split-g.ensures.1 _ c.split-g.ensures.0 c.if-low-g.false
+returns c = split_above _ _ _ c.ranges.v _ c.from-g.ensures.1 _ c.from-g.ensures.0 c.if-low-g.false

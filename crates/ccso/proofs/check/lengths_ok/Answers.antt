@@ -1,6 +1,5 @@
 -- `lengths_ok` tests the four lengths; its products fit. Assumes nothing.
 use Rattle.ccso.proofs.Lengths.{lengths}
-use borrow.Author.Rules.{rules}
 use Rattle.ccso.proofs.check.lengths_ok.Goals as goal
 
 pub overflow_mul-s : goal.overflow_mul-s

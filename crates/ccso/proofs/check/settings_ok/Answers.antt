@@ -1,6 +1,5 @@
 -- `settings_ok` is its three parts. Assumes nothing.
 use Rattle.ccso.proofs.Ranged.{settings}
-use borrow.Author.Rules.{rules}
 use Rattle.ccso.proofs.check.settings_ok.Goals as goal
 
 pub returns-then-not-cuts_ok : goal.returns-then-not-cuts_ok

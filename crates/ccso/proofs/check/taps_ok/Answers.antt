@@ -4,7 +4,6 @@ use Rattle.ccso.specs.Checks.{taps_ok}
 use Rattle.rules.specs.Ccso.{band_ok}
 use Rattle.laws.specs.Choose.{all_bad, all_ok, all_last}
 use mathlib.Core.Path.{refl}
-use borrow.Author.Rules.{rules}
 use Rattle.ccso.proofs.check.taps_ok.Goals as goal
 
 pub returns-then-not-in_range : goal.returns-then-not-in_range

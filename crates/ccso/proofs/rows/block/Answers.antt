@@ -2,7 +2,6 @@
 use Rattle.ccso.proofs.Blocks.{blocks, flag_below, start_below, count_le}
 use Rattle.ccso_sample.proofs.Places.{width_most, block_most}
 use native.Mathlib.Omega.{arith}
-use borrow.Author.Rules.{rules}
 use Rattle.ccso.proofs.rows.block.Goals as goal
 
 pub overflow_add-at : goal.overflow_add-at
@@ -56,7 +55,7 @@ cells-requires c = record {
       c.requires.b_bound
       c.requires.sized
       _
-      c.least-end.ensures;
+      c.min-end.ensures;
 }
 
 pub returns : goal.returns

@@ -1,11 +1,8 @@
 -- `cells`' loop: each column so far has its store. Assumes nothing.
-use Rattle.ccso_sample.proofs.Places.{width_most}
-use native.Mathlib.Omega.{arith}
 use mathlib.Core.Path.{◌≡◌}
 use Prim.Native.Nat.{◌+◌, ◌-◌, ◌≤◌}
 use lib.ListN.{length}
 use Rattle.laws.specs.Loops.{turns}
-use Rattle.laws.proofs.Loops.{loops as needs}
 use Rattle.ccso.specs.Lists.{moved_cell}
 use Rattle.ccso.proofs.rows.cells.Given as goal
 

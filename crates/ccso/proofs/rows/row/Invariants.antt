@@ -1,14 +1,10 @@
 -- `row`'s loop: each block so far has its columns. Assumes nothing.
-use Rattle.ccso.proofs.Blocks.{row_blocks, fit_same, blocks_more, blocks_end, row_at}
-use mathlib.Core.Path.{◌≡◌, ◌∙◌}
+use mathlib.Core.Path.{◌≡◌}
 use Prim.Native.Nat.{◌-◌, ◌≤◌}
-use native.Mathlib.Omega.{arith}
-use borrow.Author.Rules.{rules}
 use lib.ListN.{length}
 use Rattle.laws.specs.Loops.{turns}
 use Rattle.rules.specs.Ccso.{ccso_cell}
 use Rattle.ccso.specs.Lists.{columns_to}
-use Rattle.ccso_sample.proofs.Places.{blocks_most}
 use Rattle.ccso.proofs.rows.row.Given as goal
 
 abbrev pub invariant-loop-b : goal.invariant-loop-b

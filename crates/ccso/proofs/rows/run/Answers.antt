@@ -1,12 +1,5 @@
 -- `run`'s loop: each row so far is the rules'. Assumes nothing.
-use Rattle.ccso.proofs.Blocks.{target_rows, fit_same}
-use mathlib.Core.Path.{◌≡◌}
-use Prim.Native.Nat.{◌-◌, ◌≤◌}
-use native.Mathlib.Omega.{arith}
-use borrow.Author.Rules.{rules}
-use lib.ListN.{length}
-use Rattle.laws.specs.Loops.{turns}
-use Rattle.rules.specs.Ccso.{ccso_row}
+use Rattle.ccso.proofs.Blocks.{target_rows}
 use Rattle.ccso.proofs.rows.run.Goals as goal
 
 pub loop-y-init : goal.loop-y-init

@@ -1,8 +1,7 @@
 -- `counts_of` raises each signed setting. Assumes nothing.
-use Rattle.ccso_sample.proofs.Signed.{raises, back_is}
+use Rattle.ccso_sample.proofs.Signed.{back_is}
 use Rattle.ccso_sample.proofs.Offsets.{top_most}
 use native.Mathlib.Omega.{arith}
-use borrow.Author.Rules.{rules}
 use Rattle.ccso_sample.proofs.counts.counts_of.Goals as goal
 
 pub returns : goal.returns

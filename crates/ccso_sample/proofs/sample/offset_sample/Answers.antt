@@ -1,6 +1,5 @@
 -- `offset_sample` limits a sample with its offset. Assumes nothing.
 use Rattle.ccso_sample.proofs.Offsets.{moves}
-use borrow.Author.Rules.{rules}
 use Rattle.ccso_sample.proofs.sample.offset_sample.Goals as goal
 
 pub returns : goal.returns

@@ -1,6 +1,5 @@
 -- `sample_at` reads the offset at its place. Assumes nothing.
 use Rattle.ccso_sample.proofs.Offsets.{moved_samples}
-use borrow.Author.Rules.{rules}
 use Rattle.ccso_sample.proofs.sample.sample_at.Goals as goal
 
 pub returns : goal.returns

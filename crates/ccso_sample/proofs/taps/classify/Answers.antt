@@ -1,6 +1,5 @@
 -- `classify` compares counts as the rules compare differences. Assumes nothing.
 use Rattle.ccso_sample.proofs.Classes.{classes}
-use borrow.Author.Rules.{rules}
 use Rattle.ccso_sample.proofs.taps.classify.Goals as goal
 
 pub returns-then-t-c : goal.returns-then-t-c

@@ -1,7 +1,7 @@
 -- `bad_keep` finds the first mark over 1: the invariant says that none of those passed is. Assumes nothing.
 use mathlib.Core.Path.{◌≡◌}
 use Prim.Native.Nat.{◌-◌, ◌≤◌}
-use Rattle.rules.specs.declared.refusals.Found.TheVariants.{Nothing}
+use Rattle.std.specs.declared.option.Option.TheVariants.{None}
 use Rattle.rules.specs.Refusals.{first, over_top}
 use Rattle.rules.specs.Plane.{bad_keep}
 use Rattle.checks.proofs.Rows.{rows as needs}

@@ -1,7 +1,7 @@
 -- `exact` finds the first sample over top: the invariant says that none of those passed is. Assumes nothing.
 use mathlib.Core.Path.{◌≡◌}
 use Prim.Native.Nat.{◌+◌, ◌-◌, ◌≤◌}
-use Rattle.rules.specs.declared.refusals.Found.TheVariants.{Nothing}
+use Rattle.std.specs.declared.option.Option.TheVariants.{None}
 use Rattle.rules.specs.Refusals.{first, over_top, over_row}
 use Rattle.checks.proofs.Rows.{rows as needs}
 use Rattle.checks.proofs.over.exact.Goals as goal

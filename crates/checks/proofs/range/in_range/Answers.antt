@@ -3,10 +3,10 @@ use Rattle.laws.specs.Choose.{tests}
 use Rattle.rules.specs.Numbers.{in_range}
 use Rattle.checks.proofs.range.in_range.Goals as goal
 
-pub returns-then-n-low : goal.returns-then-n-low
+pub returns-then-low-n : goal.returns-then-low-n
 unfolding in_range
-returns-then-n-low c = search tests
+returns-then-low-n c = search tests
 
-pub returns : goal.returns
+pub returns-else-low-n : goal.returns-else-low-n
 unfolding in_range
-returns c = search tests
+returns-else-low-n c = search tests

@@ -2,7 +2,7 @@
 use Rattle.compared.proofs.Apart.{apart, apart_more, apart_found, apart_end}
 use Rattle.checks.proofs.First.{first_none}
 use Rattle.rules.specs.Refusals.{first}
-use Rattle.rules.specs.declared.refusals.Found.TheVariants.{Nothing}
+use Rattle.std.specs.declared.option.Option.TheVariants.{None}
 use native.Mathlib.Omega.{arith}
 use Prim.Native.Nat.{◌-◌, ◌≤◌, min}
 use mathlib.Core.Path.{◌≡◌, ap₂, ◌∙◌}
@@ -20,7 +20,7 @@ returns-then-not-same_numbers c =
     c.entry-in-loop-k.ensures.0
     c.same_numbers.ensures
     _
-    (c.least-n.ensures ∙ ap₂ min c.count.ensures c.count-2.ensures)
+    (c.min-n.ensures ∙ ap₂ min c.count.ensures c.count-2.ensures)
     c.if-not-same_numbers.true-raw
     (omega arith)
 
@@ -28,4 +28,4 @@ pub loop-k-preserved : goal.loop-k-preserved
 loop-k-preserved c = (omega arith, apart_more _ _ _ c.loop-k.invariant.1 c.entry.ensures.0 c.entry-in-loop-k.ensures.0 c.same_numbers.ensures c.if-not-same_numbers.false-raw)
 
 pub returns : goal.returns
-returns c = apart_end _ _ _ c.loop-k.invariant.1 _ (c.least-n.ensures ∙ ap₂ min c.count.ensures c.count-2.ensures) c.loop-k.invariant.0 (omega arith)
+returns c = apart_end _ _ _ c.loop-k.invariant.1 _ (c.min-n.ensures ∙ ap₂ min c.count.ensures c.count-2.ensures) c.loop-k.invariant.0 (omega arith)

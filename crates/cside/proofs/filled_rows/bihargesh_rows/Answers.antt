@@ -4,8 +4,8 @@ use Rattle.by_list.proofs.States.{state_long}
 use Rattle.cside.proofs.Filled.{fillings as needs}
 use Rattle.cside.proofs.filled_rows.bihargesh_rows.Goals as goal
 
-pub returns-in-Refused : goal.returns-in-Refused
-returns-in-Refused c = search needs
+pub returns-in-Err : goal.returns-in-Err
+returns-in-Err c = search needs
 
 pub plane_of-s-requires : goal.plane_of-s-requires
 plane_of-s-requires c = search needs

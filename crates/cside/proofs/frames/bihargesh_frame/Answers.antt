@@ -3,8 +3,8 @@ use Rattle.by_list.proofs.Lists.{frame_long}
 use Rattle.cside.proofs.WholeFrame.{frame_refused, frame_told}
 use Rattle.cside.proofs.frames.bihargesh_frame.Goals as goal
 
-pub returns-in-Refused : goal.returns-in-Refused
-returns-in-Refused c = frame_refused _ _ _ c.list_check-lists.ensures c.in-Refused.is c.told_refusal.ensures
+pub returns-in-Err : goal.returns-in-Err
+returns-in-Err c = frame_refused _ _ _ c.list_check-lists.ensures c.in-Err.is c.told_refusal.ensures
 
 pub frame_of-f-requires : goal.frame_of-f-requires
 frame_of-f-requires c = frame_long _ c.list_check-lists.ensures c.in_default.is

@@ -2,8 +2,8 @@
 use Rattle.cside.proofs.Telling.{planes as needs}
 use Rattle.cside.proofs.plain_planes.bihargesh_plane_plain.Goals as goal
 
-pub returns-in-Refused : goal.returns-in-Refused
-returns-in-Refused c = search needs
+pub returns-in-Err : goal.returns-in-Err
+returns-in-Err c = search needs
 
 pub plane_of-s-requires : goal.plane_of-s-requires
 plane_of-s-requires c = search needs

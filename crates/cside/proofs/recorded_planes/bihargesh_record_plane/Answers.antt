@@ -2,8 +2,8 @@
 use Rattle.cside.proofs.Recorded.{recordings as needs, record_held}
 use Rattle.cside.proofs.recorded_planes.bihargesh_record_plane.Goals as goal
 
-pub returns-in-Refused : goal.returns-in-Refused
-returns-in-Refused c = search needs
+pub returns-in-Err : goal.returns-in-Err
+returns-in-Err c = search needs
 
 pub plane_of-s-requires : goal.plane_of-s-requires
 plane_of-s-requires c = search needs

@@ -2,8 +2,8 @@
 use Rattle.cside.proofs.Telling.{rectangles as needs}
 use Rattle.cside.proofs.rectangles.bihargesh_keep_rectangle.Goals as goal
 
-pub returns-in-Refused : goal.returns-in-Refused
-returns-in-Refused c = search needs
+pub returns-in-Err : goal.returns-in-Err
+returns-in-Err c = search needs
 
 pub rectangle_of-s-requires : goal.rectangle_of-s-requires
 rectangle_of-s-requires c = search needs

@@ -11,8 +11,8 @@ returns-then-steps-ne1408 c = search needs
 pub packed-requires : goal.packed-requires
 packed-requires c = search needs
 
-pub returns-in-Both : goal.returns-in-Both
-returns-in-Both c = search needs
+pub returns-in-Ok : goal.returns-in-Ok
+returns-in-Ok c = search needs
 
-pub returns-in-Refused : goal.returns-in-Refused
-returns-in-Refused c = search needs
+pub returns-in-Err : goal.returns-in-Err
+returns-in-Err c = search needs

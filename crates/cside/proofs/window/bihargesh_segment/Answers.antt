@@ -11,8 +11,8 @@ returns-then-window-ne144 c = search needs
 pub count-requires : goal.count-requires
 count-requires c = search needs
 
-pub returns-in-Samples : goal.returns-in-Samples
-returns-in-Samples c = search needs
+pub returns-in-Ok : goal.returns-in-Ok
+returns-in-Ok c = search needs
 
-pub returns-in-Refused : goal.returns-in-Refused
-returns-in-Refused c = search needs
+pub returns-in-Err : goal.returns-in-Err
+returns-in-Err c = search needs

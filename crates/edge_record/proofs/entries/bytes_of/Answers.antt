@@ -3,10 +3,10 @@ use borrow.Author.Rules.{rules}
 use Rattle.edge_record.specs.Noted.{bytes_of}
 use Rattle.edge_record.proofs.entries.bytes_of.Goals as goal
 
-pub returns-in-Bytes : goal.returns-in-Bytes
+pub returns-in-Ok : goal.returns-in-Ok
 unfolding bytes_of
-returns-in-Bytes c = search rules
+returns-in-Ok c = search rules
 
-pub returns-in-Refused : goal.returns-in-Refused
+pub returns-in-Err : goal.returns-in-Err
 unfolding bytes_of
-returns-in-Refused c = search rules
+returns-in-Err c = search rules

@@ -1,27 +1,27 @@
 -- `frame_early` is the checks 1, 2, 3, then 4, 5, 9, then 6. Assumes nothing.
+use mathlib.Core.Path.{refl, ◌∙◌}
 use Rattle.rules.specs.Frame.{frame_early}
-use Rattle.checks.proofs.Checks.{stop_by, go_on_by}
+use Rattle.checks.proofs.Checks.{handed, stop, go_on}
 use Rattle.frame_checks.proofs.Accepted.{shape_sized, luma_keep, chroma_keep}
 use Rattle.frame_checks.proofs.early.frame_early.Goals as goal
 
-pub returns-in-Refused : goal.returns-in-Refused
+pub returns-in_err-frame_shape : goal.returns-in_err-frame_shape
 unfolding frame_early
-returns-in-Refused c = λ q. stop_by _ _ _ c.frame_shape-a.ensures c.in-Refused.is
+returns-in_err-frame_shape c = λ q. handed _ c.from_residual.ensures ∙ stop _ _ c.in_err-frame_shape.ensures
 
-pub frame_given-b-requires : goal.frame_given-b-requires
-frame_given-b-requires c = shape_sized _ _ c.frame_shape-a.ensures c.in_default.is
+pub frame_given-requires : goal.frame_given-requires
+frame_given-requires c = shape_sized _ _ c.in_ok-frame_shape.ensures refl
 
-pub returns-in-Refused-b : goal.returns-in-Refused-b
+pub returns-in_err-frame_given : goal.returns-in_err-frame_given
 unfolding frame_early
-returns-in-Refused-b c = λ q. go_on_by _ _ _ _ c.frame_shape-a.ensures c.in_default.is (stop_by _ _ _ (c.frame_given-b.ensures q) c.in-Refused-b.is)
+returns-in_err-frame_given c = λ q. handed _ c.from_residual-in_err-frame_given.ensures ∙ go_on _ _ _ c.in_ok-frame_shape.ensures (stop _ _ (c.in_err-frame_given.ensures q))
 
 pub frame_keep-requires : goal.frame_keep-requires
 frame_keep-requires c =
-    let is = c.frame_shape-a.ensures in
-    let ok = c.in_default.is in
+    let is = c.in_ok-frame_shape.ensures in
     let p = c.requires in
-    (luma_keep _ _ is ok p.0, chroma_keep _ _ is ok p.1)
+    (luma_keep _ _ is refl p.0, chroma_keep _ _ is refl p.1)
 
 pub returns : goal.returns
 unfolding frame_early
-returns c = λ q. go_on_by _ _ _ _ c.frame_shape-a.ensures c.in_default.is (go_on_by _ _ _ _ (c.frame_given-b.ensures q) c.in_default-b.is c.frame_keep.ensures)
+returns c = λ q. go_on _ _ _ c.in_ok-frame_shape.ensures (go_on _ _ _ (c.in_ok-frame_given.ensures q) c.frame_keep.ensures)

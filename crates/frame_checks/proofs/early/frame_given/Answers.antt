@@ -1,24 +1,24 @@
 -- `frame_given` leaves at the first check that refuses: steps, deltas and caps, tile starts, leaves. Assumes nothing.
+use mathlib.Core.Path.{◌∙◌}
 use Rattle.rules.specs.Frame.{frame_given, frame_leaves}
-use Rattle.checks.proofs.Checks.{stop_by, go_on_by}
+use Rattle.checks.proofs.Checks.{handed, stop, go_on}
 use Rattle.frame_checks.proofs.early.frame_given.Goals as goal
 
-pub returns-in-Refused : goal.returns-in-Refused
+pub returns-in_err-steps_check : goal.returns-in_err-steps_check
 unfolding frame_given
-returns-in-Refused c = λ q. stop_by _ _ _ c.steps_check-a.ensures c.in-Refused.is
+returns-in_err-steps_check c = λ q. handed _ c.from_residual.ensures ∙ stop _ _ c.in_err-steps_check.ensures
 
-pub returns-in-Refused-b : goal.returns-in-Refused-b
+pub returns-in_err-frame_settings : goal.returns-in_err-frame_settings
 unfolding frame_given
-returns-in-Refused-b c = λ q. go_on_by _ _ _ _ c.steps_check-a.ensures c.in_default.is (stop_by _ _ _ c.frame_settings-b.ensures c.in-Refused-b.is)
+returns-in_err-frame_settings c = λ q. handed _ c.from_residual-in_err-frame_settings.ensures ∙ go_on _ _ _ c.in_ok-steps_check.ensures (stop _ _ c.in_err-frame_settings.ensures)
 
-pub returns-in-Refused-d : goal.returns-in-Refused-d
+pub returns-in_err-frame_tiles : goal.returns-in_err-frame_tiles
 unfolding frame_given
-returns-in-Refused-d c =
-    λ q. go_on_by _ _ _ _ c.steps_check-a.ensures c.in_default.is
-    (go_on_by _ _ _ _ c.frame_settings-b.ensures c.in_default-b.is (stop_by _ _ _ c.frame_tiles-d.ensures c.in-Refused-d.is))
+returns-in_err-frame_tiles c =
+    λ q. handed _ c.from_residual-in_err-frame_tiles.ensures ∙ go_on _ _ _ c.in_ok-steps_check.ensures
+    (go_on _ _ _ c.in_ok-frame_settings.ensures (stop _ _ c.in_err-frame_tiles.ensures))
 
 pub returns : goal.returns
 unfolding frame_given frame_leaves
 returns c =
-    λ q. go_on_by _ _ _ _ c.steps_check-a.ensures c.in_default.is
-    (go_on_by _ _ _ _ c.frame_settings-b.ensures c.in_default-b.is (go_on_by _ _ _ _ c.frame_tiles-d.ensures c.in_default-d.is c.frame_leaves.ensures))
+    λ q. go_on _ _ _ c.in_ok-steps_check.ensures (go_on _ _ _ c.in_ok-frame_settings.ensures (go_on _ _ _ c.in_ok-frame_tiles.ensures c.frame_leaves.ensures))

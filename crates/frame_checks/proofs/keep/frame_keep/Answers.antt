@@ -1,13 +1,14 @@
 -- `frame_keep` is luma's marks, then chroma's. Assumes nothing.
+use mathlib.Core.Path.{◌∙◌}
 use Rattle.rules.specs.Refusals.{only_if}
 use Rattle.rules.specs.Frame.{frame_keep}
-use Rattle.checks.proofs.Checks.{stop_by, go_on_by}
+use Rattle.checks.proofs.Checks.{handed, stop, go_on}
 use Rattle.frame_checks.proofs.keep.frame_keep.Goals as goal
 
-pub returns-in-Refused : goal.returns-in-Refused
+pub returns-in_err-kind_keep : goal.returns-in_err-kind_keep
 unfolding frame_keep only_if
-returns-in-Refused c = stop_by _ _ _ c.kind_keep-a.ensures c.in-Refused.is
+returns-in_err-kind_keep c = handed _ c.from_residual.ensures ∙ stop _ _ c.in_err-kind_keep.ensures
 
 pub returns : goal.returns
 unfolding frame_keep only_if
-returns c = go_on_by _ _ _ _ c.kind_keep-a.ensures c.in_default.is c.kind_keep.ensures
+returns c = go_on _ _ _ c.in_ok-kind_keep.ensures c.kind_keep-2.ensures

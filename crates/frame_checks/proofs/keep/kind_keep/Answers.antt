@@ -8,12 +8,12 @@ use Rattle.frame_checks.proofs.keep.kind_keep.Goals as goal
 pub returns-then-not-kind_on : goal.returns-then-not-kind_on
 returns-then-not-kind_on c = only_no _ _ (told_no _ _ c.kind_on.ensures c.if-not-kind_on.true)
 
-pub returns-in-At : goal.returns-in-At
-returns-in-At c =
+pub returns-in-Some : goal.returns-in-Some
+returns-in-Some c =
     only_yes _ _ _ (told_yes _ _ c.kind_on.ensures c.if-not-kind_on.false)
-    (found_bad_by _ _ Cell _ (rw c.plane_of-s.ensures at c.bad_keep-bad.ensures) c.in-At.is refl)
+    (found_bad_by _ _ Cell _ (rw c.plane_of-s.ensures at c.bad_keep.ensures) c.in-Some.is refl)
 
-pub returns : goal.returns
-returns c =
+pub returns-in-None : goal.returns-in-None
+returns-in-None c =
     only_yes _ _ _ (told_yes _ _ c.kind_on.ensures c.if-not-kind_on.false)
-    (found_good_by _ _ Cell (rw c.plane_of-s.ensures at c.bad_keep-bad.ensures) c.in_default.is)
+    (found_good_by _ _ Cell (rw c.plane_of-s.ensures at c.bad_keep.ensures) c.in-None.is)

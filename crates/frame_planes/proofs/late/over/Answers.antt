@@ -8,10 +8,10 @@ use Rattle.frame_planes.proofs.late.over.Goals as goal
 pub returns-then-not-kind_on : goal.returns-then-not-kind_on
 returns-then-not-kind_on c = only_no _ _ (told_no _ _ c.kind_on.ensures c.if-not-kind_on.true)
 
-pub returns-in-At : goal.returns-in-At
-returns-in-At c =
+pub returns-in-Some : goal.returns-in-Some
+returns-in-Some c =
     only_yes _ _ _ (told_yes _ _ c.kind_on.ensures c.if-not-kind_on.false)
-    (found_bad_by _ _ Sample _ (rw c.plane_of.ensures at c.over_plane-bad.ensures) c.in-At.is refl)
+    (found_bad_by _ _ Sample _ (rw c.plane_of.ensures at c.over_plane-bad.ensures) c.in-Some.is refl)
 
 pub returns : goal.returns
 returns c =

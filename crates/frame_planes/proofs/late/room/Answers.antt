@@ -8,10 +8,10 @@ use Rattle.frame_planes.proofs.late.room.Goals as goal
 pub returns-then-not-kind_on : goal.returns-then-not-kind_on
 returns-then-not-kind_on c = λ q ks. only_no _ _ (told_no _ _ c.kind_on.ensures c.if-not-kind_on.true)
 
-pub returns-in-At : goal.returns-in-At
-returns-in-At c =
+pub returns-in-Some : goal.returns-in-Some
+returns-in-Some c =
     λ q ks. only_yes _ _ _ (told_yes _ _ c.kind_on.ensures c.if-not-kind_on.false)
-    (found_bad_by _ _ Room _ (rw c.plane_of.ensures at (c.no_room-bad.ensures q ks)) c.in-At.is refl)
+    (found_bad_by _ _ Room _ (rw c.plane_of.ensures at (c.no_room-bad.ensures q ks)) c.in-Some.is refl)
 
 pub returns : goal.returns
 returns c =

@@ -1,7 +1,6 @@
 -- `cell` skips a cell outside the plane and stores one within; its place lies in each list. Assumes nothing.
-use borrow.Author.Rules.{rules}
 use Rattle.grid.proofs.Painted.{cell_below, cell_right, cell_within}
-use Rattle.grid.proofs.Places.{tx_row_fits, tx_cell_fits, tx_cell_in}
+use Rattle.grid.proofs.Places.{tx_cell_in}
 use Rattle.grid.proofs.paint.cell.Goals as goal
 
 pub returns-then-s-r : goal.returns-then-s-r

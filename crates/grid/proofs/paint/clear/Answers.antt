@@ -1,8 +1,4 @@
 -- `clear`'s loop: the entries passed so far are 0. Assumes nothing.
-use mathlib.Core.Path.{◌≡◌}
-use Prim.Native.Nat.{◌-◌, ◌≤◌}
-use lib.ListN.{length, set}
-use Rattle.laws.specs.Loops.{turns}
 use Rattle.rules.specs.TuGrid.{clear_of}
 use Rattle.tiles.proofs.Turns.{loops as needs}
 use Rattle.grid.proofs.paint.clear.Goals as goal

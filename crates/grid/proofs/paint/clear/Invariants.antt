@@ -3,8 +3,6 @@ use mathlib.Core.Path.{◌≡◌}
 use Prim.Native.Nat.{◌-◌, ◌≤◌}
 use lib.ListN.{length, set}
 use Rattle.laws.specs.Loops.{turns}
-use Rattle.rules.specs.TuGrid.{clear_of}
-use Rattle.tiles.proofs.Turns.{loops as needs}
 use Rattle.grid.proofs.paint.clear.Given as goal
 
 abbrev pub invariant-loop-i : goal.invariant-loop-i

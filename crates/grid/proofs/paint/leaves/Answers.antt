@@ -1,9 +1,6 @@
 -- `leaves`' loop: the leaves passed so far are painted in turn. Assumes nothing.
-use mathlib.Core.Path.{◌≡◌}
-use Prim.Native.Nat.{◌-◌, ◌≤◌}
-use lib.ListN.{length}
-use Rattle.laws.specs.Loops.{turns, turns_more}
-use Rattle.rules.specs.TuGrid.{marks, paint_of, leaf_of, leaves_of}
+use Rattle.laws.specs.Loops.{turns_more}
+use Rattle.rules.specs.TuGrid.{leaves_of}
 use Rattle.tiles.proofs.Turns.{loops as needs}
 use Rattle.grid.proofs.paint.leaves.Goals as goal
 

@@ -2,9 +2,8 @@
 use mathlib.Core.Path.{◌≡◌}
 use Prim.Native.Nat.{◌-◌, ◌≤◌}
 use lib.ListN.{length}
-use Rattle.laws.specs.Loops.{turns, turns_more}
-use Rattle.rules.specs.TuGrid.{marks, paint_of, leaf_of, leaves_of}
-use Rattle.tiles.proofs.Turns.{loops as needs}
+use Rattle.laws.specs.Loops.{turns}
+use Rattle.rules.specs.TuGrid.{marks, paint_of, leaf_of}
 use Rattle.grid.proofs.paint.leaves.Given as goal
 
 abbrev pub invariant-loop-k : goal.invariant-loop-k

@@ -1,5 +1,4 @@
 -- `mark` is 1 where a TU starts. Assumes nothing.
-use borrow.Author.Rules.{rules}
 use Rattle.laws.specs.Choose.{tests}
 use Rattle.rules.specs.TuGrid.{mark_of}
 use Rattle.grid.proofs.paint.mark.Goals as goal

@@ -1,9 +1,6 @@
 -- `paint`'s loop: the rows passed so far are painted, and the lists keep their lengths. Assumes nothing.
-use mathlib.Core.Path.{◌≡◌}
-use Prim.Native.Nat.{◌-◌, ◌≤◌}
-use lib.ListN.{length}
-use Rattle.laws.specs.Loops.{turns, turns_more}
-use Rattle.rules.specs.TuGrid.{marks, paint_row, paint_of}
+use Rattle.laws.specs.Loops.{turns_more}
+use Rattle.rules.specs.TuGrid.{paint_of}
 use Rattle.tiles.proofs.Turns.{loops as needs}
 use Rattle.grid.proofs.paint.paint.Goals as goal
 

@@ -2,9 +2,8 @@
 use mathlib.Core.Path.{◌≡◌}
 use Prim.Native.Nat.{◌-◌, ◌≤◌}
 use lib.ListN.{length}
-use Rattle.laws.specs.Loops.{turns, turns_more}
-use Rattle.rules.specs.TuGrid.{marks, paint_row, paint_of}
-use Rattle.tiles.proofs.Turns.{loops as needs}
+use Rattle.laws.specs.Loops.{turns}
+use Rattle.rules.specs.TuGrid.{marks, paint_row}
 use Rattle.grid.proofs.paint.paint.Given as goal
 
 abbrev pub invariant-loop-dr : goal.invariant-loop-dr

@@ -1,6 +1,5 @@
 -- `paint_at` reads the four numbers of leaf k. Assumes nothing.
 use Rattle.rules.specs.TuGrid.{leaf_of}
-use borrow.Author.Rules.{rules}
 use Rattle.grid.proofs.paint.paint_at.Goals as goal
 
 pub returns : goal.returns

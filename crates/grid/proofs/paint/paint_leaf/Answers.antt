@@ -1,5 +1,4 @@
 -- `paint_leaf` paints the tile of its four numbers, which lies near the plane. Assumes nothing.
-use Rattle.grid.proofs.Painted.{tile_painted}
 use Rattle.tiles.proofs.Leaves.{tile_placed}
 use borrow.Author.Rules.{rules}
 use Rattle.grid.proofs.paint.paint_leaf.Goals as goal

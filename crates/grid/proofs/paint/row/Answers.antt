@@ -1,9 +1,6 @@
 -- `row`'s loop: the cells passed so far are painted, and the lists keep their lengths. Assumes nothing.
-use mathlib.Core.Path.{◌≡◌}
-use Prim.Native.Nat.{◌-◌, ◌≤◌}
-use lib.ListN.{length}
-use Rattle.laws.specs.Loops.{turns, turns_more}
-use Rattle.rules.specs.TuGrid.{marks, paint_cell, paint_row}
+use Rattle.laws.specs.Loops.{turns_more}
+use Rattle.rules.specs.TuGrid.{paint_row}
 use Rattle.tiles.proofs.Turns.{loops as needs}
 use Rattle.grid.proofs.paint.row.Goals as goal
 

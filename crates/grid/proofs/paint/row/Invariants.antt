@@ -2,9 +2,8 @@
 use mathlib.Core.Path.{◌≡◌}
 use Prim.Native.Nat.{◌-◌, ◌≤◌}
 use lib.ListN.{length}
-use Rattle.laws.specs.Loops.{turns, turns_more}
-use Rattle.rules.specs.TuGrid.{marks, paint_cell, paint_row}
-use Rattle.tiles.proofs.Turns.{loops as needs}
+use Rattle.laws.specs.Loops.{turns}
+use Rattle.rules.specs.TuGrid.{marks, paint_cell}
 use Rattle.grid.proofs.paint.row.Given as goal
 
 abbrev pub invariant-loop-dc : goal.invariant-loop-dc

@@ -1,5 +1,4 @@
 -- `caps_ok` tests both caps. Assumes nothing.
-use borrow.Author.Rules.{rules}
 use Rattle.laws.specs.Choose.{tests}
 use Rattle.grid.proofs.start.caps_ok.Goals as goal
 

@@ -1,5 +1,4 @@
 -- `sizes_ok` tests the cells, then the subsampling. Assumes nothing.
-use borrow.Author.Rules.{rules}
 use Rattle.laws.specs.Choose.{tests}
 use Rattle.grid.proofs.start.sizes_ok.Goals as goal
 

@@ -1,15 +1,10 @@
--- `leaves_ok` looks for a bad leaf, then for a bad skip leaf. Assumes nothing.
-use mathlib.Core.Path.{refl}
-use borrow.Author.Rules.{rules}
-use Rattle.rules.specs.declared.refusals.Refusal.TheVariants.{Leaf}
-use Rattle.checks.proofs.Checks.{stop, go_on, found_bad_by, found_good_by}
+-- `leaves_ok` looks through the leaves, then through the skip leaves. Assumes nothing.
+use mathlib.Core.Path.{◌∙◌}
+use Rattle.checks.proofs.Checks.{handed, stop, go_on}
 use Rattle.grid.proofs.tx_grid.leaves_ok.Goals as goal
 
-pub returns-in-At : goal.returns-in-At
-returns-in-At c = stop _ _ (found_bad_by _ _ Leaf _ c.bad_leaf-f.ensures c.in-At.is refl)
-
-pub returns-in-At-g : goal.returns-in-At-g
-returns-in-At-g c = go_on _ _ _ (found_good_by _ _ Leaf c.bad_leaf-f.ensures c.in_default.is) (found_bad_by _ _ Leaf _ c.bad_leaf-g.ensures c.in-At-g.is refl)
+pub returns-in_err-list_ok : goal.returns-in_err-list_ok
+returns-in_err-list_ok c = handed _ c.from_residual.ensures ∙ stop _ _ c.in_err-list_ok.ensures
 
 pub returns : goal.returns
-returns c = go_on _ _ _ (found_good_by _ _ Leaf c.bad_leaf-f.ensures c.in_default.is) (found_good_by _ _ Leaf c.bad_leaf-g.ensures c.in_default-g.is)
+returns c = go_on _ _ _ c.in_ok-list_ok.ensures c.list_ok-2.ensures

@@ -1,15 +1,11 @@
 -- The plane so far holds the samples passed after the edge that are not kept, with their counts. Assumes nothing.
-use mathlib.Core.Path.{◌≡◌, refl}
-use Prim.Native.Nat.{◌*◌, ◌-◌, ◌≤◌}
+use mathlib.Core.Path.{refl}
+use Prim.Native.Nat.{◌*◌, ◌-◌}
 use native.Mathlib.Omega.{arith}
-use borrow.Author.Rules.{rules}
-use lib.ListN.{length}
-use Rattle.rules.specs.Segment.{q_at, kept_in}
+use Rattle.rules.specs.Segment.{q_at}
 use Rattle.taps.specs.Signed.{against}
-use Rattle.kept.specs.Kept.{against_line, Holds, Swept, Few}
-use Rattle.segment.proofs.Places.{after_in}
 use Rattle.segment.proofs.Taps.{as_long}
-use Rattle.kept.proofs.Swept.{swept_none, swept_end, side_more, few_none, few_then, few_same}
+use Rattle.kept.proofs.Swept.{swept_none, side_more, few_none, few_then}
 use Rattle.kept.proofs.kept.after_open.Goals as goal
 
 pub loop-i-init : goal.loop-i-init
@@ -20,9 +16,9 @@ loop-i-preserved c =
     let start = c.args in
     let inv = c.loop-i.invariant in
     let put = c.put_open-done.ensures in
-    let moved = c.move_after-x.ensures in (
+    let moved = c.after-x.ensures in (
       omega arith,
       as_long _ _ put.0.list inv.1,
-      side_more (q_at start.at start.step) (λ i x. against start.top x start.plus (start.by * (start.s - i))) start.s _ _ _ _ c.loop-i-test.true inv.2 moved.0 moved.1 put.0,
+      side_more (q_at start.at start.step) (λ i x. against start.m.top x start.m.plus (start.m.by * (start.s - i))) start.s _ _ _ _ c.loop-i-test.true inv.2 moved.0 moved.1 put.0,
       few_then inv.3 put.1 (omega arith),
     )

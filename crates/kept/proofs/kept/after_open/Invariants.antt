@@ -1,20 +1,14 @@
 -- The plane so far holds the samples passed after the edge that are not kept, with their counts. Assumes nothing.
-use mathlib.Core.Path.{◌≡◌, refl}
-use Prim.Native.Nat.{◌*◌, ◌-◌, ◌≤◌}
-use native.Mathlib.Omega.{arith}
-use borrow.Author.Rules.{rules}
+use mathlib.Core.Path.{◌≡◌}
+use Prim.Native.Nat.{◌-◌, ◌≤◌}
 use lib.ListN.{length}
 use Rattle.rules.specs.Segment.{q_at, kept_in}
-use Rattle.taps.specs.Signed.{against}
 use Rattle.kept.specs.Kept.{against_line, Holds, Swept, Few}
-use Rattle.segment.proofs.Places.{after_in}
-use Rattle.segment.proofs.Taps.{as_long}
-use Rattle.kept.proofs.Swept.{swept_none, swept_end, side_more, few_none, few_then, few_same}
 use Rattle.kept.proofs.kept.after_open.Given as goal
 
 abbrev pub invariant-loop-i : goal.invariant-loop-i
 invariant-loop-i l = (l.i ≤ l.s) × (length l.plane ≡ length l.initial.plane)
-    × Swept (kept_in l.cols l.stride l.keep) (against_line l.top l.at l.step l.s l.plus l.by l.q l.i) (Holds (q_at l.at l.step) l.s l.q) l.initial.plane l.initial.done l.done l.plane × Few l.i l.initial.done l.done
+    × Swept (kept_in l.kept.cols l.kept.stride l.kept.keep.now) (against_line l.m.top l.at l.step l.s l.m.plus l.m.by l.q l.i) (Holds (q_at l.at l.step) l.s l.q) l.initial.plane l.initial.done l.done l.plane × Few l.i l.initial.done l.done
 
 abbrev pub decreases-loop-i : goal.decreases-loop-i
 decreases-loop-i l = l.s - l.i

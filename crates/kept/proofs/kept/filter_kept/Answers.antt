@@ -1,7 +1,6 @@
 -- Nothing by a threshold of 0; as any edge where none of its cells is kept; else sample by sample. Assumes nothing.
 use mathlib.Core.Path.{refl, ◌∙◌}
 use native.Mathlib.Omega.{arith}
-use borrow.Author.Rules.{rules}
 use Rattle.segment.proofs.Edges.{fit_of, at_below, edge_filtered}
 use Rattle.segment.proofs.Zero.{edge_none, edge_lit}
 use Rattle.kept.proofs.Marked.{edge_fits, stride_some}
@@ -30,11 +29,14 @@ returns-then-all_open c =
     let free = c.all_open.ensures _ _ _ _ given.0.in_plane c.if-all_open.true in
     edge_open _ given.0.in_plane free.none (edge_filtered _ _ _ _ here (c.filter_segment.ensures.0 refl))
 
+pub invariant_of-segment_open : goal.invariant_of-segment_open
+invariant_of-segment_open c = record { stride_some = stride_some c.requires.0.in_plane; row = c.requires.1 }
+
 pub segment_open-requires : goal.segment_open-requires
 segment_open-requires c =
     let given = c.requires in
     let here = c.place-p.ensures ∙ given.2 in
-    (stride_some given.0.in_plane, given.1, fit_of given.0.in_plane here, edge_lit _ _ c.off.ensures here c.if-off.false)
+    (fit_of given.0.in_plane here, edge_lit _ _ c.off.ensures here c.if-off.false)
 
 pub returns : goal.returns
 returns c = edge_filtered _ _ _ _ (c.place-p.ensures ∙ c.requires.2) c.segment_open.ensures

@@ -1,5 +1,4 @@
 -- An empty list keeps nothing; else either direction. Assumes nothing.
-use borrow.Author.Rules.{rules}
 use Rattle.segment.proofs.Edges.{place_vertical, place_horizontal}
 use Rattle.kept.proofs.Swept.{edge_open, empty_open}
 use Rattle.kept.proofs.kept.filter_marked.Goals as goal

@@ -1,15 +1,7 @@
 -- The plane so far holds the lines passed, with their counts. Assumes nothing.
 use mathlib.Core.Path.{◌≡◌, refl}
-use Prim.Native.Nat.{◌+◌, ◌*◌, ◌-◌, ◌≤◌}
 use native.Mathlib.Omega.{arith}
-use borrow.Author.Rules.{rules}
-use lib.ListN.{length, get_or}
-use Rattle.laws.specs.Loops.{each}
-use Rattle.rules.specs.Width.{blank}
-use Rattle.rules.specs.Segment.{kept_in}
-use Rattle.segment.specs.Sides.{none}
-use Rattle.kept.specs.Kept.{line_open, lines_open, HoldsLines, Swept, Few}
-use Rattle.segment.proofs.Places.{line_in, lane_line}
+use Rattle.kept.specs.Kept.{lines_open}
 use Rattle.segment.proofs.Taps.{as_long}
 use Rattle.kept.proofs.Swept.{swept_none, line_next, few_none, few_then}
 use Rattle.kept.proofs.kept.lines_open.Goals as goal

@@ -1,8 +1,5 @@
 -- Off the cells nothing is claimed; on them the four cells across the edge are all that it may store in. Assumes nothing.
-use native.Mathlib.Omega.{arith}
-use borrow.Author.Rules.{rules}
-use Rattle.laws.specs.Choose.{true_not_false}
-use Rattle.kept.proofs.Marked.{edge_cell, open_upright, open_level}
+use Rattle.kept.proofs.Marked.{open_upright, open_level}
 use Rattle.kept.proofs.marks.all_open.Goals as goal
 
 pub returns-then-e-eq0 : goal.returns-then-e-eq0

@@ -1,12 +1,7 @@
 -- The samples passed stand in their places. Assumes nothing.
-use mathlib.Core.Path.{◌≡◌, refl}
-use Prim.Native.Nat.{◌-◌, ◌≤◌}
+use mathlib.Core.Path.{refl}
 use native.Mathlib.Omega.{arith}
-use borrow.Author.Rules.{rules}
-use lib.ListN.{get_or, length}
-use Rattle.laws.specs.Loops.{filled, filled_none, filled_more, filled_end}
-use Rattle.rules.specs.Segment.{zeros, q_at}
-use Rattle.segment.proofs.Places.{after_in}
+use Rattle.laws.specs.Loops.{filled_none, filled_more}
 use Rattle.kept.proofs.window.window_after.Goals as goal
 
 pub loop-i-init : goal.loop-i-init

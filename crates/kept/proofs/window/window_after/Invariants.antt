@@ -1,12 +1,9 @@
 -- The samples passed stand in their places. Assumes nothing.
-use mathlib.Core.Path.{◌≡◌, refl}
+use mathlib.Core.Path.{◌≡◌}
 use Prim.Native.Nat.{◌-◌, ◌≤◌}
-use native.Mathlib.Omega.{arith}
-use borrow.Author.Rules.{rules}
-use lib.ListN.{get_or, length}
-use Rattle.laws.specs.Loops.{filled, filled_none, filled_more, filled_end}
+use lib.ListN.{get_or}
+use Rattle.laws.specs.Loops.{filled}
 use Rattle.rules.specs.Segment.{zeros, q_at}
-use Rattle.segment.proofs.Places.{after_in}
 use Rattle.kept.proofs.window.window_after.Given as goal
 
 abbrev pub invariant-loop-i : goal.invariant-loop-i

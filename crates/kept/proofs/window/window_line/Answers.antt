@@ -1,5 +1,4 @@
 -- Both sides of a line. Assumes nothing.
-use borrow.Author.Rules.{rules}
 use Rattle.rules.specs.Segment.{line_of}
 use Rattle.kept.proofs.window.window_line.Goals as goal
 

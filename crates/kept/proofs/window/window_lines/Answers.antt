@@ -1,11 +1,8 @@
 -- The lines passed stand in their places. Assumes nothing.
 use mathlib.Core.Path.{◌≡◌}
-use Prim.Native.Nat.{◌+◌, ◌*◌, ◌-◌, ◌≤◌}
 use native.Mathlib.Omega.{arith}
-use borrow.Author.Rules.{rules}
-use Rattle.laws.specs.Loops.{filled, filled_none, filled_more}
-use Rattle.rules.specs.Segment.{zero_lines, line_of, lines_of}
-use Rattle.segment.proofs.Places.{line_in}
+use Rattle.laws.specs.Loops.{filled_none, filled_more}
+use Rattle.rules.specs.Segment.{lines_of}
 use Rattle.kept.proofs.window.window_lines.Goals as goal
 
 pub loop-j-init : goal.loop-j-init

@@ -1,10 +1,6 @@
--- The first i leaves are good.
-use Rattle.std.proofs.Common.{◌≤◌, ◌-◌, length}
+-- The leaves passed so far are good.
 use Rattle.leaves.proofs.Flat.{Sound}
 use Rattle.leaves.proofs.records.good_leaves.Given as goal
 
 abbrev pub invariant-loop-i : goal.invariant-loop-i
-invariant-loop-i l = Sound l.skip l.ls l.i × (l.i ≤ length l.ls)
-
-abbrev pub decreases-loop-i : goal.decreases-loop-i
-decreases-loop-i l = length l.ls - l.i
+invariant-loop-i l = Sound l.skip l.ls l.i

@@ -4,9 +4,8 @@ use Rattle.lengths.proofs.Lengths.{table_is}
 use Rattle.rules.specs.Lengths.{most_after, length_after}
 use mathlib.Core.List.{[], ◌∷◌}
 use mathlib.Core.Path.{◌∙◌}
-use borrow.Author.Rules.{rules}
 use Rattle.lengths.proofs.pairs.most_after.Goals as goal
 
 pub returns : goal.returns
 unfolding most_after length_after
-returns c = c.wide.ensures ∙ table_is most_after (1 ∷ 3 ∷ 6 ∷ 8 ∷ 8 ∷ 4 ∷ 3 ∷ 4 ∷ []) tt c.args.pair c.requires
+returns c = c.from.ensures ∙ table_is most_after (1 ∷ 3 ∷ 6 ∷ 8 ∷ 8 ∷ 4 ∷ 3 ∷ 4 ∷ []) tt c.args.pair c.requires

@@ -5,9 +5,8 @@ use Rattle.lengths.proofs.Lengths.{table_is}
 use Rattle.rules.specs.Lengths.{reach_after, reach_of, length_after}
 use mathlib.Core.List.{[], ◌∷◌}
 use mathlib.Core.Path.{◌∙◌}
-use borrow.Author.Rules.{rules}
 use Rattle.lengths.proofs.pairs.reach_after.Goals as goal
 
 pub returns : goal.returns
 unfolding reach_after reach_of length_after pick
-returns c = c.wide.ensures ∙ table_is reach_after (3 ∷ 4 ∷ 7 ∷ 8 ∷ 8 ∷ 5 ∷ 4 ∷ 5 ∷ []) tt c.args.pair c.requires
+returns c = c.from.ensures ∙ table_is reach_after (3 ∷ 4 ∷ 7 ∷ 8 ∷ 8 ∷ 5 ∷ 4 ∷ 5 ∷ []) tt c.args.pair c.requires

@@ -2,7 +2,6 @@
 use Rattle.lengths.proofs.Inside.{room_upright, room_level}
 use native.Mathlib.Omega.{arith}
 use Rattle.lengths.proofs.Lengths.{pair_facts}
-use borrow.Author.Rules.{rules}
 use Rattle.lengths.proofs.room.has_room.Goals as goal
 
 pub room_along-requires : goal.room_along-requires

@@ -3,8 +3,8 @@ use Rattle.checks.proofs.Checks.{checks}
 use borrow.Author.Rules.{rules}
 use Rattle.lone.proofs.lone.over_check.Goals as goal
 
-pub returns-in-At : goal.returns-in-At
-returns-in-At c = search checks
+pub returns-in-Some : goal.returns-in-Some
+returns-in-Some c = search checks
 
-pub returns-in-Nothing : goal.returns-in-Nothing
-returns-in-Nothing c = search checks
+pub returns-in-None : goal.returns-in-None
+returns-in-None c = search checks

@@ -1,5 +1,5 @@
 -- `read_line` takes a byte a turn, up to a newline. Assumes nothing.
-use Prim.Native.Nat.{◌-◌, ◌≤◌}
+use Prim.Native.Nat.{◌≤◌}
 use mathlib.Core.Path.{◌≡◌}
 use lib.ListN.{length}
 use Rattle.pictures.proofs.Texts.{Reading}
@@ -7,6 +7,3 @@ use Rattle.pictures.proofs.files.read_line.Given as goal
 
 abbrev pub invariant-loop-n : goal.invariant-loop-n
 invariant-loop-n l = (l.n ≤ length l.initial.buf) × (length l.buf ≡ length l.initial.buf) × Reading l.initial.buf l.buf l.n
-
-abbrev pub decreases-loop-n : goal.decreases-loop-n
-decreases-loop-n l = length l.initial.buf - l.n

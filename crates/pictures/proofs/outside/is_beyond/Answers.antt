@@ -7,6 +7,6 @@ pub returns-then-rows-row : goal.returns-then-rows-row
 unfolding beyond
 returns-then-rows-row c = search tests
 
-pub returns : goal.returns
+pub returns-else-rows-row : goal.returns-else-rows-row
 unfolding beyond
-returns c = search tests
+returns-else-rows-row c = search tests

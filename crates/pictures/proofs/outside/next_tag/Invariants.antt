@@ -7,6 +7,3 @@ use Rattle.pictures.proofs.outside.next_tag.Given as goal
 
 abbrev pub invariant-loop-at : goal.invariant-loop-at
 invariant-loop-at l = seek (tag_at l.text l.letter) l.at (l.last - l.at) ≡ seek (tag_at l.text l.letter) l.from (l.last - l.from)
-
-abbrev pub decreases-loop-at : goal.decreases-loop-at
-decreases-loop-at l = l.last - l.at

@@ -8,6 +8,3 @@ use Rattle.pictures.proofs.outside.outside.Given as goal
 
 abbrev pub invariant-loop-k : goal.invariant-loop-k
 invariant-loop-k l = (l.n ≡ length l.leaves / 4) × (seek (beyond_at l.rows l.columns l.leaves) l.k (l.n - l.k) ≡ seek (beyond_at l.rows l.columns l.leaves) 0 (l.n - 0))
-
-abbrev pub decreases-loop-k : goal.decreases-loop-k
-decreases-loop-k l = l.n - l.k

@@ -1,9 +1,6 @@
--- `differing` counts, a sample a turn. Assumes nothing.
-use Rattle.pictures.proofs.Changing.{changing as needs}
+-- `differing` counts the pairs that differ. Assumes nothing.
+use Rattle.pictures.proofs.Changing.{counted}
 use Rattle.pictures.proofs.planes.differing.Goals as goal
 
-pub loop-k-init : goal.loop-k-init
-loop-k-init c = search needs
-
-pub loop-k-preserved : goal.loop-k-preserved
-loop-k-preserved c = search needs
+pub returns : goal.returns
+returns c = counted _ _ _ c.pairs_differing.ensures

@@ -1,8 +1,8 @@
 -- `settings_check` meets its contract. Assumes nothing.
 use mathlib.Core.List.{[]}
-use borrow.Author.Rules.{rules}
+use mathlib.Core.Path.{refl, ◌∙◌}
 use Rattle.laws.specs.Choose.{told_yes_not, told_no_not}
-use Rattle.checks.proofs.Checks.{stop, stop_by, go_on, accepted_by, unless_bad, unless_good}
+use Rattle.checks.proofs.Checks.{stop, go_on, handed, unless_bad, unless_good}
 use Rattle.rules.specs.Rows.{settings_check}
 use Rattle.plane_checks.proofs.Accepted.{sizes_by}
 use Rattle.plane.proofs.Accepting.{sized_by}
@@ -24,29 +24,29 @@ pub returns-then-not-lengths_ok : goal.returns-then-not-lengths_ok
 unfolding settings_check
 returns-then-not-lengths_ok c = go_on _ _ _ (unless_good _ _ (told_yes_not _ _ c.is.ensures c.if-not-is.false-raw)) (go_on _ _ _ (unless_good _ _ (told_yes_not _ _ c.sizes_ok.ensures c.if-not-sizes_ok.false-raw)) (stop _ _ (unless_bad _ _ (told_no_not _ _ (c.lengths_ok.ensures _) c.if-not-lengths_ok.true-raw))))
 
-pub returns-in-Refused : goal.returns-in-Refused
-returns-in-Refused c =
-    past_lengths _ _ _ _ c.is.ensures c.if-not-is.false-raw
+pub returns-in_err-steps_check : goal.returns-in_err-steps_check
+returns-in_err-steps_check c =
+    handed _ c.from_residual.ensures ∙ past_lengths _ _ _ _ c.is.ensures c.if-not-is.false-raw
     c.sizes_ok.ensures c.if-not-sizes_ok.false-raw
     (c.lengths_ok.ensures _) c.if-not-lengths_ok.false-raw
-    (stop_by _ _ _ c.steps_check-table.ensures (search rules))
+    (stop _ _ c.in_err-steps_check.ensures)
 
-pub returns-in-Refused-deltas : goal.returns-in-Refused-deltas
-returns-in-Refused-deltas c =
-    past_lengths _ _ _ _ c.is.ensures c.if-not-is.false-raw
+pub returns-in_err-deltas_check : goal.returns-in_err-deltas_check
+returns-in_err-deltas_check c =
+    handed _ c.from_residual-in_err-deltas_check.ensures ∙ past_lengths _ _ _ _ c.is.ensures c.if-not-is.false-raw
     c.sizes_ok.ensures c.if-not-sizes_ok.false-raw
     (c.lengths_ok.ensures _) c.if-not-lengths_ok.false-raw
-    (go_on _ _ _ (accepted_by _ _ c.steps_check-table.ensures (search rules)) (stop_by _ _ _ (deltas_read (record { sfits = c.struct_told-2-1.given.1.1.1.1.1.1.1.1.1.0.1 })
-    (record { sfits = c.struct_told-2-1.given.1.1.1.1.1.1.1.1.1.1.0.1 }) c.deltas_check-deltas.ensures) (search rules)))
+    (go_on _ _ _ c.in_ok-steps_check.ensures (stop _ _ (deltas_read (record { sfits = c.struct_told-2-1.given.1.1.1.1.1.1.1.1.1.0.1 })
+    (record { sfits = c.struct_told-2-1.given.1.1.1.1.1.1.1.1.1.1.0.1 }) c.in_err-deltas_check.ensures)))
 
-pub returns-in-Refused-starts : goal.returns-in-Refused-starts
-returns-in-Refused-starts c =
-    past_deltas _ _ _ _ c.is.ensures c.if-not-is.false-raw
+pub returns-in_err-tiles_check : goal.returns-in_err-tiles_check
+returns-in_err-tiles_check c =
+    handed _ c.from_residual-in_err-tiles_check.ensures ∙ past_deltas _ _ _ _ c.is.ensures c.if-not-is.false-raw
     c.sizes_ok.ensures c.if-not-sizes_ok.false-raw
     (c.lengths_ok.ensures _) c.if-not-lengths_ok.false-raw
-    c.steps_check-table.ensures (search rules)
-    (deltas_read (record { sfits = c.struct_told-2-1.given.1.1.1.1.1.1.1.1.1.0.1 }) (record { sfits = c.struct_told-2-1.given.1.1.1.1.1.1.1.1.1.1.0.1 }) c.deltas_check-deltas.ensures) (search rules)
-    (stop_by _ _ _ c.tiles_check-starts.ensures (search rules))
+    c.in_ok-steps_check.ensures refl
+    (deltas_read (record { sfits = c.struct_told-2-1.given.1.1.1.1.1.1.1.1.1.0.1 }) (record { sfits = c.struct_told-2-1.given.1.1.1.1.1.1.1.1.1.1.0.1 }) c.in_ok-deltas_check.ensures) refl
+    (stop _ _ c.in_err-tiles_check.ensures)
 
 pub grid_check-requires : goal.grid_check-requires
 grid_check-requires c =
@@ -64,6 +64,6 @@ returns c =
     past_deltas _ _ _ _ c.is.ensures c.if-not-is.false-raw
     c.sizes_ok.ensures c.if-not-sizes_ok.false-raw
     (c.lengths_ok.ensures _) c.if-not-lengths_ok.false-raw
-    c.steps_check-table.ensures (search rules)
-    (deltas_read (record { sfits = c.struct_told-2-1.given.1.1.1.1.1.1.1.1.1.0.1 }) (record { sfits = c.struct_told-2-1.given.1.1.1.1.1.1.1.1.1.1.0.1 }) c.deltas_check-deltas.ensures) (search rules)
-    (go_on _ _ _ (accepted_by _ _ c.tiles_check-starts.ensures (search rules)) (c.grid_check.ensures _))
+    c.in_ok-steps_check.ensures refl
+    (deltas_read (record { sfits = c.struct_told-2-1.given.1.1.1.1.1.1.1.1.1.0.1 }) (record { sfits = c.struct_told-2-1.given.1.1.1.1.1.1.1.1.1.1.0.1 }) c.in_ok-deltas_check.ensures) refl
+    (go_on _ _ _ c.in_ok-tiles_check.ensures (c.grid_check.ensures _))

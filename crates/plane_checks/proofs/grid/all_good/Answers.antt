@@ -10,9 +10,9 @@ loop-k-init c = search needs
 pub loop-k-preserved : goal.loop-k-preserved
 loop-k-preserved c =
     let inv = c.loop-k.invariant in
-    let inner = c.larger in
-    let marks = c.larger-in-loop-k in
-    (search needs, mark_more _ _ _ _ inv.1 inner.ensures marks.ensures c.larger-mark.ensures, index_more _ _ _ inv.2 c.larger-in-loop-k-2.ensures c.larger-size.ensures)
+    let inner = c.max in
+    let marks = c.max-in-loop-k in
+    (search needs, mark_more _ _ _ _ inv.1 inner.ensures marks.ensures c.max-mark.ensures, index_more _ _ _ inv.2 c.max-in-loop-k-2.ensures c.max-size.ensures)
 
 pub returns-then-mark-gt1 : goal.returns-then-mark-gt1
 returns-then-mark-gt1 c = search needs

@@ -5,8 +5,8 @@ use Rattle.plane_checks.proofs.room.lacks_horz.Goals as goal
 pub returns-then-rows-lt2 : goal.returns-then-rows-lt2
 returns-then-rows-lt2 c = search needs
 
-pub returns-in-At : goal.returns-in-At
-returns-in-At c = search needs
+pub returns-in-Some : goal.returns-in-Some
+returns-in-Some c = search needs
 
 pub returns : goal.returns
 returns c = search needs

@@ -2,7 +2,7 @@
 use mathlib.Core.Path.{◌≡◌}
 use mathlib.Core.List.{[]}
 use Prim.Native.Nat.{◌≤◌, ◌-◌}
-use Rattle.rules.specs.declared.refusals.Found.TheVariants.{Nothing}
+use Rattle.std.specs.declared.option.Option.TheVariants.{None}
 use Rattle.rules.specs.Refusals.{first}
 use Rattle.cell_edges.specs.Cells.{one_way}
 use Rattle.rules.specs.Plane.{lacks_row, lacks_dir}
@@ -12,9 +12,9 @@ use Rattle.plane_checks.proofs.room.lacks_vert.Goals as goal
 pub loop-r-init : goal.loop-r-init
 loop-r-init c = search needs
 
-pub returns-in-At : goal.returns-in-At
+pub returns-in-Some : goal.returns-in-Some
 unfolding lacks_dir
-returns-in-At c = search needs
+returns-in-Some c = search needs
 
 pub loop-r-preserved : goal.loop-r-preserved
 loop-r-preserved c = search needs

@@ -2,7 +2,7 @@
 use mathlib.Core.Path.{◌≡◌}
 use Prim.Native.Nat.{◌≤◌, ◌-◌}
 use lib.ListN.{length}
-use Rattle.rules.specs.declared.refusals.Found.TheVariants.{Nothing}
+use Rattle.std.specs.declared.option.Option.TheVariants.{None}
 use Rattle.rules.specs.Plane.{start_good, bad_start}
 use Rattle.rules.specs.Refusals.{first, found_unless}
 use Rattle.plane_checks.proofs.Marks.{finds as needs}

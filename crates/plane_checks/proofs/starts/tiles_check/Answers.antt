@@ -5,8 +5,8 @@ use Rattle.checks.proofs.Checks.{checks}
 use Rattle.plane_checks.proofs.Tiles.{checking}
 use Rattle.plane_checks.proofs.starts.tiles_check.Goals as goal
 
-pub returns-in-At : goal.returns-in-At
-returns-in-At c = search checking
+pub returns-in-Some : goal.returns-in-Some
+returns-in-Some c = search checking
 
 pub returns : goal.returns
 unfolding tiles_check

@@ -1,5 +1,4 @@
 -- `luma` is a product with 2 to the subsampling. Assumes nothing.
-use borrow.Author.Rules.{rules}
 use Rattle.qindex.proofs.Shifts.{up_none, up_double}
 use Rattle.qindex.proofs.qindex_grid.luma.Goals as goal
 

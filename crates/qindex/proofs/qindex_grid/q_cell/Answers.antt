@@ -2,7 +2,6 @@
 use borrow.Author.Rules.{rules}
 use Rattle.rules.specs.QindexGrid.{q_cell}
 use Rattle.qindex.proofs.Shifts.{superblock_below}
-use Rattle.qindex.proofs.Places.{q_row_fits, q_cell_fits, q_cell_in}
 use Rattle.qindex.proofs.qindex_grid.q_cell.Goals as goal
 
 pub offset_bounds-sbq-i : goal.offset_bounds-sbq-i

@@ -1,5 +1,4 @@
 -- `q_check` makes the checks 2 and 3 in this order, whatever the lists hold. Assumes nothing.
-use borrow.Author.Rules.{rules}
 use Rattle.laws.specs.Choose.{told_yes, told_no}
 use Rattle.rules.specs.QindexGrid.{q_grid_check}
 use Rattle.checks.proofs.Checks.{stop, go_on, unless_bad, unless_good}

@@ -1,9 +1,5 @@
 -- `q_row`'s loop: the cells passed so far are set. Assumes nothing.
-use mathlib.Core.Path.{◌≡◌}
-use Prim.Native.Nat.{◌-◌, ◌≤◌}
-use lib.ListN.{length}
-use Rattle.laws.specs.Loops.{turns}
-use Rattle.rules.specs.QindexGrid.{q_cell, q_row}
+use Rattle.rules.specs.QindexGrid.{q_row}
 use Rattle.tiles.proofs.Turns.{loops as needs}
 use Rattle.qindex.proofs.qindex_grid.q_row.Goals as goal
 

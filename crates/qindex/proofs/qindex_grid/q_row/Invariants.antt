@@ -3,8 +3,7 @@ use mathlib.Core.Path.{◌≡◌}
 use Prim.Native.Nat.{◌-◌, ◌≤◌}
 use lib.ListN.{length}
 use Rattle.laws.specs.Loops.{turns}
-use Rattle.rules.specs.QindexGrid.{q_cell, q_row}
-use Rattle.tiles.proofs.Turns.{loops as needs}
+use Rattle.rules.specs.QindexGrid.{q_cell}
 use Rattle.qindex.proofs.qindex_grid.q_row.Given as goal
 
 abbrev pub invariant-loop-c : goal.invariant-loop-c

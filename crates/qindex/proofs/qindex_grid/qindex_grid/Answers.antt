@@ -1,9 +1,5 @@
 -- `qindex_grid`'s loop: the rows passed so far are set. Assumes nothing.
-use mathlib.Core.Path.{◌≡◌}
-use Prim.Native.Nat.{◌-◌, ◌≤◌}
-use lib.ListN.{length}
-use Rattle.laws.specs.Loops.{turns}
-use Rattle.rules.specs.QindexGrid.{q_row, q_grid_of}
+use Rattle.rules.specs.QindexGrid.{q_grid_of}
 use Rattle.tiles.proofs.Turns.{loops as needs}
 use Rattle.qindex.proofs.qindex_grid.qindex_grid.Goals as goal
 

@@ -3,8 +3,7 @@ use mathlib.Core.Path.{◌≡◌}
 use Prim.Native.Nat.{◌-◌, ◌≤◌}
 use lib.ListN.{length}
 use Rattle.laws.specs.Loops.{turns}
-use Rattle.rules.specs.QindexGrid.{q_row, q_grid_of}
-use Rattle.tiles.proofs.Turns.{loops as needs}
+use Rattle.rules.specs.QindexGrid.{q_row}
 use Rattle.qindex.proofs.qindex_grid.qindex_grid.Given as goal
 
 abbrev pub invariant-loop-r : goal.invariant-loop-r

@@ -10,4 +10,4 @@ pub overflow_add-i : goal.overflow_add-i
 overflow_add-i c = superblock_fits _ _ _ c.luma-y.ensures (search rules) (search rules) _ (search rules) _ _ _ c.luma-x.ensures (search rules) (search rules)
 
 pub returns : goal.returns
-returns c = superblock_is _ _ _ _ _ _ _ c.luma-y.ensures c.luma-x.ensures c.least.ensures
+returns c = superblock_is _ _ _ _ _ _ _ c.luma-y.ensures c.luma-x.ensures c.min.ensures

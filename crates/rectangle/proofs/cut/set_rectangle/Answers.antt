@@ -1,9 +1,4 @@
 -- `set_rectangle`'s loop: the rows passed so far are set; no column left, nothing is to be set. Assumes nothing.
-use mathlib.Core.Path.{◌≡◌}
-use Prim.Native.Nat.{◌+◌, ◌-◌, ◌*◌, ◌≤◌}
-use lib.ListN.{length}
-use Rattle.laws.specs.Loops.{turns}
-use Rattle.rectangle.specs.Cut.{row_set}
 use Rattle.rectangle.proofs.Rows.{rectangles as needs}
 use Rattle.rectangle.proofs.cut.set_rectangle.Goals as goal
 

@@ -4,7 +4,6 @@ use Prim.Native.Nat.{◌+◌, ◌-◌, ◌*◌, ◌≤◌}
 use lib.ListN.{length}
 use Rattle.laws.specs.Loops.{turns}
 use Rattle.rectangle.specs.Cut.{row_set}
-use Rattle.rectangle.proofs.Rows.{rectangles as needs}
 use Rattle.rectangle.proofs.cut.set_rectangle.Given as goal
 
 abbrev pub invariant-loop-i : goal.invariant-loop-i

@@ -1,8 +1,4 @@
 -- `set_row`'s loop: the places passed so far are 1. Assumes nothing.
-use mathlib.Core.Path.{◌≡◌}
-use Prim.Native.Nat.{◌+◌, ◌-◌, ◌≤◌}
-use lib.ListN.{length, set}
-use Rattle.laws.specs.Loops.{turns}
 use Rattle.tiles.proofs.Turns.{loops as needs}
 use Rattle.rectangle.specs.Cut.{row_set}
 use Rattle.rectangle.proofs.cut.set_row.Goals as goal

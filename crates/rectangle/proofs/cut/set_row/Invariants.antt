@@ -3,8 +3,6 @@ use mathlib.Core.Path.{◌≡◌}
 use Prim.Native.Nat.{◌+◌, ◌-◌, ◌≤◌}
 use lib.ListN.{length, set}
 use Rattle.laws.specs.Loops.{turns}
-use Rattle.tiles.proofs.Turns.{loops as needs}
-use Rattle.rectangle.specs.Cut.{row_set}
 use Rattle.rectangle.proofs.cut.set_row.Given as goal
 
 abbrev pub invariant-loop-j : goal.invariant-loop-j

@@ -1,5 +1,4 @@
 -- `keep_check` makes the checks 2, 3 and 6 in this order. Assumes nothing.
-use borrow.Author.Rules.{rules}
 use Rattle.laws.specs.Choose.{told}
 use Rattle.rules.specs.Keep.{keep_check}
 use Rattle.checks.proofs.Checks.{checks}
@@ -17,9 +16,9 @@ pub returns-then-keep-n : goal.returns-then-keep-n
 unfolding keep_check
 returns-then-keep-n c = search checks
 
-pub returns-in-At : goal.returns-in-At
+pub returns-in-Some : goal.returns-in-Some
 unfolding keep_check
-returns-in-At c = search checks
+returns-in-Some c = search checks
 
 pub returns : goal.returns
 unfolding keep_check

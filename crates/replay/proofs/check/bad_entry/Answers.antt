@@ -2,7 +2,7 @@
 use Rattle.checks.proofs.First.{first_none}
 use Rattle.std.proofs.Common.{◌≡◌, ◌-◌, ◌≤◌, arith, rules}
 use Rattle.replay.proofs.Entries.{good_at, entry_more, entry_found, entry_end}
-use Rattle.rules.specs.declared.refusals.Found.TheVariants.{Nothing}
+use Rattle.std.specs.declared.option.Option.TheVariants.{None}
 use Rattle.rules.specs.Refusals.{first}
 use Rattle.rules.specs.Segment.{ranges_ok}
 use Rattle.replay.proofs.check.bad_entry.Goals as goal

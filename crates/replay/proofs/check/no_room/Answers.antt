@@ -2,7 +2,7 @@
 use Rattle.checks.proofs.First.{first_none}
 use Rattle.replay.proofs.Entries.{good_at, entry_more, entry_found, entry_end}
 use Rattle.std.proofs.Common.{◌≡◌, ◌-◌, ◌*◌, ◌≤◌, arith}
-use Rattle.rules.specs.declared.refusals.Found.TheVariants.{Nothing}
+use Rattle.std.specs.declared.option.Option.TheVariants.{None}
 use Rattle.rules.specs.Refusals.{first}
 use Rattle.rules.specs.Segment.{has_room}
 use Rattle.replay.proofs.Entries.{pair_below}

@@ -2,7 +2,7 @@
 use Rattle.replay.proofs.Checking.{header_refused, cut_refused, entry_refused, record_passed}
 use Rattle.replay.proofs.Entries.{header_there, cut_at, cut_none}
 use Rattle.laws.specs.Choose.{told_yes, told_no}
-use Rattle.std.proofs.Common.{arith, rules}
+use Rattle.std.proofs.Common.{arith}
 use Rattle.replay.proofs.check.record_check.Goals as goal
 
 pub returns-then-not-header_ok : goal.returns-then-not-header_ok
@@ -17,8 +17,8 @@ overflow_sub-bytes c = omega (arith, header_there _ (told_yes _ _ c.header_ok.en
 pub returns-then-bytes-ne0 : goal.returns-then-bytes-ne0
 returns-then-bytes-ne0 c = cut_refused _ (told_yes _ _ c.header_ok.ensures c.if-not-header_ok.false) (cut_at _ _ c.count-n.ensures c.if-bytes-ne0.true)
 
-pub returns-in-At : goal.returns-in-At
-returns-in-At c = entry_refused _ (told_yes _ _ c.header_ok.ensures c.if-not-header_ok.false) (cut_none _ c.if-bytes-ne0.false) c.bad_entry-bad.ensures (search rules)
+pub returns-in-Some : goal.returns-in-Some
+returns-in-Some c = entry_refused _ (told_yes _ _ c.header_ok.ensures c.if-not-header_ok.false) (cut_none _ c.if-bytes-ne0.false) c.bad_entry.ensures c.in-Some.is
 
-pub returns : goal.returns
-returns c = record_passed _ (told_yes _ _ c.header_ok.ensures c.if-not-header_ok.false) (cut_none _ c.if-bytes-ne0.false) c.bad_entry-bad.ensures (search rules)
+pub returns-in-None : goal.returns-in-None
+returns-in-None c = record_passed _ (told_yes _ _ c.header_ok.ensures c.if-not-header_ok.false) (cut_none _ c.if-bytes-ne0.false) c.bad_entry.ensures c.in-None.is

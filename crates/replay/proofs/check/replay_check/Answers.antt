@@ -1,7 +1,7 @@
 -- `replay_check` meets its contract: each check in its order; what the later ones need is what the earlier ones tested. Assumes nothing.
-use Rattle.std.proofs.Common.{rules}
+use Rattle.std.proofs.Common.{refl, ◌∙◌}
 use Rattle.laws.specs.Choose.{told_yes, told_no}
-use Rattle.checks.proofs.Checks.{checks, stop, go_on, unless_bad, unless_good}
+use Rattle.checks.proofs.Checks.{checks, handed, stop, go_on, unless_bad, unless_good}
 use Rattle.rules.specs.Replay.{replay_check}
 use Rattle.replay.proofs.Checking.{record_refused, roomy_by, replay_passed}
 use Rattle.replay.proofs.Entries.{sized_of}
@@ -28,14 +28,15 @@ returns-then-not-lengths_ok c =
     let its-lengths-ok = c.lengths_ok in
     go_on _ _ _ (unless_good _ _ (told_yes _ _ its-is.ensures its-if1.false)) (go_on _ _ _ (unless_good _ _ (told_yes _ _ its-sizes-ok.ensures its-if2.false)) (stop _ _ (unless_bad _ _ (told_no _ _ its-lengths-ok.ensures c.if-not-lengths_ok.true))))
 
-pub returns-in-Refused : goal.returns-in-Refused
-returns-in-Refused c =
-    record_refused _ _ _ _
+pub returns-in_err-record_check : goal.returns-in_err-record_check
+returns-in_err-record_check c =
+    handed _ c.from_residual.ensures
+    ∙ record_refused _ _ _ _
     (told_yes _ _ c.is.ensures c.if-not-is.false)
     (told_yes _ _ c.sizes_ok.ensures c.if-not-sizes_ok.false)
     (told_yes _ _ c.lengths_ok.ensures c.if-not-lengths_ok.false)
-    c.record_check-a.ensures
-    (search rules)
+    c.in_err-record_check.ensures
+    refl
 
 pub room_check-requires : goal.room_check-requires
 room_check-requires c =
@@ -43,8 +44,8 @@ room_check-requires c =
     (told_yes _ _ c.is.ensures c.if-not-is.false)
     (told_yes _ _ c.sizes_ok.ensures c.if-not-sizes_ok.false)
     (told_yes _ _ c.lengths_ok.ensures c.if-not-lengths_ok.false)
-    c.record_check-a.ensures
-    (search rules)
+    c.in_ok-record_check.ensures
+    refl
 
 pub returns : goal.returns
 returns c =
@@ -52,6 +53,6 @@ returns c =
     (told_yes _ _ c.is.ensures c.if-not-is.false)
     (told_yes _ _ c.sizes_ok.ensures c.if-not-sizes_ok.false)
     (told_yes _ _ c.lengths_ok.ensures c.if-not-lengths_ok.false)
-    c.record_check-a.ensures
-    (search rules)
+    c.in_ok-record_check.ensures
+    refl
     c.room_check.ensures

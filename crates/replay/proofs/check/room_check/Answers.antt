@@ -5,19 +5,14 @@ use Rattle.replay.proofs.Entries.{cells_most}
 use Rattle.replay.proofs.Checking.{keep_refused, room_refused, sample_refused, room_passed}
 use Rattle.replay.proofs.check.room_check.Goals as goal
 
-pub returns-in-At : goal.returns-in-At
-returns-in-At c = keep_refused _ _ _ _ c.bad_keep-bad.ensures (search rules)
+pub returns-in-Some : goal.returns-in-Some
+returns-in-Some c = keep_refused _ _ _ _ c.bad_keep.ensures (search rules)
 
-pub returns-in-At-narrow : goal.returns-in-At-narrow
-returns-in-At-narrow c = room_refused _ _ _ _ c.bad_keep-bad.ensures (search rules) c.no_room-narrow.ensures (search rules)
+pub returns-in-Some-no_room : goal.returns-in-Some-no_room
+returns-in-Some-no_room c = room_refused _ _ _ _ c.bad_keep.ensures (search rules) c.no_room.ensures (search rules)
 
-pub returns-in-At-over : goal.returns-in-At-over
-returns-in-At-over c =
-    let its-bad-keep = c.bad_keep-bad in
-    let its-no-room = c.no_room-narrow in
-    let its-top = c.top in
-    let its-samples = c.samples-over in
-    sample_refused _ _ _ _ its-bad-keep.ensures (search rules) its-no-room.ensures (search rules) its-top.ensures its-samples.ensures (search rules)
+pub returns-in-Some-samples : goal.returns-in-Some-samples
+returns-in-Some-samples c = sample_refused _ _ _ _ c.bad_keep.ensures (search rules) c.no_room.ensures (search rules) c.top.ensures c.samples.ensures (search rules)
 
-pub returns : goal.returns
-returns c = room_passed _ _ _ _ c.bad_keep-bad.ensures (search rules) c.no_room-narrow.ensures (search rules) c.top.ensures c.samples-over.ensures (search rules)
+pub returns-in-None : goal.returns-in-None
+returns-in-None c = room_passed _ _ _ _ c.bad_keep.ensures (search rules) c.no_room.ensures (search rules) c.top.ensures c.samples.ensures (search rules)

@@ -8,8 +8,8 @@ use Rattle.rows.proofs.entry.deblock_rows.Goals as goal
 pub rows_check-a-requires : goal.rows_check-a-requires
 rows_check-a-requires c = λ e. checked_samples (settled _ _ _ _ (sym c.settings_check-given.ensures ∙ e))
 
-pub returns-in-Refused : goal.returns-in-Refused
-returns-in-Refused c = stated_refused _ _ _ _ _ _ (c.rows_check-a.ensures _ _ c.settings_check-given.ensures) (search rules) c.spent_by-kept.ensures
+pub returns-in-Err : goal.returns-in-Err
+returns-in-Err c = stated_refused _ _ _ _ _ _ (c.rows_check-a.ensures _ _ c.settings_check-given.ensures) (search rules) c.spent_by-kept.ensures
 
 pub run_band-done-requires : goal.run_band-done-requires
 run_band-done-requires c = band_asks _ _ _ _ _ _ (c.rows_check-a.ensures _ _ c.settings_check-given.ensures) (search rules)

@@ -1,6 +1,5 @@
 -- Nine reads, each at its place outwards.
 use Rattle.segment.proofs.Near.{after_nine}
-use Rattle.std.proofs.Common.{rules}
 use Rattle.segment.proofs.read.read_after.Goals as goal
 
 pub returns : goal.returns

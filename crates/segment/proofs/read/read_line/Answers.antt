@@ -1,6 +1,5 @@
 -- Both sides.
 use Rattle.segment.specs.Near.{near_line}
-use Rattle.std.proofs.Common.{rules}
 use Rattle.segment.proofs.read.read_line.Goals as goal
 
 pub returns : goal.returns

@@ -1,6 +1,5 @@
 -- Each line has room, and the four make the lines.
-use Rattle.std.proofs.Common.{refl, arith, rules}
-use Rattle.segment.proofs.Near.{span_of, four_lines}
+use Rattle.segment.proofs.Near.{four_lines}
 use Rattle.segment.proofs.read.read_lines.Goals as goal
 
 pub returns : goal.returns

@@ -1,7 +1,6 @@
 -- The lines read, and the width chosen from them: each step by its law.
 use Rattle.segment.proofs.Edges.{read_room, choice_fits}
 use Rattle.segment.proofs.Near.{chosen_near}
-use Rattle.std.proofs.Common.{rules}
 use Rattle.segment.proofs.segment.chosen_width.Goals as goal
 
 pub read_lines-lines-requires : goal.read_lines-lines-requires

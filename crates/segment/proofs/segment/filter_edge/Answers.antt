@@ -1,5 +1,5 @@
 -- Nothing by a threshold of 0; else the edge by its offsets, in either direction.
-use Rattle.std.proofs.Common.{refl, ◌∙◌, arith, rules}
+use Rattle.std.proofs.Common.{refl, ◌∙◌, arith}
 use Rattle.segment.proofs.Edges.{fit_of, at_below, place_vertical, place_horizontal, edge_filtered}
 use Rattle.segment.proofs.Zero.{edge_none, edge_lit}
 use Rattle.segment.proofs.segment.filter_edge.Goals as goal

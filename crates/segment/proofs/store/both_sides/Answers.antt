@@ -1,5 +1,5 @@
 -- The pairs that meet no limit, then the rest.
-use Rattle.std.proofs.Common.{arith, rules}
+use Rattle.std.proofs.Common.{arith}
 use Rattle.segment.proofs.Taps.{pair_on, pair_put}
 use Rattle.segment.proofs.store.both_sides.Goals as goal
 
@@ -9,5 +9,5 @@ returns c =
     let f = c.pairs_from.ensures in
     let start = c.args in
     let l = start.plane.now in
-    let on = pair_on _ _ _ _ start.by start.plus l c.requires.3 _ start.sofar p.0 in
-    (pair_put _ _ _ _ start.by start.plus l c.requires.3 (f.0 l start.sofar on), omega (arith, f.1, p.1, p.2))
+    let on = pair_on _ _ _ _ start.m.by start.m.plus l c.requires.2 _ start.sofar p.0 in
+    (pair_put _ _ _ _ start.m.by start.m.plus l c.requires.2 (f.0 l start.sofar on), omega (arith, f.1, p.1, p.2))

@@ -1,8 +1,6 @@
 -- The plane so far holds the stores of the samples passed, with the count of those that changed; the next sample is still as it was.
-use Rattle.std.proofs.Common.{◌≡◌, ◌+◌, ◌-◌, ◌≤◌, length, refl, arith, length-set, rules}
-use Rattle.laws.specs.Changes.{Put, put_none, put_end}
-use Rattle.segment.specs.Sides.{against_stores}
-use Rattle.segment.proofs.Places.{after_in}
+use Rattle.std.proofs.Common.{refl, arith, length-set}
+use Rattle.laws.specs.Changes.{put_none}
 use Rattle.segment.proofs.Taps.{after_more}
 use Rattle.segment.proofs.store.side_after.Goals as goal
 
@@ -13,5 +11,5 @@ pub loop-i-preserved : goal.loop-i-preserved
 loop-i-preserved c =
     let start = c in
     let inv = c.loop-i.invariant in
-    let moved = c.move_after-q.ensures in
-    (omega arith, omega arith, simp length-set inv.2, after_more _ _ _ _ _ _ start.args.plane.now start.requires.3 _ _ _ inv.3 moved.0 moved.1)
+    let moved = c.after-q.ensures in
+    (omega arith, omega arith, simp length-set inv.2, after_more _ _ _ _ _ _ start.args.plane.now start.requires.2 _ _ _ inv.3 moved.0 moved.1)

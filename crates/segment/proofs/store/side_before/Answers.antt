@@ -1,7 +1,6 @@
 -- The plane so far holds the stores of the samples passed, with the count of those that changed; the next sample is still as it was.
-use Rattle.std.proofs.Common.{◌≡◌, ◌+◌, ◌-◌, ◌≤◌, length, refl, arith, length-set, rules}
-use Rattle.laws.specs.Changes.{Put, put_none, put_end}
-use Rattle.segment.specs.Sides.{along_stores}
+use Rattle.std.proofs.Common.{refl, arith, length-set}
+use Rattle.laws.specs.Changes.{put_none}
 use Rattle.segment.proofs.Places.{before_in}
 use Rattle.segment.proofs.Taps.{before_more}
 use Rattle.segment.proofs.store.side_before.Goals as goal
@@ -13,13 +12,13 @@ pub loop-i-preserved : goal.loop-i-preserved
 loop-i-preserved c =
     let start = c in
     let inv = c.loop-i.invariant in
-    let moved = c.move_before-p.ensures in (
+    let moved = c.before-p.ensures in (
       omega arith,
       omega arith,
       simp length-set inv.2,
       before_more _ _ _ _ _ _
           start.args.plane.now
-          start.requires.3
+          start.requires.2
           _
           _
           _
@@ -29,7 +28,7 @@ loop-i-preserved c =
           c.args.step
           c.args.at
           c.loop-i-test.true
-          c.requires.4)
+          c.requires.3)
           inv.3
           moved.0
           moved.1,

@@ -1,8 +1,11 @@
 -- `missing` asks one place after the other. Assumes nothing.
 use Rattle.laws.specs.Choose.{tests}
 use Rattle.settings.specs.Text.{missing_of}
-use borrow.Author.Rules.{rules}
 use Rattle.settings.proofs.file.missing.Goals as goal
+
+pub returns-else-alone-3 : goal.returns-else-alone-3
+unfolding missing_of
+returns-else-alone-3 c = search tests depth 8
 
 pub returns-then-places-eq0 : goal.returns-then-places-eq0
 unfolding missing_of
@@ -23,7 +26,3 @@ returns-then-alone-2 c = search tests
 pub returns-then-alone-3 : goal.returns-then-alone-3
 unfolding missing_of
 returns-then-alone-3 c = search tests depth 8
-
-pub returns : goal.returns
-unfolding missing_of
-returns c = search tests depth 8

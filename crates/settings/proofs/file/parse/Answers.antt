@@ -1,32 +1,54 @@
 -- `parse` goes from line to line. Assumes nothing.
-use Rattle.settings.proofs.Settling.{kept_same, kept_then}
-use borrow.Author.Rules.{rules}
+use mathlib.Core.Path.{refl}
 use native.Mathlib.Omega.{arith}
-use Prim.Native.Nat.{◌+◌, ◌-◌, ◌≤◌}
-use mathlib.Core.Path.{◌≡◌, refl}
-use lib.ListN.{length}
-use Rattle.settings.specs.Lines.{Kept, lists, state}
-use Rattle.settings.specs.Text.{walk}
-use Rattle.settings.proofs.Walking.{walk_start, walk_on, walk_bad, walk_end}
+use Rattle.std.proofs.lemmas.Result.{err_from_is_err_and}
+use Rattle.settings.proofs.Settling.{kept_same, kept_then, lent_same, lent_then}
+use Rattle.settings.proofs.Stepping.{stepped_less}
+use Rattle.settings.proofs.Walking.{amiss, good, parsed, walk_start, walk_next, walk_amiss, walk_done}
 use Rattle.settings.proofs.file.parse.Goals as goal
 
-pub returns-then-k-ne0 : goal.returns-then-k-ne0
-returns-then-k-ne0 c =
-    let b = c in
-    let t = b in
-    let i = t.loop-at.invariant in record { kept = kept_then i.3 b.line-k.ensures.kept; result_after = walk_start _ _ _ i.0 (walk_bad _ _ _ _ _ _ i.0 i.4 _ _ _ _ t.loop-at-test.true i.2 t.line_end-end.ensures.value t.content_end-stop.ensures.value b.line-k.ensures.result_after _ c.if-k-ne0.true (omega arith)) }
+pub loop-here-init : goal.loop-here-init
+loop-here-init c = rw c.new-walk.ensures (omega arith, omega arith, lent_same _, kept_same _, refl)
 
-pub loop-at-preserved : goal.loop-at-preserved
-loop-at-preserved c =
-    let b = c in
-    let t = b in
-    let i = t.loop-at.invariant in (
-      i.0,
-      omega (arith, i.0, i.2, t.loop-at-test.true, t.line_end-end.ensures.lower_bound),
-      omega (arith, i.0, i.2, t.loop-at-test.true, t.line_end-end.ensures.lower_bound),
-      kept_then i.3 b.line-k.ensures.kept,
-      walk_on _ _ _ _ _ _ i.0 i.4 _ _ _ _ t.loop-at-test.true i.2 t.line_end-end.ensures.value t.content_end-stop.ensures.value b.line-k.ensures.result_after _ _ c.if-k-ne0.false (omega arith) (omega arith),
+pub next-requires : goal.next-requires
+next-requires c = c.loop-here.invariant.1
+
+pub loop-here-smaller : goal.loop-here-smaller
+loop-here-smaller c = stepped_less c.in-Some.ensures
+
+pub loop-here-preserved : goal.loop-here-preserved
+loop-here-preserved c =
+    let i = c.loop-here.invariant in
+    let t = c.in-Some.ensures in
+    let e = c.line-told.ensures in (
+      t.inside,
+      omega (arith, i.1, t.count, t.forward),
+      lent_then i.2 e.lent,
+      kept_then i.3 e.kept,
+      walk_next _ _ _ _ i.4 i.1 _ _ t _ _ e.result_after (good c.in_ok-placed.ensures),
     )
 
-pub returns : goal.returns
-returns c = let i = c.loop-at.invariant in record { kept = i.3; result_after = walk_start _ _ _ i.0 (walk_end _ _ _ _ _ _ i.0 i.4 _ c.loop-at-test.false c.missing.ensures _ (omega arith)) }
+pub returns-in_err-placed-clause-lent : goal.returns-in_err-placed-clause-lent
+returns-in_err-placed-clause-lent c = lent_then c.loop-here.invariant.2 c.line-told.ensures.lent
+
+pub returns-in_err-placed-clause-kept : goal.returns-in_err-placed-clause-kept
+returns-in_err-placed-clause-kept c = kept_then c.loop-here.invariant.3 c.line-told.ensures.kept
+
+pub returns-in_err-placed-clause-result_after : goal.returns-in_err-placed-clause-result_after
+returns-in_err-placed-clause-result_after c =
+    let p = err_from_is_err_and c.from_residual.result c.from_residual.ensures.1 in
+    let e = c.in_err-placed.ensures in
+    let i = c.loop-here.invariant in
+    rw (p.1, p.2) (parsed e (walk_start _ _ _ refl (walk_amiss _ _ _ _ i.4 i.1 _ _ c.in-Some.ensures _ _ c.line-told.ensures.result_after (amiss _ e))))
+
+pub returns-clause-lent : goal.returns-clause-lent
+returns-clause-lent c = c.loop-here.invariant.2
+
+pub returns-clause-kept : goal.returns-clause-kept
+returns-clause-kept c = c.loop-here.invariant.3
+
+pub returns-clause-result_after : goal.returns-clause-result_after
+returns-clause-result_after c =
+    let i = c.loop-here.invariant in
+    let n = c.in_default.ensures in
+    parsed c.placed-2.ensures (walk_start _ _ _ refl (walk_done _ _ _ _ i.4 i.1 _ _ n.0 n.1 c.missing.ensures))

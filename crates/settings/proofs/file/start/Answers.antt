@@ -1,16 +1,12 @@
 -- `start` goes by the list. Assumes nothing.
-use Rattle.laws.specs.Choose.{tests as needs}
-use Rattle.settings.specs.Lines.{start_of}
+use Rattle.settings.proofs.Settling.{start_numbers, start_tiles, start_on}
 use Rattle.settings.proofs.file.start.Goals as goal
 
-pub returns-then-list-eq0 : goal.returns-then-list-eq0
-unfolding start_of
-returns-then-list-eq0 c = search needs
+pub returns-in-Numbers : goal.returns-in-Numbers
+returns-in-Numbers c = start_numbers _ _ _ c.in-Numbers.is
 
-pub returns-then-list-eq5 : goal.returns-then-list-eq5
-unfolding start_of
-returns-then-list-eq5 c = search needs
+pub returns-in-Tiles : goal.returns-in-Tiles
+returns-in-Tiles c = start_tiles _ _ _ c.in-Tiles.is
 
-pub returns : goal.returns
-unfolding start_of
-returns c = search needs
+pub returns-in_default : goal.returns-in_default
+returns-in_default c = start_on _ _ _ c.in_default.not-Numbers c.in_default.not-Tiles

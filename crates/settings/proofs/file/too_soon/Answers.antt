@@ -1,13 +1,9 @@
--- `too_soon` asks one thing after the other. Assumes nothing.
-use borrow.Author.Tests.{ne_eqb}
-use Rattle.laws.specs.Choose.{both}
-use Rattle.settings.specs.Lines.{too_soon}
+-- `too_soon` goes by the kind. Assumes nothing.
+use Rattle.settings.proofs.Settling.{soon_never, soon_asked}
 use Rattle.settings.proofs.file.too_soon.Goals as goal
 
-pub returns-then-kind-eq1 : goal.returns-then-kind-eq1
-unfolding too_soon both
-returns-then-kind-eq1 c = rw c.if-kind-eq1.true
+pub returns-in-Version : goal.returns-in-Version
+returns-in-Version c = soon_never _ _ c.in-Version.is
 
-pub returns : goal.returns
-unfolding too_soon both
-returns c = rw (ne_eqb _ _ c.if-kind-eq1.false)
+pub returns-in_default : goal.returns-in_default
+returns-in_default c = soon_asked _ _ c.in_default.not-Version

@@ -1,21 +1,12 @@
 -- `verdict` asks one thing after the other. Assumes nothing.
-use Rattle.laws.specs.Choose.{tests}
-use Rattle.settings.specs.Lines.{verdict_of}
-use borrow.Author.Rules.{rules}
+use Rattle.settings.proofs.Settling.{verdict_cut, verdict_bad, verdict_good}
 use Rattle.settings.proofs.file.verdict.Goals as goal
 
 pub returns-then-not-whole : goal.returns-then-not-whole
-unfolding verdict_of
-returns-then-not-whole c = search tests
+returns-then-not-whole c = verdict_cut _ _ _ _ _ _ c.whole.ensures c.if-not-whole.true
 
-pub returns-then-version_bad : goal.returns-then-version_bad
-unfolding verdict_of
-returns-then-version_bad c = search tests
-
-pub returns-then-flag_bad : goal.returns-then-flag_bad
-unfolding verdict_of
-returns-then-flag_bad c = search tests
+pub returns-then-number_bad : goal.returns-then-number_bad
+returns-then-number_bad c = verdict_bad _ _ _ _ _ _ c.whole.ensures c.if-not-whole.false _ c.number_bad.ensures c.if-number_bad.true
 
 pub returns : goal.returns
-unfolding verdict_of
-returns c = search tests
+returns c = verdict_good _ _ _ _ _ _ c.whole.ensures c.if-not-whole.false _ c.number_bad.ensures c.if-number_bad.false

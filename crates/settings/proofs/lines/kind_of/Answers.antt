@@ -1,6 +1,5 @@
 -- `kind_of` reads a line's first word. Assumes nothing.
 use Rattle.settings.proofs.Numbering.{kind_is}
-use borrow.Author.Rules.{rules}
 use Rattle.settings.proofs.lines.kind_of.Goals as goal
 
 pub returns : goal.returns

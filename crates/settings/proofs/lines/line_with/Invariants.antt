@@ -1,15 +1,17 @@
 -- `line_with` walks the lines, up to the one that has more numbers of the kind than are left. Assumes nothing.
-use Rattle.settings.proofs.Numbering.{hold_here, hold_on, hold_end, hold_start, holdings}
+use Rattle.settings.specs.Kinds.{number_of}
 use Rattle.settings.specs.Numbered.{holding}
-use mathlib.Core.Path.{◌≡◌, refl}
-use native.Mathlib.Omega.{arith}
+use mathlib.Core.Path.{◌≡◌}
 use Prim.Native.Nat.{◌+◌, ◌-◌, ◌≤◌}
 use lib.ListN.{length}
-use borrow.Author.Rules.{rules}
 use Rattle.settings.proofs.lines.line_with.Given as goal
 
-abbrev pub invariant-loop-at : goal.invariant-loop-at
-invariant-loop-at l = (l.n ≡ length l.text) × (l.at ≤ l.n + 1) × (l.l ≤ l.at + 1) × (holding l.text l.kind (l.n + 1 - l.l) l.at l.l l.left ≡ holding l.text l.kind (l.n + 1 - l.initial.l) l.initial.at l.initial.l l.initial.left)
+abbrev pub invariant-loop-here : goal.invariant-loop-here
+invariant-loop-here l =
+    (l.walk.at ≤ length l.text + 1)
+    × (l.walk.number ≤ l.walk.at + 1)
+    × (1 ≤ l.walk.number)
+    × (holding l.text (number_of l.kind) (length l.text + 1 - l.walk.number) l.walk.at l.walk.number l.left ≡ holding l.text (number_of l.kind) (length l.text + 1 - 1) 0 1 l.initial.left)
 
-abbrev pub decreases-loop-at : goal.decreases-loop-at
-decreases-loop-at l = l.n + 1 - l.at
+abbrev pub decreases-loop-here : goal.decreases-loop-here
+decreases-loop-here l = length l.text + 1 - l.walk.at

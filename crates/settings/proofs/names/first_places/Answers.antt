@@ -1,17 +1,14 @@
 -- `first_places` takes each kind's first place from its rule. Assumes nothing.
 use borrow.Author.Rules.{rules}
-use Prim.Native.Nat.{◌-◌, ◌≤◌}
-use mathlib.Core.Path.{◌≡◌}
-use lib.ListN.{length}
-use Rattle.laws.specs.Loops.{filled, filled_none}
-use Rattle.settings.proofs.Rules.{from_of, placing, places_more, places_end}
+use Rattle.laws.specs.Loops.{filled_none}
+use Rattle.settings.proofs.Rules.{ok_is, from_is, places_more, places_end}
 use Rattle.settings.proofs.names.first_places.Goals as goal
 
-pub loop-kind-init : goal.loop-kind-init
-loop-kind-init c = (search rules, search rules, search rules, filled_none _ _)
+pub loop-k-init : goal.loop-k-init
+loop-k-init c = (search rules, filled_none _ _)
 
-pub loop-kind-preserved : goal.loop-kind-preserved
-loop-kind-preserved c = (search rules, search rules, search rules, places_more _ _ _ _ _ (search placing) c.loop-kind.invariant.3)
+pub loop-k-preserved : goal.loop-k-preserved
+loop-k-preserved c = (search rules, places_more _ _ _ _ _ (from_is _ _ _ _ (ok_is _ _ _ (search rules) c.try_from.ensures c.ok.ensures.value) c.rule_of-rule.ensures) c.loop-k.invariant.1)
 
 pub returns : goal.returns
-returns c = places_end _ _ _ _ c.loop-kind.invariant.1 c.loop-kind.invariant.0 (search rules) c.loop-kind.invariant.3
+returns c = places_end _ _ _ _ (search rules) (search rules) (search rules) c.loop-k.invariant.1

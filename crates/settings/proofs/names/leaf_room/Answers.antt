@@ -1,10 +1,6 @@
 -- `leaf_room` is a third of what the qindex entries leave. Assumes nothing.
-use mathlib.Core.Path.{◌≡◌}
-use Prim.Native.Nat.{◌-◌}
 use native.Mathlib.Omega.{arith}
 use Rattle.settings.specs.Rules.{leaf_room}
-use borrow.Author.Rules.{rules}
-use Rattle.laws.proofs.least.Reads as least-reads
 use Rattle.settings.proofs.names.leaf_room.Goals as goal
 
 pub returns-then-n-lt22526 : goal.returns-then-n-lt22526

@@ -2,7 +2,6 @@
 use Rattle.laws.specs.Choose.{tests}
 use Rattle.text.specs.Typed.{failed}
 use Rattle.settings.specs.Values.{offset_rest}
-use borrow.Author.Rules.{rules}
 use Rattle.settings.proofs.values.after_offset.Goals as goal
 
 pub returns-then-is_offset : goal.returns-then-is_offset

@@ -1,5 +1,5 @@
 -- `below` keeps what is at least -10. Assumes nothing.
-use Rattle.settings.proofs.Signs.{below_fits, below_in, below_out}
+use Rattle.settings.proofs.Signs.{below_in, below_out}
 use borrow.Author.Rules.{rules}
 use Rattle.settings.proofs.values.below.Goals as goal
 

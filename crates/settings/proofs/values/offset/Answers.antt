@@ -1,7 +1,6 @@
 -- `offset` goes by the sign. Assumes nothing.
 use Rattle.laws.specs.Choose.{tests}
 use Rattle.settings.specs.Values.{offset_of}
-use borrow.Author.Rules.{rules}
 use Rattle.settings.proofs.values.offset.Goals as goal
 
 pub returns-then-negative : goal.returns-then-negative

@@ -1,6 +1,5 @@
 -- `skip` goes to the first byte that is no space, where the line is in the text. Assumes nothing.
 use Rattle.settings.proofs.Taking.{skipping}
-use borrow.Author.Rules.{rules}
 use Rattle.settings.proofs.values.skip.Goals as goal
 
 pub returns-then-text-end : goal.returns-then-text-end

@@ -1,5 +1,5 @@
 -- D of a line from the two slopes, by one law of signs.
-use Rattle.std.proofs.Common.{arith, rules}
+use Rattle.std.proofs.Common.{arith}
 use Rattle.taps.proofs.Signs.{limited_is}
 use Rattle.taps.proofs.difference.limited.Goals as goal
 

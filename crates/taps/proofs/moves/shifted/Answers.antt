@@ -1,11 +1,14 @@
--- Not plain, which says nothing, or plain by the law of a pair.
-use Rattle.std.proofs.Common.{refl, arith, rules}
-use borrow.Author.Tests.{not-false}
-use Rattle.laws.specs.Choose.{true_not_false}
-use Rattle.taps.proofs.Pairs.{pair_is}
+-- Up or down, and limited.
+use Rattle.std.proofs.Common.{arith}
+use Rattle.taps.proofs.Signs.{raised, lowered}
+use Rattle.taps.proofs.Pairs.{differ_bit}
 use Rattle.taps.proofs.moves.shifted.Goals as goal
+use Rattle.taps.proofs.moves.shifted.Goals.{then-up, else-up}
 
 pub returns : goal.returns
 returns c =
-    let w = c.within_top.ensures (c.if-not-within_top.false) in
-    (c.other.ensures.1, λ e. pair_is _ _ _ _ _ _ _ refl w.0 w.1 (omega arith) (omega arith) c.wrapping_sub_u32-down.ensures.value c.other.ensures.0)
+    let d = differ_bit c.args.x c.min-to.result c.from.ensures in
+    elim c.if-up.branch [
+      | then-up w ↦ (raised _ _ _ w.if-up.true (omega (arith, c.min-to.ensures, w.far-is)), d.0, d.1)
+      | else-up w ↦ (lowered _ _ _ w.if-up.false (omega (arith, c.min-to.ensures, w.far-is, w.saturating_sub-far.ensures)), d.0, d.1)
+    ]

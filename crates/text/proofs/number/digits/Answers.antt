@@ -1,15 +1,12 @@
--- `digits` reads a run of digits: what is left to read after each turn is what the whole run says. Assumes nothing.
+-- `digits` reads one byte a turn. Assumes nothing.
 use Rattle.text.proofs.Runs.{runs as needs}
-use Prim.Native.Nat.{◌-◌, ◌≤◌}
-use mathlib.Core.Path.{◌≡◌}
-use Rattle.text.specs.Digits.{read_digits}
 use Rattle.text.proofs.number.digits.Goals as goal
 
-pub returns-then-not-goes_on : goal.returns-then-not-goes_on
-returns-then-not-goes_on c = search needs
+pub returns-then-not-goes_on-clause-value : goal.returns-then-not-goes_on-clause-value
+returns-then-not-goes_on-clause-value c = search needs
 
 pub loop-at-preserved : goal.loop-at-preserved
 loop-at-preserved c = search needs
 
-pub returns : goal.returns
-returns c = search needs
+pub returns-clause-value : goal.returns-clause-value
+returns-clause-value c = search needs

@@ -1,13 +1,12 @@
 -- `ends_here` says whether a number may end: each test picks a case of `ends`. Assumes nothing.
-use borrow.Author.Tests.{lt-ltb, le-ltb}
+use borrow.Author.Tests.{lt-ltb, le-ltb, le-leb}
 use Rattle.text.specs.Numbers.{ends}
-use borrow.Author.Rules.{rules}
 use Rattle.text.proofs.number.ends_here.Goals as goal
 
-pub returns-then-at-end : goal.returns-then-at-end
+pub returns-then-end-at : goal.returns-then-end-at
 unfolding ends
-returns-then-at-end c = rw (lt-ltb _ _ c.if-at-end.true) c.blank.ensures
+returns-then-end-at c = rw (le-leb _ _ c.if-end-at.true, le-ltb _ _ c.if-end-at.true)
 
-pub returns : goal.returns
+pub returns-else-end-at : goal.returns-else-end-at
 unfolding ends
-returns c = rw (le-ltb _ _ c.if-at-end.false)
+returns-else-end-at c = rw (lt-ltb _ _ c.if-end-at.false) c.blank.ensures

@@ -7,8 +7,8 @@ use Rattle.text.proofs.number.one_more.Goals as goal
 pub overflow_mul-result : goal.overflow_mul-result
 overflow_mul-result c = let g = goes _ _ c.requires in omega arith
 
-pub overflow_sub-result : goal.overflow_sub-result
-overflow_sub-result c = let g = goes _ _ c.requires in omega arith
+pub overflow_sub-b : goal.overflow_sub-b
+overflow_sub-b c = let g = goes _ _ c.requires in omega arith
 
 pub overflow_add-result : goal.overflow_add-result
 overflow_add-result c = let g = goes _ _ c.requires in omega arith

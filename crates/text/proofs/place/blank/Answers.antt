@@ -7,6 +7,6 @@ pub returns-then-b-eq32 : goal.returns-then-b-eq32
 unfolding blank_of
 returns-then-b-eq32 c = search tests
 
-pub returns : goal.returns
+pub returns-else-b-eq32 : goal.returns-else-b-eq32
 unfolding blank_of
-returns c = search tests
+returns-else-b-eq32 c = search tests

@@ -1,16 +1,8 @@
--- `content_end` walks to the first place that its test names. Assumes nothing.
-use Rattle.text.proofs.Seeking.{seeking as needs}
-use Rattle.text.specs.Places.{seek, remark_at}
-use Prim.Native.Nat.{◌+◌, ◌-◌, ◌*◌, ◌≤◌, ◌<◌}
-use mathlib.Core.Path.{◌≡◌}
-use lib.ListN.{length}
+-- `content_end` looks for what ends the content. Assumes nothing.
+use Rattle.laws.specs.Choose.{tests}
+use Rattle.text.specs.Places.{remark, remark_at}
 use Rattle.text.proofs.place.content_end.Goals as goal
 
-pub returns-then-ends_content : goal.returns-then-ends_content
-returns-then-ends_content c = search needs
-
-pub loop-at-preserved : goal.loop-at-preserved
-loop-at-preserved c = search needs
-
-pub returns : goal.returns
-returns c = search needs
+pub returns-clause-value : goal.returns-clause-value
+unfolding remark remark_at
+returns-clause-value c = c.first.ensures.value remark (λ b r e. search tests)

@@ -1,16 +1,8 @@
--- `line_end` walks to the first place that its test names. Assumes nothing.
-use Rattle.text.proofs.Seeking.{seeking as needs}
-use Rattle.text.specs.Places.{seek, newline_at}
-use Prim.Native.Nat.{◌+◌, ◌-◌, ◌*◌, ◌≤◌, ◌<◌}
-use mathlib.Core.Path.{◌≡◌}
-use lib.ListN.{length}
+-- `line_end` looks for a newline. Assumes nothing.
+use Rattle.std.proofs.Common.{rules, eqb, ℕ}
+use Rattle.text.specs.Places.{newline_at}
 use Rattle.text.proofs.place.line_end.Goals as goal
 
-pub returns-then-text-at-eq10 : goal.returns-then-text-at-eq10
-returns-then-text-at-eq10 c = search needs
-
-pub loop-at-preserved : goal.loop-at-preserved
-loop-at-preserved c = search needs
-
-pub returns : goal.returns
-returns c = search needs
+pub returns-clause-value : goal.returns-clause-value
+unfolding newline_at
+returns-clause-value c = c.first.ensures.value (λ (b : ℕ). eqb b 10) (λ b r e. search rules)

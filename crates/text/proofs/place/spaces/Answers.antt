@@ -1,16 +1,8 @@
--- `spaces` walks to the first place that its test names. Assumes nothing.
-use Rattle.text.proofs.Seeking.{seeking as needs}
-use Rattle.text.specs.Places.{seek, ink_at}
-use Prim.Native.Nat.{◌+◌, ◌-◌, ◌*◌, ◌≤◌, ◌<◌}
-use mathlib.Core.Path.{◌≡◌}
-use lib.ListN.{length}
+-- `spaces` looks for what is no space and no tab. Assumes nothing.
+use Rattle.std.proofs.Common.{rules, not, ℕ}
+use Rattle.text.specs.Places.{blank_of, ink_at}
 use Rattle.text.proofs.place.spaces.Goals as goal
 
-pub returns-then-not-blank : goal.returns-then-not-blank
-returns-then-not-blank c = search needs
-
-pub loop-at-preserved : goal.loop-at-preserved
-loop-at-preserved c = search needs
-
-pub returns : goal.returns
-returns c = search needs
+pub returns-clause-value : goal.returns-clause-value
+unfolding ink_at
+returns-clause-value c = c.first.ensures.value (λ (b : ℕ). not (blank_of b)) (λ b r e. search rules)

@@ -1,5 +1,4 @@
 -- `one_more` has room for a letter. Assumes nothing.
-use borrow.Author.Rules.{rules}
 use native.Mathlib.Omega.{arith}
 use Rattle.text.proofs.Spelling.{goes_room}
 use Rattle.text.proofs.spell.one_more.Goals as goal

@@ -1,5 +1,4 @@
 -- `read_answer` reads a number and then a place. Assumes nothing.
-use borrow.Author.Rules.{rules}
 use Rattle.text.specs.Typed.{answered_at}
 use Rattle.text.proofs.typed.read_answer.Goals as goal
 

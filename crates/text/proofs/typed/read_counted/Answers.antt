@@ -1,5 +1,4 @@
 -- `read_counted` reads an answer and then two counts. Assumes nothing.
-use borrow.Author.Rules.{rules}
 use Rattle.text.specs.Typed.{counted_at}
 use Rattle.text.proofs.typed.read_counted.Goals as goal
 

@@ -6,15 +6,15 @@ use Rattle.thresholds.proofs.Indices.{small, index_is}
 use Rattle.thresholds.proofs.index.index.Goals as goal
 
 pub overflow_mul-result : goal.overflow_mul-result
-overflow_mul-result c = let s = small _ c.requires in let p = rw (to_z-of_z c.ranges.delta) at c.split-d.ensures in record { fits = omega arith }
+overflow_mul-result c = let s = small _ c.requires in let p = rw (to_z-of_z c.ranges.delta) at c.from-d.ensures in record { fits = omega arith }
 
 pub overflow_add-result : goal.overflow_add-result
-overflow_add-result c = let s = small _ c.requires in let p = rw (to_z-of_z c.ranges.delta) at c.split-d.ensures in record { fits = omega arith }
+overflow_add-result c = let s = small _ c.requires in let p = rw (to_z-of_z c.ranges.delta) at c.from-d.ensures in record { fits = omega arith }
 
 pub overflow_mul-result-2 : goal.overflow_mul-result-2
-overflow_mul-result-2 c = let s = small _ c.requires in let p = rw (to_z-of_z c.ranges.delta) at c.split-d.ensures in record { fits = omega arith }
+overflow_mul-result-2 c = let s = small _ c.requires in let p = rw (to_z-of_z c.ranges.delta) at c.from-d.ensures in record { fits = omega arith }
 
 pub returns : goal.returns
 returns c =
-    let p = rw (to_z-of_z c.ranges.delta) at c.split-d.ensures in
+    let p = rw (to_z-of_z c.ranges.delta) at c.from-d.ensures in
     index_is _ _ _ c.requires (omega arith) (omega arith) (omega arith)

@@ -4,7 +4,7 @@ use Prim.Native.Nat.{◌-◌, ◌≤◌}
 use lib.ListN.{length}
 use Rattle.laws.specs.Choose.{tests}
 use Rattle.checks.proofs.First.{firsts}
-use Rattle.rules.specs.declared.refusals.Found.TheVariants.{Nothing}
+use Rattle.std.specs.declared.option.Option.TheVariants.{None}
 use Rattle.rules.specs.Refusals.{first, found_unless}
 use Rattle.rules.specs.Thresholds.{step_good, bad_step}
 use Rattle.thresholds.proofs.tests.bad_step.Goals as goal

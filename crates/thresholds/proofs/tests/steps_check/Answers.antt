@@ -5,9 +5,9 @@ use Rattle.thresholds.proofs.Accepted.{steps_bad}
 use borrow.Author.Rules.{rules}
 use Rattle.thresholds.proofs.tests.steps_check.Goals as goal
 
-pub returns-in-At : goal.returns-in-At
+pub returns-in-Some : goal.returns-in-Some
 unfolding steps_check
-returns-in-At c = search steps_bad
+returns-in-Some c = search steps_bad
 
 pub returns : goal.returns
 unfolding steps_check

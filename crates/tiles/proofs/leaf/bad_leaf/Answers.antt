@@ -2,7 +2,7 @@
 use mathlib.Core.Path.{◌≡◌}
 use Prim.Native.Nat.{◌-◌, ◌≤◌}
 use Rattle.laws.specs.Choose.{told_yes_not, told_no_not}
-use Rattle.rules.specs.declared.refusals.Found.TheVariants.{Nothing}
+use Rattle.std.specs.declared.option.Option.TheVariants.{None}
 use Rattle.rules.specs.Refusals.{first, found_unless}
 use Rattle.rules.specs.TuGrid.{leaf_good_at, bad_leaf}
 use Rattle.checks.proofs.First.{firsts}

@@ -2,7 +2,6 @@
 -- Assumes nothing.
 use Rattle.width.proofs.Differences.{bend_is}
 use native.Mathlib.Omega.{arith}
-use borrow.Author.Rules.{rules}
 use Rattle.width.proofs.bends.bend.Goals as goal
 
 pub returns : goal.returns

@@ -8,6 +8,6 @@ pub returns-then-q-eq0 : goal.returns-then-q-eq0
 unfolding off_of
 returns-then-q-eq0 c = search ors
 
-pub returns : goal.returns
+pub returns-else-q-eq0 : goal.returns-else-q-eq0
 unfolding off_of
-returns c = search ors
+returns-else-q-eq0 c = search ors

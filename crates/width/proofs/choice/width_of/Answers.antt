@@ -1,7 +1,6 @@
 -- `choice::width_of` meets its contract: the tests in the order of the code choose the same width.
 -- Assumes nothing.
 use Rattle.width.proofs.Order.{widths}
-use borrow.Author.Rules.{rules}
 use Rattle.width.proofs.choice.width_of.Goals as goal
 
 pub returns-then-side-e : goal.returns-then-side-e

@@ -1,8 +1,6 @@
 -- `distances::far` meets its contract. The loop keeps: d is a distance, and the tests from d on decide. It ends, since d grows up to 8.
 -- Assumes nothing.
-use Rattle.width.proofs.Stands.{stands as needs, Stands}
-use Rattle.width.specs.Ends.{ends, Distance}
-use Prim.Native.Nat.{◌-◌}
+use Rattle.width.proofs.Stands.{stands as needs}
 use Rattle.width.proofs.distances.far.Goals as goal
 
 pub loop-a-init : goal.loop-a-init

@@ -1,7 +1,6 @@
 -- `distances::q_limit` is what belongs to the distance.
 -- Assumes nothing.
 use Rattle.width.proofs.Stands.{distances}
-use borrow.Author.Rules.{rules}
 use Rattle.width.proofs.distances.q_limit.Goals as goal
 
 pub returns-in-4 : goal.returns-in-4

@@ -2,7 +2,6 @@
 -- Assumes nothing.
 use Rattle.width.proofs.Differences.{slope_is, below}
 use native.Mathlib.Omega.{arith}
-use borrow.Author.Rules.{rules}
 use Rattle.width.proofs.ramps.slope.Goals as goal
 
 pub returns : goal.returns

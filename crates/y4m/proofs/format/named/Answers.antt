@@ -1,5 +1,4 @@
 -- `named` tells the fifteen names from all other words. Assumes nothing.
-use borrow.Author.Rules.{rules}
 use borrow.Author.Tests.{ne_eqb}
 use Rattle.laws.specs.Choose.{pick}
 use Rattle.y4m.specs.Formats.{layout_of}

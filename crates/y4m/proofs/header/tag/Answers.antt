@@ -1,10 +1,6 @@
 -- `tag` walks to the first such letter. Assumes nothing.
-use Rattle.y4m.proofs.Heading.{tagging as needs}
-use Rattle.text.specs.Places.{seek}
-use Rattle.y4m.specs.Headers.{tag_at}
-use Prim.Native.Nat.{◌+◌, ◌-◌, ◌*◌, ◌≤◌, ◌<◌}
-use mathlib.Core.Path.{◌≡◌}
-use lib.ListN.{length}
+use borrow.Author.Rules.{rules}
+use Rattle.y4m.proofs.Heading.{tagging as needs, tag_over}
 use Rattle.y4m.proofs.header.tag.Goals as goal
 
 pub returns-then-is_tag : goal.returns-then-is_tag
@@ -14,4 +10,4 @@ pub loop-at-preserved : goal.loop-at-preserved
 loop-at-preserved c = search needs
 
 pub returns : goal.returns
-returns c = search needs
+returns c = record { value = tag_over _ _ _ c.loop-at.invariant.1 (search rules); upper_bound = search rules }

@@ -1,10 +1,5 @@
 -- `to_bytes` fills the bytes place by place. Assumes nothing.
 use Rattle.y4m.proofs.Filling.{filling as needs}
-use Rattle.laws.specs.Loops.{filled}
-use Rattle.y4m.specs.Rows.{byte_of}
-use Prim.Native.Nat.{◌+◌, ◌-◌, ◌*◌, ◌≤◌, ◌<◌}
-use mathlib.Core.Path.{◌≡◌}
-use lib.ListN.{length}
 use Rattle.y4m.proofs.samples.to_bytes.Goals as goal
 
 pub loop-i-init : goal.loop-i-init

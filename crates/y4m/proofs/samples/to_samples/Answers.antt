@@ -1,10 +1,5 @@
 -- `to_samples` fills the row place by place. Assumes nothing.
 use Rattle.y4m.proofs.Filling.{filling as needs}
-use Rattle.laws.specs.Loops.{filled}
-use Rattle.y4m.specs.Rows.{padded_at}
-use Prim.Native.Nat.{◌+◌, ◌-◌, ◌*◌, ◌≤◌, ◌<◌}
-use mathlib.Core.Path.{◌≡◌}
-use lib.ListN.{length}
 use Rattle.y4m.proofs.samples.to_samples.Goals as goal
 
 pub loop-k-init : goal.loop-k-init

@@ -1,2 +1,0 @@
--- What `specs/` holds: lines.
-pub mod Lines

@@ -1,0 +1,6 @@
+-- `read` of an offset is what its callee reads. Assumes nothing.
+use Rattle.settings.proofs.Taking.{reading}
+use Rattle.settings.proofs.values.I8Sort.read.Goals as goal
+
+pub returns : goal.returns
+returns c = search reading

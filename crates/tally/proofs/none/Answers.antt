@@ -1,8 +1,0 @@
--- `none` counts nothing. Assumes nothing.
-use Rattle.std.proofs.Common.{rules}
-use Rattle.tally.specs.Counts.{no_counts}
-use Rattle.tally.proofs.none.Goals as goal
-
-pub returns : goal.returns
-unfolding no_counts
-returns c = search rules

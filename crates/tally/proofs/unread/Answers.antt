@@ -1,6 +1,0 @@
--- `unread` counts a line more. Assumes nothing.
-use Rattle.tally.proofs.Counting.{counting}
-use Rattle.tally.proofs.unread.Goals as goal
-
-pub returns : goal.returns
-returns c = search counting

@@ -1,0 +1,6 @@
+-- Either sign of D, by one law.
+use Rattle.taps.proofs.Signs.{against_shift}
+use Rattle.taps.proofs.moves.Move.after.Goals as goal
+
+pub returns : goal.returns
+returns c = let s = c.shifted.ensures in (against_shift _ _ _ _ c.size.ensures.0 s.0, s.1, s.2)
