@@ -17,7 +17,7 @@ pub fn highest(list: &[u8], count: usize) -> u8
     m
 }
 
-// The first of count cells whose keep mark is neither 0 nor 1.
+// The first of count cells whose keep mark is neither 0 nor 1; by index, since the place is what is found.
 pub fn bad_keep(keep: &[u8], count: usize) -> Option<usize>
     requires { count ≤ length keep.now }
     ensures { result ≡ bad_keep count keep.now }

@@ -17,7 +17,7 @@ fn most(plane: &[u16], start: usize, count: usize) -> u16
     m
 }
 
-// The first of count samples from start that is over top.
+// The first of count samples from start that is over top; by index, since the place is what is found.
 fn exact(plane: &[u16], start: usize, count: usize, top: u16) -> Option<usize>
     requires { start + count ≤ length plane.now }
     ensures { result ≡ over_row top plane.now start count }

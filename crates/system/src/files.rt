@@ -26,6 +26,7 @@ pub enum Source {
 }
 
 // What is written: standard output, standard error, or a file; of a file that can't be opened nothing can be written.
+// `Shut` and no error at once: such a file is told at its first write.
 #[derive(Drop)]
 pub enum Target {
     Output(Stdout),

@@ -118,7 +118,7 @@ pub fn set_steps(text: &[u8], c: Cursor, list: &mut [u32]) -> Steps
     }
 }
 
-// A list of i32 entries, to the front of a lent list.
+// A list of i32 entries, to the front of a lent list; beside `read_list`, since its entries have a sign.
 pub fn read_i32s(text: &[u8], c: Cursor, list: &mut [i32]) -> Listed
     ensures { Fills result.length list.old list.new }
 {

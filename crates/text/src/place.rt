@@ -18,7 +18,7 @@ fn first<F: Fn(u8) -> bool>(text: &[u8], from: usize, end: usize, test: F) -> us
     }
 }
 
-// The newline that ends a line.
+// The newline that ends a line. Four places and no test asked for: settings, streams and y4m cite each one's clause by its name.
 pub fn line_end(text: &[u8], from: usize, end: usize) -> usize
     requires { (from ≤ end) × (end ≤ length text.now) }
     ensures value { result ≡ seek (newline_at text.now) from (end - from) }

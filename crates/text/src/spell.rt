@@ -4,7 +4,7 @@ ghost use Rattle.text.specs.Words.{goes_on, read_letters, word_at};
 
 use crate::place::blank;
 
-// What a word says, and the place after it.
+// What a word says, and the place after it. A number and no `Option`: the definitions hold it against a name's (`word_at`).
 #[derive(Clone, Copy)]
 pub struct Word {
     pub value: usize,
