@@ -108,7 +108,8 @@ module _ {f : Frame} {n : Given} {t : Starts} {k : Keeps} {p left : Planes} {a :
   told_accepted e = record { deblocked = rw e at d; place = tt }
 
 -- the lists l and m steps, as the settings have them
-pub told_so : (f : Frame) (shorts steps places : List ℕ) (k : Keeps) (p : Planes) (l : Lists) (m : ℕ) → l ≡ lists_asked (length shorts) places → m ≡ steps_asked (get_or places 3 0) → {o : Result Counts Refused} {left : Planes} → DeblockedAt f (given_by l m shorts steps) (starts_by l shorts) k p o left → DeblockedAt f (given_asked shorts steps places) (starts_asked shorts places) k p o left
+pub told_so : (f : Frame) (shorts steps places : List ℕ) (k : Keeps) (p : Planes) (l : Lists) (m : ℕ) → l ≡ lists_asked (length shorts) places → m ≡ steps_asked (get_or places 3 0)
+    → {o : Result Counts Refused} {left : Planes} → DeblockedAt f (given_by l m shorts steps) (starts_by l shorts) k p o left → DeblockedAt f (given_asked shorts steps places) (starts_asked shorts places) k p o left
 unfolding given_asked starts_asked
 told_so f shorts steps places k p l m is-l is_m d = rw (is-l, is_m) at d
 
