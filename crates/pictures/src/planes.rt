@@ -154,13 +154,15 @@ pub fn write_plane(to: &Target, plane: &[u16], s: Shape, wide: bool) -> io::Resu
     requires { ShapeFits s }
     ensures { OnOk result (s.width * s.height ≤ length plane.now) }
 {
-    let Some(packed) = plane.get(..area(s.width, s.height)) else {
-        return Err(io::Error::from(io::ErrorKind::UnexpectedEof));
-    };
     let mut bytes = [0u8; 8192];
     let n = row_bytes(s.width, wide);
-    for row in packed.chunks_exact(s.width) {
+    let mut at: usize = 0;
+    for _r in 0..s.height {
+        let Some(row) = plane.get(at..at + s.width) else {
+            return Err(io::Error::from(io::ErrorKind::UnexpectedEof));
+        };
         write_row(to, row, &mut bytes, n, wide)?;
+        at += s.width;
     }
     Ok(())
 }
