@@ -156,13 +156,13 @@ pub fn write_plane(to: &Target, plane: &[u16], s: Shape, wide: bool) -> io::Resu
 {
     let mut bytes = [0u8; 8192];
     let n = row_bytes(s.width, wide);
-    let mut at: usize = 0;
-    for _r in 0..s.height {
-        let Some(row) = plane.get(at..at + s.width) else {
-            return Err(io::Error::from(io::ErrorKind::UnexpectedEof));
-        };
+    let whole = area(s.width, s.height);
+    let there = whole.min(plane.len());
+    for row in plane[..there].chunks_exact(s.width) {
         write_row(to, row, &mut bytes, n, wide)?;
-        at += s.width;
+    }
+    if there < whole {
+        return Err(io::Error::from(io::ErrorKind::UnexpectedEof));
     }
     Ok(())
 }
