@@ -1,6 +1,7 @@
 // From the header and the settings to the last frame and the answer.
 ghost use Rattle.std.specs.Prelude.{◌≤◌, length};
 ghost use Rattle.frame_checks.specs.Settings.{Sized};
+ghost use Rattle.settings.specs.Kinds.{number_or_none};
 ghost use Rattle.streams.specs.Shaped.{Shaped};
 
 use crate::asked::Asked;
@@ -99,7 +100,9 @@ fn begun(s: Asked<'_>, f: Frame, j: Job<'_>, ends: Ends) -> Result<(), Answered>
 }
 
 // The kind of a line that asks for CCSO offsets, by the lines of each kind.
-fn offsets_in(lines: &[usize; 24]) -> Option<Kind> {
+fn offsets_in(lines: &[usize; 24]) -> Option<Kind>
+    ensures { number_or_none result ≤ 14 }
+{
     if lines[12] != 0 {
         return Some(Kind::CcsoY);
     }

@@ -1,7 +1,7 @@
 // One line of a stream as it is read: numbers that are there or not, and lists to the front of lent ones.
-ghost use Rattle.std.specs.Prelude.{◌≡◌, ◌≤◌, length, IfSome, IsSome, is_some, true};
+ghost use Rattle.std.specs.Prelude.{◌≡◌, ◌≤◌, length, take, IfSome, IsSome, is_some, true};
 ghost use Rattle.text.specs.Numbers.{number_at, whole_line};
-ghost use Rattle.text.specs.Lists.{SetsSteps};
+ghost use Rattle.text.specs.Lists.{listed_at, list_at, SetsSteps};
 ghost use Rattle.text.specs.Typed.{unsigned_of, signed_of, answered_at, counted_at};
 
 use text::{Answered, Cursor, Entry, Steps};
@@ -36,6 +36,8 @@ impl<'a> Line<'a> {
         ensures there { is_some result ≡ self.new.rest.good }
         ensures value { IfSome result (λ n. n ≡ (unsigned_of most (number_at self.old.text.now self.old.rest)).value) }
         ensures bound { IfSome result (λ n. n ≤ most) }
+        ensures rest { self.new.rest ≡ (unsigned_of most (number_at self.old.text.now self.old.rest)).rest }
+        ensures text { self.new.text.now ≡ self.old.text.now }
     {
         let n = text::read_unsigned(self.text, self.rest, most);
         self.rest = n.rest;
@@ -53,7 +55,9 @@ impl<'a> Line<'a> {
 
     // The next number, where it fits a u32.
     pub fn size(&mut self) -> Option<usize>
-        ensures { IfSome result (λ n. n ≤ 4294967295) }
+        ensures bound { IfSome result (λ n. n ≤ 4294967295) }
+        ensures rest { self.new.rest ≡ (unsigned_of 4294967295 (number_at self.old.text.now self.old.rest)).rest }
+        ensures text { self.new.text.now ≡ self.old.text.now }
     {
         self.unsigned(4294967295)
     }
@@ -104,7 +108,11 @@ impl<'a> Line<'a> {
 
     // The next list, at the front of a lent one. Of a line that is given up it has no entries, or zeros.
     pub fn list<'b, T: Entry>(&mut self, room: &'b mut [T]) -> &'b mut [T]
-        ensures { length result.now ≤ length room.old }
+        ensures within { length result.now ≤ length room.old }
+        ensures count { length result.now ≡ (listed_at T.MOST self.old.text.now self.old.rest (length room.old)).length }
+        ensures entries { result.now ≡ take (length result.now) (list_at T.entry_of T.MOST self.old.text.now self.old.rest room.old) }
+        ensures rest { self.new.rest ≡ (listed_at T.MOST self.old.text.now self.old.rest (length room.old)).rest }
+        ensures text { self.new.text.now ≡ self.old.text.now }
     {
         let l = text::read_list(self.text, self.rest, room);
         self.rest = l.rest;

@@ -37,9 +37,13 @@ fn run(
     }
     let s = plane_of(f, chroma);
     if plain {
-        return deblock_plane_plain(
+        let told = deblock_plane_plain(
             plane, vedge, hedge, sqw, sqh, qindex, tiles, keep, steps, s,
         ).unwrap();
+        return Counts {
+            stored: told.stored,
+            changed: told.changed,
+        };
     }
     let done = run_plane(plane, vedge, hedge, sqw, sqh, qindex, tiles, keep, steps, s);
     Counts {

@@ -154,13 +154,15 @@ pub fn write_plane(to: &Target, plane: &[u16], s: Shape, wide: bool) -> io::Resu
     requires { ShapeFits s }
     ensures { OnOk result (s.width * s.height ≤ length plane.now) }
 {
-    let Some(packed) = plane.get(..area(s.width, s.height)) else {
-        return Err(io::Error::from(io::ErrorKind::UnexpectedEof));
-    };
     let mut bytes = [0u8; 8192];
     let n = row_bytes(s.width, wide);
-    for row in packed.chunks_exact(s.width) {
+    let whole = area(s.width, s.height);
+    let there = whole.min(plane.len());
+    for row in plane[..there].chunks_exact(s.width) {
         write_row(to, row, &mut bytes, n, wide)?;
+    }
+    if there < whole {
+        return Err(io::Error::from(io::ErrorKind::UnexpectedEof));
     }
     Ok(())
 }

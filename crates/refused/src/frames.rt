@@ -69,6 +69,11 @@ fn line_or_none(line: usize) -> Option<usize> {
 pub fn say_setting(told: &Target, kind: Kind, f: Frame, text: &[u8]) {
     let mut lines = [0usize; KINDS];
     lines_of(text, &mut lines);
+    // keep marks have no range of their own: told are chroma's tile starts, the last that could be bad
+    let kind = match kind {
+        Kind::Keep => Kind::TilesUv,
+        other => other,
+    };
     let line = line_or_none(lines[usize::from(kind)]);
     match kind {
         Kind::TilesY => say::bad_tiles(told, kind, f.lumastride / 4, line),

@@ -3,6 +3,7 @@ use crate::grid::Grid;
 use crate::samples;
 use cases::Line;
 use rows::deblock_rows;
+use rules::counts::Counts;
 use rules::rows::{RowState, RowsAnswer};
 use text::Answered;
 
@@ -64,11 +65,18 @@ fn same_state(a: RowState, b: RowState) -> bool {
 // Whether the answer, both counts, the rows called final and the state are the stream's.
 fn answered(a: RowsAnswer, call: Call) -> bool {
     let told = call.told;
-    let answer = a.answer;
-    tally::same(answer, told.number, told.place)
-        && a.stored == told.stored
-        && a.changed == told.changed
-        && a.finalrows == call.finalrows
+    let counts = Counts {
+        stored: a.stored,
+        changed: a.changed,
+    };
+    tally::same_beside(
+        a.answer,
+        counts,
+        told.number,
+        told.place,
+        told.stored,
+        told.changed,
+    ) && a.finalrows == call.finalrows
         && same_state(a.state, call.next)
 }
 

@@ -9,8 +9,8 @@ use settings::kinds::{Expected, Kind};
 use system::files::{Source, Target, read_full};
 use text::place::{line_end, spaces, word_end};
 
-// A setting by its name.
-pub fn setting(told: &Target, kind: Kind) {
+// A setting by its name; nothing for a number that no kind has.
+pub fn setting(told: &Target, kind: impl Into<usize>) {
     entry(
         told,
         b"
@@ -37,7 +37,7 @@ offset_v
 tiles_y
 tiles_uv
 keep",
-        usize::from(kind),
+        kind.into(),
     );
 }
 

@@ -1,5 +1,5 @@
 // Files by their names, the three ends that a program starts with, its words, and whether somebody watches.
-ghost use Rattle.std.specs.Prelude.{◌≤◌, length};
+ghost use Rattle.std.specs.Prelude.{◌≤◌, length, IfSome};
 ghost use Rattle.std.specs.Io.{ReadsAtMost, WritesAtMost};
 
 use crate::bytes;
@@ -170,7 +170,9 @@ pub fn keep(to: &Target) -> io::Result<()> {
 }
 
 // Word k that the program was started with, at the front of a buffer; none where there is none, it is empty or it does not fit.
-pub fn word<'b, R: Env>(rt: &R, k: usize, buf: &'b mut [u8]) -> Option<&'b [u8]> {
+pub fn word<'b, R: Env>(rt: &R, k: usize, buf: &'b mut [u8]) -> Option<&'b [u8]>
+    ensures { IfSome result (λ w. length w.now ≤ length buf.old) }
+{
     let n = rt.arg(k, buf).ok()?;
     if n == 0 {
         return None;

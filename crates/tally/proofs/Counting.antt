@@ -10,7 +10,7 @@ use Rattle.rules.specs.declared.counts.Counts.{Counts}
 use Rattle.rules.specs.Refusals.{Answer}
 use Rattle.std.specs.declared.result.Result.TheVariants.{Ok, Err}
 use Rattle.tally.specs.declared.Tally.{Tally}
-use Rattle.tally.specs.Counts.{next_of, bumped, counts, unread_more, no_case, different_more, number_more, case_more, width_more, is_refusal, is_answer, is_counted}
+use Rattle.tally.specs.Counts.{next_of, bumped, counts, unread_more, no_case, different_more, number_more, case_more, width_more, is_refusal, is_answer, is_counted, is_counted_beside}
 
 pub unread_counted : (t : Tally) (v : ℕ) → v ≡ next_of t.unread → counts t.numbers t.widths t.different v ≡ unread_more t
 unfolding unread_more
@@ -90,6 +90,16 @@ module _ {a : Result Counts Refusal} (n k s t : ℕ) {b : Bool} where
   unfolding is_counted
   refused_other {r} e off (inl p) = rw e (other_count (Err r) 0 0 n k s t off (inl (sym p.0, λ h. p.1 (sym h))))
   refused_other {r} e off (inr h) = rw e (other_count (Err r) 0 0 n k s t off (inr (λ e. h (sym e))))
+
+-- the same of counts that stand beside an answer
+module _ (a : Answer) (c : Counts) (n k s t : ℕ) {b : Bool} where
+  pub beside_same : (c.stored ≡ s) × (c.changed ≡ t) → b ≡ is_answer a n k → b ≡ is_counted_beside a c n k s t
+  unfolding is_counted_beside
+  beside_same p h = both_counts a c.stored c.changed n k s t p h
+
+  pub beside_other : b ≡ false → ((c.stored ≡ s) × (c.changed ≡ t → ⊥)) ⊎ (c.stored ≡ s → ⊥) → b ≡ is_counted_beside a c n k s t
+  unfolding is_counted_beside
+  beside_other off h = other_count a c.stored c.changed n k s t off h
 
 pub ruleset counting =
     (rules, unread_counted, line_read, line_unread, number_counted, number_unknown, case_same, case_different, width_counted, width_unknown, refusal_other, refusal_placed)

@@ -66,3 +66,7 @@ is_answer (Err r) n k = is_refusal r n k
 -- an answer with its counts is what the stream says
 unfoldable pub is_counted : Result Counts Refusal → ℕ → ℕ → ℕ → ℕ → Bool
 is_counted a n k stored changed = both (stored_in a == stored) (both (changed_in a == changed) (is_answer (answered a) n k))
+
+-- an answer with the counts that stand beside it, a refusal's too, is what the stream says
+unfoldable pub is_counted_beside : Answer → Counts → ℕ → ℕ → ℕ → ℕ → Bool
+is_counted_beside a c n k stored changed = both (c.stored == stored) (both (c.changed == changed) (is_answer a n k))

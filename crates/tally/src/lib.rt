@@ -2,7 +2,7 @@
 #![tactic(auto)]
 
 ghost use Rattle.std.specs.Prelude.{◌≡◌, IsNone};
-ghost use Rattle.tally.specs.Counts.{next_of, no_counts, unread_more, no_case, number_more, case_more, width_more, line_more, is_refusal, is_answer, is_counted};
+ghost use Rattle.tally.specs.Counts.{next_of, no_counts, unread_more, no_case, number_more, case_more, width_more, line_more, is_refusal, is_answer, is_counted, is_counted_beside};
 
 use rules::counts::Counts;
 use rules::refusals;
@@ -158,6 +158,20 @@ pub fn same_counted(
         Ok(n) => n.stored == stored && n.changed == changed && number == 0,
         Err(r) => stored == 0 && changed == 0 && refused(r, number, place),
     }
+}
+
+// Whether an answer is this one, and so are the counts that stand beside it, a refusal's too.
+pub fn same_beside(
+    answer: Result<(), Refusal>,
+    counts: Counts,
+    number: usize,
+    place: usize,
+    stored: usize,
+    changed: usize,
+) -> bool
+    ensures { result ≡ is_counted_beside answer counts number place stored changed }
+{
+    counts.stored == stored && counts.changed == changed && same(answer, number, place)
 }
 
 // How the cases came out: of document 01's refusals each number and its count, of a ticket's where it was given.

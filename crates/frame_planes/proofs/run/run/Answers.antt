@@ -11,7 +11,7 @@ returns-then-not-kind_on c = plane_off (told_no _ _ c.kind_on.ensures c.if-not-k
 pub returns-then-plain : goal.returns-then-plain
 returns-then-plain c =
     let on = told_yes _ _ c.kind_on.ensures c.if-not-kind_on.false in
-    plane_plain on (c.requires (sym on)) (rw (c.plane_of-s.ensures, c.unwrap.ensures) at c.deblock_plane_plain.ensures)
+    plane_plain on (c.requires (sym on)) (rw (c.plane_of-s.ensures, c.unwrap-told.ensures) at c.deblock_plane_plain.ensures)
 
 pub run_plane-done-requires : goal.run_plane-done-requires
 run_plane-done-requires c =
