@@ -1,8 +1,7 @@
 // Lists after a call, one by one against the line's: the new ones of an accepted case stand after the answer, the lent ones of a refused case where they were read.
 ghost use Rattle.std.specs.Prelude.{◌≡◌, ◌≢◌, true, false};
 ghost use Rattle.text.specs.Numbers.{whole_line};
-ghost use Rattle.text.specs.Lists.{held_at};
-ghost use Rattle.cases.specs.Due.{start_of};
+ghost use Rattle.cases.specs.Due.{held_due};
 
 use crate::asked::Line;
 use text::{Answered, Entry};
@@ -47,8 +46,8 @@ impl<'a> Due<'a> {
         ensures lent { self.new.lent ≡ self.old.lent }
         ensures after { self.new.after.rest ≡ self.old.after.rest }
         ensures text { self.new.next.text.now ≡ self.old.next.text.now }
-        ensures same { result ≡ (held_at T.number_of (T.entry_of 0) T.MOST self.old.next.text.now (start_of self.old.lent self.old.next.text.now self.old.next.rest) list.now).same }
-        ensures rest { self.new.next.rest ≡ (held_at T.number_of (T.entry_of 0) T.MOST self.old.next.text.now (start_of self.old.lent self.old.next.text.now self.old.next.rest) list.now).rest }
+        ensures same { result ≡ (held_due T.number_of (T.entry_of 0) T.MOST self.old.lent self.old.next.text.now self.old.next.rest list.now).same }
+        ensures rest { self.new.next.rest ≡ (held_due T.number_of (T.entry_of 0) T.MOST self.old.lent self.old.next.text.now self.old.next.rest list.now).rest }
     {
         if self.lent {
             let _ = self.next.size();
@@ -61,8 +60,8 @@ impl<'a> Due<'a> {
     // Whether a list is the one that is due, and the line ends where it should.
     pub fn only<T: Entry>(mut self, list: &[T]) -> bool
         ensures lent { self.entry.lent ≡ true → result ≡ true → whole_line self.entry.after.rest ≡ true }
-        ensures same { result ≡ true → (held_at T.number_of (T.entry_of 0) T.MOST self.entry.next.text.now (start_of self.entry.lent self.entry.next.text.now self.entry.next.rest) list.now).same ≡ true }
-        ensures new { self.entry.lent ≡ false → result ≡ true → whole_line (held_at T.number_of (T.entry_of 0) T.MOST self.entry.next.text.now (start_of self.entry.lent self.entry.next.text.now self.entry.next.rest) list.now).rest ≡ true }
+        ensures same { result ≡ true → (held_due T.number_of (T.entry_of 0) T.MOST self.entry.lent self.entry.next.text.now self.entry.next.rest list.now).same ≡ true }
+        ensures new { self.entry.lent ≡ false → result ≡ true → whole_line (held_due T.number_of (T.entry_of 0) T.MOST self.entry.lent self.entry.next.text.now self.entry.next.rest list.now).rest ≡ true }
     {
         self.is(list) && self.ended()
     }
